@@ -1,0 +1,78 @@
+-- Laws of big-endian numbers, at any width: each of the two readings undoes the other. Assumes nothing.
+use mathlib.Core.Path.{_≡_, refl, sym, ap, _∙_}
+use mathlib.Core.List.{List, [], _∷_, _++_, append-assoc, append-nil}
+use Prim.Native.Nat.{ℕ, zero, suc, _+_, _*_, _/_, _%_, _^_, _≤_, _<_}
+use native.Mathlib.Nat.{add-zero, zero-add, add-suc, suc-add, pow-le-pow-right, lt-of-lt-of-le}
+use native.Mathlib.Numerals.{add-one}
+use native.Mathlib.Omega.{arith}
+use lib.Dec.{lit<}
+use lib.ListN.{length, getD, length-append}
+use mathlib.Core.Bool.{true}
+use borrow.Author.Tests.{le-leb}
+use Rattle.bytes_be.specs.Part.{holds, part, putAt}
+use Rattle.bytes_be.specs.Number.{fromBytesBehind, fromBytes, toBytes, numberAt}
+use Rattle.bytes_be.proofs.Parts.{length-put, part-put, part-more}
+
+-- every element is a byte
+abbrev pub Bytes : List ℕ → Type 0
+Bytes s = (i : ℕ) → getD s i 0 < 256
+
+pub length-toBytes : (width n : ℕ) → length (toBytes width n) ≡ width
+unfolding toBytes
+length-toBytes zero n = refl
+length-toBytes (suc width) n =
+    length-append (toBytes width (n / 256)) (n % 256 ∷ []) ∙ omega (arith, length-toBytes width (n / 256))
+
+behind-append : (n : ℕ) (xs ys : List ℕ) → fromBytesBehind n (xs ++ ys) ≡ fromBytesBehind (fromBytesBehind n xs) ys
+unfolding fromBytesBehind
+behind-append n [] ys = refl
+behind-append n (b ∷ xs) ys = behind-append (n * 256 + b) xs ys
+
+-- one byte more
+pub from-more : (xs : List ℕ) (b : ℕ) → fromBytes (xs ++ (b ∷ [])) ≡ fromBytes xs * 256 + b
+unfolding fromBytes fromBytesBehind
+from-more xs b = behind-append 0 xs (b ∷ [])
+
+-- the number of a number's bytes is that number
+pub from-to : (width n : ℕ) → n < 256 ^ width → fromBytes (toBytes width n) ≡ n
+unfolding toBytes fromBytes fromBytesBehind
+from-to zero n h = omega arith
+from-to (suc width) n h =
+    let high : n / 256 < 256 ^ width = omega arith in
+    from-more (toBytes width (n / 256)) (n % 256) ∙ omega (arith, from-to width (n / 256) high)
+
+to-behind : (width n : ℕ) (bytes : List ℕ) → Bytes bytes → toBytes (width + length bytes) (fromBytesBehind n bytes) ≡ toBytes width n ++ bytes
+unfolding toBytes fromBytesBehind
+to-behind width n [] h = ap (λ (k : ℕ). toBytes k n) (add-zero width) ∙ sym (append-nil (toBytes width n))
+to-behind width n (b ∷ rest) h =
+    let byte : b < 256 = h 0 in
+    let high : (n * 256 + b) / 256 ≡ n = omega arith in
+    let low : (n * 256 + b) % 256 ≡ b = omega arith in
+    ap (λ (k : ℕ). toBytes k (fromBytesBehind (n * 256 + b) rest)) (add-suc width (length rest) ∙ sym (suc-add width (length rest)))
+    ∙ to-behind (suc width) (n * 256 + b) rest (λ i. h (suc i))
+    ∙ simp (high, low, append-assoc)
+
+-- the bytes of the number that bytes say are those bytes
+pub to-from : (bytes : List ℕ) → Bytes bytes → toBytes (length bytes) (fromBytes bytes) ≡ bytes
+unfolding fromBytes toBytes
+to-from bytes h = ap (λ (k : ℕ). toBytes k (fromBytesBehind 0 bytes)) (sym (zero-add (length bytes))) ∙ to-behind 0 0 bytes h
+
+-- what was stored at a place is the number there
+pub number-put : (width : ℕ) (out : List ℕ) (at n : ℕ) → at + width ≤ length out → n < 256 ^ width → numberAt width (putAt out at (toBytes width n)) at ≡ n
+unfolding numberAt
+number-put width out at n room small =
+    let wide : length (toBytes width n) ≡ width = length-toBytes width n in
+    let bytes : part (putAt out at (toBytes width n)) at width ≡ toBytes width n = ap (part (putAt out at (toBytes width n)) at) (sym wide) ∙ part-put out at (toBytes width n) (omega arith) in
+    let inside : holds (length (putAt out at (toBytes width n))) at width ≡ true = le-leb (at + width) (length (putAt out at (toBytes width n))) (simp length-put room) in
+    simp (inside, bytes) (from-to width n small)
+
+-- a number of i bytes and a byte are a number of one byte more
+pub number-more : (s : List ℕ) (at i n : ℕ) → at + i < length s → n ≡ fromBytes (part s at i) → n * 256 + getD s (at + i) 0 ≡ fromBytes (part s at (i + 1))
+number-more s at i n inside e = sym (ap fromBytes (part-more s at i 0 inside) ∙ from-more (part s at i) (getD s (at + i) 0) ∙ ap (λ (k : ℕ). k * 256 + getD s (at + i) 0) (sym e))
+
+pub more-below : (i : ℕ) {n b : ℕ} → n < 256 ^ i → b < 256 → n * 256 + b < 256 ^ (i + 1)
+more-below i h k = rw add-one (omega arith)
+
+-- seven bytes leave room for one more in 64 bits
+pub room-for-one : {i n : ℕ} → i < 8 → n < 256 ^ i → n < 2 ^ 56
+room-for-one {i} {n} h k = lt-of-lt-of-le k (pow-le-pow-right {n = 256} (lit< tt) {i = i} {j = 7} (omega arith))

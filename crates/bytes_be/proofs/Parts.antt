@@ -1,0 +1,84 @@
+-- Laws of parts of a list, and of a list after a part of it was written. Assumes nothing.
+use mathlib.Core.Path.{_≡_, refl, sym, ap, ap₂, _∙_}
+use mathlib.Core.List.{List, [], _∷_, _++_, append-assoc}
+use mathlib.Core.Bool.{Bool, true, false}
+use Prim.Native.Nat.{ℕ, _+_, _-_, _≤_, _<_}
+use native.Mathlib.Nat.{add-zero}
+use native.Mathlib.Numerals.{add-one}
+use native.Mathlib.Omega.{arith}
+use lib.ListN.{length, getD, take, drop, length-append, length-drop}
+use lib.Seq.{take-suc, take-at, drop-at, getD-drop, length-take-le, drop-drop, take-length, paste, length-paste}
+use lib.Dec.{leb}
+use borrow.Author.Tests.{le-leb, lt-leb, leb-true, leb-false}
+use Rattle.bytes_be.specs.Part.{holds, part, putAt}
+
+-- the test for room, with no sum that could wrap
+pub holds-less : (n at size : ℕ) → size ≤ n → leb at (n - size) ≡ holds n at size
+holds-less n at size h = go (leb at (n - size)) refl
+  where
+    go : (t : Bool) → leb at (n - size) ≡ t → t ≡ holds n at size
+    go true e = sym (le-leb (at + size) n (omega (arith, leb-true at (n - size) e)))
+    go false e = sym (lt-leb (at + size) n (omega (arith, leb-false at (n - size) e)))
+
+module _ {A : Type 0} where
+  pub length-part : (xs : List A) (at size : ℕ) → at + size ≤ length xs → length (part xs at size) ≡ size
+  length-part xs at size h = length-take-le size (drop at xs) (simp length-drop (omega arith))
+
+  -- a part with one element more
+  pub part-more : (xs : List A) (at i : ℕ) (d : A) → at + i < length xs → part xs at (i + 1) ≡ part xs at i ++ (getD xs (at + i) d ∷ [])
+  part-more xs at i d h =
+      let inside : i < length (drop at xs) = simp length-drop (omega arith) in
+      ap (λ (k : ℕ). take k (drop at xs)) (add-one i) ∙ take-suc (drop at xs) i d inside ∙ ap (λ (x : A). part xs at i ++ (x ∷ [])) (getD-drop at xs i d)
+
+  -- what stands in front only moves what is behind it
+  pub drop-behind : (xs ys : List A) (n at : ℕ) → length xs ≡ n → drop (n + at) (xs ++ ys) ≡ drop at ys
+  drop-behind xs ys n at e = sym (drop-drop at n (xs ++ ys)) ∙ ap (drop at) (drop-at xs ys n e)
+
+  pub part-behind : (xs ys : List A) (n at size : ℕ) → length xs ≡ n → part (xs ++ ys) (n + at) size ≡ part ys at size
+  part-behind xs ys n at size e = ap (take size) (drop-behind xs ys n at e)
+
+  -- the list in front is a part
+  pub part-front : (xs ys : List A) (n : ℕ) → length xs ≡ n → part (xs ++ ys) 0 n ≡ xs
+  part-front xs ys n e = take-at xs ys n e
+
+  module _ (out : List A) (at : ℕ) (ys : List A) where
+    -- what is written where it fits
+    pub put-fits : at + length ys ≤ length out → putAt out at ys ≡ take at out ++ ys ++ drop (at + length ys) out
+    unfolding putAt
+    put-fits h = simp (le-leb _ _ h)
+
+    -- what does not fit is not written
+    pub put-none : length out < at + length ys → putAt out at ys ≡ out
+    unfolding putAt
+    put-none h = simp (lt-leb _ _ h)
+
+    -- a copy of the whole is a write
+    pub put-paste : at + length ys ≤ length out → paste out at ys (length ys) ≡ putAt out at ys
+    put-paste h = simp (take-length ys) (sym (put-fits h))
+
+    -- a write keeps the length
+    pub length-put : length (putAt out at ys) ≡ length out
+    length-put = go (holds (length out) at (length ys)) refl
+      where
+        go : (t : Bool) → holds (length out) at (length ys) ≡ t → length (putAt out at ys) ≡ length out
+        go true e = ap length (sym (put-paste (leb-true _ _ e))) ∙ length-paste out at ys (length ys) (leb-true _ _ e) (omega arith)
+        go false e = ap length (put-none (leb-false _ _ e))
+
+    -- what was written is read back
+    pub part-put : at + length ys ≤ length out → part (putAt out at ys) at (length ys) ≡ ys
+    part-put h =
+        let front : length (take at out) ≡ at = length-take-le at out (omega arith) in
+        simp (put-fits h, append-assoc) (ap (λ (k : ℕ). part (take at out ++ (ys ++ drop (at + length ys) out)) k (length ys)) (sym (add-zero at)) ∙ part-behind (take at out) (ys ++ drop (at + length ys) out) at 0 (length ys) front ∙ part-front ys (drop (at + length ys) out) (length ys) refl)
+
+  -- two writes, the second right behind the first, are one
+  pub put-then : (out : List A) (at : ℕ) (xs ys : List A) → at + length xs + length ys ≤ length out → putAt (putAt out at xs) (at + length xs) ys ≡ putAt out at (xs ++ ys)
+  put-then out at xs ys h =
+      let front : length (take at out ++ xs) ≡ at + length xs = length-append (take at out) xs ∙ omega (arith, length-take-le at out (omega arith)) in
+      let once : putAt out at xs ≡ take at out ++ xs ++ drop (at + length xs) out = put-fits out at xs (omega arith) in
+      let both : at + length (xs ++ ys) ≡ at + length xs + length ys = simp length-append (omega arith) in
+      put-fits (putAt out at xs) (at + length xs) ys (simp length-put (omega arith))
+      ∙ ap₂ (λ (a b : List A). a ++ ys ++ b)
+          (ap (take (at + length xs)) once ∙ take-at (take at out ++ xs) (drop (at + length xs) out) (at + length xs) front)
+          (ap (drop (at + length xs + length ys)) once ∙ drop-behind (take at out ++ xs) (drop (at + length xs) out) (at + length xs) (length ys) front ∙ drop-drop (length ys) (at + length xs) out)
+      ∙ ap₂ (λ (a : List A) (k : ℕ). a ++ drop k out) (append-assoc (take at out) xs ys) (sym both)
+      ∙ sym (put-fits out at (xs ++ ys) (omega (arith, both)))

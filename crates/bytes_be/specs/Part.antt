@@ -1,0 +1,19 @@
+-- A part of a list, and a list after a part of it was written.
+use Prim.Native.Nat.{ℕ, _+_}
+use mathlib.Core.List.{List, _++_}
+use mathlib.Core.Bool.{Bool, cond}
+use lib.ListN.{length, take, drop}
+use lib.Dec.{leb}
+
+-- whether a list of n elements holds `size` elements from place `at` on
+abbrev pub holds : ℕ → ℕ → ℕ → Bool
+holds n at size = leb (at + size) n
+
+-- the `size` elements of xs from place `at` on
+abbrev pub part : {A : Type 0} → List A → ℕ → ℕ → List A
+part xs at size = take size (drop at xs)
+
+-- out with ys written from place `at` on and nothing else changed; out itself where they do not all fit
+unfoldable pub putAt : {A : Type 0} → List A → ℕ → List A → List A
+putAt out at ys =
+    cond (holds (length out) at (length ys)) (take at out ++ ys ++ drop (at + length ys) out) out

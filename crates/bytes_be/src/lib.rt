@@ -1,0 +1,134 @@
+// Big-endian numbers at a place of a slice, and the copy that everything written to an output uses.
+ghost use mathlib.Core.Path.{_≡_};
+ghost use Prim.Native.Nat.{_≤_, _<_, _^_};
+ghost use lib.ListN.{length};
+ghost use Rattle.bytes_be.specs.Part.{putAt};
+ghost use Rattle.bytes_be.specs.Part.{holds as Part·holds};
+ghost use Rattle.bytes_be.specs.Number.{numberAt, toBytes};
+
+// Whether n bytes hold `size` bytes from place `at` on.
+pub fn holds(n: usize, at: usize, size: usize) -> bool
+    ensures { λ r. ⌜ r ≡ Part·holds n at size ⌝ }
+{
+    if n < size {
+        return false;
+    }
+    at <= n - size
+}
+
+// Copies `bytes` into `out` from place `at` on. Where they do not all fit, `out` stays as it is.
+pub fn copy_at(out: &mut [u8], at: usize, bytes: &[u8])
+    ensures { λ _. ⌜ now (out .exit) ≡ putAt (now (out .entry)) at (now (bytes .entry)) ⌝ }
+{
+    let fits = holds(out.len(), at, bytes.len());
+    if fits {
+        let mut i = 0;
+        while i < bytes.len() {
+            out[at + i] = bytes[i];
+            i += 1;
+        }
+    }
+}
+
+fn wide(byte: u8) -> u64
+    ensures { λ r. ⌜ r ≡ byte ⌝ }
+{
+    byte as u64
+}
+
+// The number that the `width` bytes at place `at` say, or 0 where they do not all lie in s.
+fn read(s: &[u8], at: usize, width: usize) -> u64
+    requires { ⌜ width ≤ 8 ⌝ }
+    ensures { λ r. ⌜ (r ≡ numberAt width (now (s .entry)) at) × (r < 256 ^ width) ⌝ }
+{
+    let fits = holds(s.len(), at, width);
+    if !fits {
+        return 0;
+    }
+    let mut n: u64 = 0;
+    let mut i = 0;
+    while i < width {
+        n = n * 256 + wide(s[at + i]);
+        i += 1;
+    }
+    n
+}
+
+pub fn read16(s: &[u8], at: usize) -> u16
+    ensures { λ r. ⌜ r ≡ numberAt 2 (now (s .entry)) at ⌝ }
+{
+    read(s, at, 2) as u16
+}
+
+pub fn read32(s: &[u8], at: usize) -> u32
+    ensures { λ r. ⌜ r ≡ numberAt 4 (now (s .entry)) at ⌝ }
+{
+    read(s, at, 4) as u32
+}
+
+pub fn read64(s: &[u8], at: usize) -> u64
+    ensures { λ r. ⌜ r ≡ numberAt 8 (now (s .entry)) at ⌝ }
+{
+    read(s, at, 8)
+}
+
+// The bytes of a number, the most significant first.
+pub fn bytes16(n: u16) -> [u8; 2]
+    ensures { λ r. ⌜ r ≡ toBytes 2 n ⌝ }
+{
+    let a = n / 256;
+    [(a % 256) as u8, (n % 256) as u8]
+}
+
+pub fn bytes32(n: u32) -> [u8; 4]
+    ensures { λ r. ⌜ r ≡ toBytes 4 n ⌝ }
+{
+    let c = n / 256;
+    let b = c / 256;
+    let a = b / 256;
+    [(a % 256) as u8, (b % 256) as u8, (c % 256) as u8, (n % 256) as u8]
+}
+
+pub fn bytes64(n: u64) -> [u8; 8]
+    ensures { λ r. ⌜ r ≡ toBytes 8 n ⌝ }
+{
+    let g = n / 256;
+    let f = g / 256;
+    let e = f / 256;
+    let d = e / 256;
+    let c = d / 256;
+    let b = c / 256;
+    let a = b / 256;
+    [
+        (a % 256) as u8,
+        (b % 256) as u8,
+        (c % 256) as u8,
+        (d % 256) as u8,
+        (e % 256) as u8,
+        (f % 256) as u8,
+        (g % 256) as u8,
+        (n % 256) as u8,
+    ]
+}
+
+// Stores the bytes of a number from place `at` on. Where they do not all fit, `out` stays as it is.
+pub fn store16(out: &mut [u8], at: usize, n: u16)
+    ensures { λ _. ⌜ now (out .exit) ≡ putAt (now (out .entry)) at (toBytes 2 n) ⌝ }
+{
+    let bytes = bytes16(n);
+    copy_at(out, at, &bytes);
+}
+
+pub fn store32(out: &mut [u8], at: usize, n: u32)
+    ensures { λ _. ⌜ now (out .exit) ≡ putAt (now (out .entry)) at (toBytes 4 n) ⌝ }
+{
+    let bytes = bytes32(n);
+    copy_at(out, at, &bytes);
+}
+
+pub fn store64(out: &mut [u8], at: usize, n: u64)
+    ensures { λ _. ⌜ now (out .exit) ≡ putAt (now (out .entry)) at (toBytes 8 n) ⌝ }
+{
+    let bytes = bytes64(n);
+    copy_at(out, at, &bytes);
+}

@@ -1,0 +1,505 @@
+/* Carries out the calls that the second program asks for on standard input, and answers on standard output what
+ * came of each.
+ *
+ * A message is a verb, a count and a length, 4 bytes each, and then as many bytes as the length says. Every number
+ * stands low byte first. Each message is answered by one with the same verb; the end of the input ends the program.
+ *
+ * VERB_CALLS asks for `count` calls. A call is the function's code (1 byte), a pattern (8 bytes) and the arguments in
+ * the order of the header: a number is 8 bytes, a lent input its length (4 bytes) and its bytes, a lent room its
+ * length (4 bytes), a lent array of numbers nothing. The answer to a call is the function's code (1 byte), the lent
+ * argument that is an input and was changed (1 byte: 1 for the first lent, 0 for none), the number returned (8 bytes,
+ * 0 where the function returns none), and each room and array of numbers with its guards.
+ *
+ * VERB_SPEED asks for times; see answer_speed. */
+#include "fbdp.h"
+#include "probe.h"
+
+#include <stddef.h>
+#include <stdint.h>
+#include <stdio.h>
+#include <stdlib.h>
+#include <string.h>
+#include <time.h>
+
+enum { VERB_CALLS = 1, VERB_SPEED = 2 };
+
+enum {
+    HEADER_BYTES = 12,
+    GUARD = 32,     /* bytes before and behind whatever is lent */
+    MOST_LENT = 8,  /* slices and arrays of numbers in one call */
+    LINE_BYTES = 64 /* the room that probe_line is given */
+};
+
+static void fail(const char *why)
+{
+    fprintf(stderr, "host: %s\n", why);
+    exit(3);
+}
+
+static void *allocate(size_t length)
+{
+    void *bytes = malloc(length);
+    if (bytes == NULL) {
+        fail("out of memory");
+    }
+    return bytes;
+}
+
+/* Numbers in messages, low byte first. */
+
+static uint64_t low_byte_first(const uint8_t *bytes, size_t width)
+{
+    uint64_t number = 0;
+    for (size_t i = 0; i < width; i++) {
+        number |= (uint64_t)bytes[i] << (8 * i);
+    }
+    return number;
+}
+
+static void store_low_byte_first(uint8_t *bytes, size_t width, uint64_t number)
+{
+    for (size_t i = 0; i < width; i++) {
+        bytes[i] = (uint8_t)(number >> (8 * i));
+    }
+}
+
+/* The request, taken from its start to its end. */
+
+struct request {
+    const uint8_t *bytes;
+    size_t left;
+};
+
+static const uint8_t *take_bytes(struct request *request, size_t length)
+{
+    if (length > request->left) {
+        fail("the request is cut short");
+    }
+    const uint8_t *bytes = request->bytes;
+    request->bytes += length;
+    request->left -= length;
+    return bytes;
+}
+
+static uint64_t take_number(struct request *request, size_t width)
+{
+    return low_byte_first(take_bytes(request, width), width);
+}
+
+/* The answer, which grows at its end. */
+
+struct answer {
+    uint8_t *bytes;
+    size_t length;
+    size_t room;
+};
+
+static uint8_t *grow(struct answer *answer, size_t length)
+{
+    if (length > answer->room - answer->length) {
+        answer->room = 2 * (answer->length + length);
+        answer->bytes = realloc(answer->bytes, answer->room);
+        if (answer->bytes == NULL) {
+            fail("out of memory");
+        }
+    }
+    uint8_t *end = answer->bytes + answer->length;
+    answer->length += length;
+    return end;
+}
+
+static void put_number(struct answer *answer, size_t width, uint64_t number)
+{
+    store_low_byte_first(grow(answer, width), width, number);
+}
+
+/* What one call lends. Each lent part has its own fresh area: a guard, the part itself, and a guard. */
+
+struct lent {
+    uint8_t *area;
+    size_t area_length;
+    uint8_t *kept; /* for an input, its area as it was before the call; for what may be written, NULL */
+};
+
+struct call {
+    struct request *request;
+    uint64_t pattern;
+    struct lent lent[MOST_LENT];
+    size_t lent_count;
+};
+
+struct input {
+    const uint8_t *bytes;
+    size_t length;
+};
+
+struct room {
+    uint8_t *bytes;
+    size_t length;
+};
+
+/* A fresh area. Its word k of 8 bytes is the pattern plus k times an odd number, so that no two words are alike. */
+static struct lent *lend(struct call *call, size_t length)
+{
+    if (call->lent_count == MOST_LENT) {
+        fail("a call lends too much");
+    }
+    struct lent *lent = &call->lent[call->lent_count++];
+    const size_t words = (GUARD + length + GUARD + 7) / 8;
+    lent->area = allocate(8 * words);
+    lent->area_length = GUARD + length + GUARD;
+    lent->kept = NULL;
+    for (size_t k = 0; k < words; k++) {
+        store_low_byte_first(lent->area + 8 * k, 8, call->pattern + k * UINT64_C(0x9E3779B97F4A7C15));
+    }
+    return lent;
+}
+
+/* An empty slice is lent as a null pointer. */
+
+static struct input lend_input(struct call *call)
+{
+    const size_t length = (size_t)take_number(call->request, 4);
+    const uint8_t *bytes = take_bytes(call->request, length);
+    struct lent *lent = lend(call, length);
+    if (length != 0) {
+        memcpy(lent->area + GUARD, bytes, length);
+    }
+    lent->kept = allocate(lent->area_length);
+    memcpy(lent->kept, lent->area, lent->area_length);
+    return (struct input){length == 0 ? NULL : lent->area + GUARD, length};
+}
+
+static struct room lend_room_of(struct call *call, size_t length)
+{
+    struct lent *lent = lend(call, length);
+    return (struct room){length == 0 ? NULL : lent->area + GUARD, length};
+}
+
+static struct room lend_room(struct call *call)
+{
+    return lend_room_of(call, (size_t)take_number(call->request, 4));
+}
+
+static uint64_t *lend_numbers(struct call *call, size_t count)
+{
+    return (uint64_t *)(void *)(lend(call, count * sizeof(uint64_t))->area + GUARD);
+}
+
+static uint64_t number(struct call *call)
+{
+    return take_number(call->request, 8);
+}
+
+/* The calls: each takes its arguments in the order of the header and gives the number returned. */
+
+static uint64_t call_frame(struct call *call)
+{
+    const struct input bundle = lend_input(call);
+    const uint32_t index = (uint32_t)number(call);
+    uint64_t *place = lend_numbers(call, FBDP_PLACE_SLOTS);
+    return fbdp_frame(bundle.bytes, bundle.length, index, place);
+}
+
+static uint64_t call_read16(struct call *call)
+{
+    const struct input bytes = lend_input(call);
+    const size_t at = (size_t)number(call);
+    return probe_read16(bytes.bytes, bytes.length, at);
+}
+
+static uint64_t call_read32(struct call *call)
+{
+    const struct input bytes = lend_input(call);
+    const size_t at = (size_t)number(call);
+    return probe_read32(bytes.bytes, bytes.length, at);
+}
+
+static uint64_t call_read64(struct call *call)
+{
+    const struct input bytes = lend_input(call);
+    const size_t at = (size_t)number(call);
+    return probe_read64(bytes.bytes, bytes.length, at);
+}
+
+static uint64_t call_store16(struct call *call)
+{
+    const struct room out = lend_room(call);
+    const size_t at = (size_t)number(call);
+    probe_store16(out.bytes, out.length, at, (uint16_t)number(call));
+    return 0;
+}
+
+static uint64_t call_store32(struct call *call)
+{
+    const struct room out = lend_room(call);
+    const size_t at = (size_t)number(call);
+    probe_store32(out.bytes, out.length, at, (uint32_t)number(call));
+    return 0;
+}
+
+static uint64_t call_store64(struct call *call)
+{
+    const struct room out = lend_room(call);
+    const size_t at = (size_t)number(call);
+    probe_store64(out.bytes, out.length, at, number(call));
+    return 0;
+}
+
+static uint64_t call_copy(struct call *call)
+{
+    const struct room out = lend_room(call);
+    const size_t at = (size_t)number(call);
+    const struct input bytes = lend_input(call);
+    probe_copy(out.bytes, out.length, at, bytes.bytes, bytes.length);
+    return 0;
+}
+
+static uint64_t call_contents(struct call *call)
+{
+    const struct input bundle = lend_input(call);
+    uint64_t *contents = lend_numbers(call, 2);
+    return probe_contents(bundle.bytes, bundle.length, contents);
+}
+
+static uint64_t call_control(struct call *call)
+{
+    const struct input frame = lend_input(call);
+    uint64_t *control = lend_numbers(call, 3);
+    return probe_control(frame.bytes, frame.length, control);
+}
+
+static uint64_t call_write_one(struct call *call)
+{
+    const struct room out = lend_room(call);
+    const uint8_t type = (uint8_t)number(call);
+    const uint8_t flags = (uint8_t)number(call);
+    const uint16_t type_data = (uint16_t)number(call);
+    return probe_write_one(out.bytes, out.length, type, flags, type_data);
+}
+
+static uint64_t call_write_two(struct call *call)
+{
+    const struct room out = lend_room(call);
+    const uint8_t type = (uint8_t)number(call);
+    const uint8_t flags = (uint8_t)number(call);
+    const uint16_t type_data = (uint16_t)number(call);
+    const struct input body = lend_input(call);
+    return probe_write_two(out.bytes, out.length, type, flags, type_data, body.bytes, body.length);
+}
+
+static uint64_t call_line(struct call *call)
+{
+    const struct input input = lend_input(call);
+    const struct room line = lend_room_of(call, LINE_BYTES);
+    return probe_line(input.bytes, input.length, line.bytes);
+}
+
+/* A function's code is its place in this table, as in the second program's own. */
+static uint64_t (*const calls[])(struct call *call) = {
+    call_frame,   call_read16, call_read32,   call_read64,  call_store16,   call_store32,   call_store64,
+    call_copy,    call_contents, call_control, call_write_one, call_write_two, call_line,
+};
+
+/* The first lent argument, counted from 1, that is an input and is no longer what it was; 0 for none. */
+static uint8_t changed_input(const struct call *call)
+{
+    for (size_t i = 0; i < call->lent_count; i++) {
+        const struct lent *lent = &call->lent[i];
+        if (lent->kept != NULL && memcmp(lent->kept, lent->area, lent->area_length) != 0) {
+            return (uint8_t)(i + 1);
+        }
+    }
+    return 0;
+}
+
+static void answer_call(struct request *request, struct answer *answer)
+{
+    const size_t code = (size_t)take_number(request, 1);
+    if (code >= sizeof calls / sizeof calls[0]) {
+        fail("a function is asked for that is not known");
+    }
+    struct call call = {.request = request, .pattern = take_number(request, 8), .lent_count = 0};
+    const uint64_t returned = calls[code](&call);
+    put_number(answer, 1, code);
+    put_number(answer, 1, changed_input(&call));
+    put_number(answer, 8, returned);
+    for (size_t i = 0; i < call.lent_count; i++) {
+        const struct lent *lent = &call.lent[i];
+        if (lent->kept == NULL) {
+            memcpy(grow(answer, lent->area_length), lent->area, lent->area_length);
+        }
+        free(lent->kept);
+        free(lent->area);
+    }
+}
+
+/* Times: each function reads a bundle of two frames, once of 100 bytes and once of 50,000,000. The answer holds, for
+ * each function and each bundle, the nanoseconds of the best round and the calls in that round, 8 bytes each. */
+
+enum { BUNDLES = 2, ROUNDS = 15 };
+
+static const size_t bundle_lengths[BUNDLES] = {100, 50000000};
+static const uint64_t shortest_round = 5000000; /* nanoseconds */
+static const uint64_t most_calls = 1u << 20;
+
+typedef uint32_t timed(const struct input *bundle);
+
+static uint32_t timed_frame(const struct input *bundle)
+{
+    uint64_t place[FBDP_PLACE_SLOTS];
+    return fbdp_frame(bundle->bytes, bundle->length, 1, place);
+}
+
+static uint32_t timed_contents(const struct input *bundle)
+{
+    uint64_t contents[2];
+    return probe_contents(bundle->bytes, bundle->length, contents);
+}
+
+static timed *const timed_functions[] = {timed_frame, timed_contents};
+
+/* A bundle of a READY(8) control frame and a body, every byte of it written. */
+static uint8_t *two_frames(size_t length)
+{
+    static const uint8_t control[8] = {0x46, 0x42, 0x44, 0x50, 0x11, 0x00, 0x00, 0x08};
+    uint8_t *bundle = allocate(length);
+    memset(bundle, 0x5A, length);
+    memset(bundle, 0, 10);
+    bundle[1] = 2;
+    bundle[5] = 8;
+    for (size_t i = 0; i < 4; i++) {
+        bundle[6 + i] = (uint8_t)((length - 18) >> (8 * (3 - i)));
+    }
+    memcpy(bundle + 10, control, sizeof control);
+    return bundle;
+}
+
+static uint64_t nanoseconds(void)
+{
+    struct timespec now;
+    if (timespec_get(&now, TIME_UTC) != TIME_UTC) {
+        fail("there is no clock");
+    }
+    return (uint64_t)now.tv_sec * 1000000000u + (uint64_t)now.tv_nsec;
+}
+
+/* The nanoseconds of so many calls. A clock that was set back meanwhile gives a time that is never the best. */
+static uint64_t time_of(timed *function, const struct input *bundle, uint64_t count)
+{
+    uint64_t refused = 0;
+    const uint64_t start = nanoseconds();
+    for (uint64_t i = 0; i < count; i++) {
+        refused += function(bundle);
+    }
+    const uint64_t end = nanoseconds();
+    if (refused != 0) {
+        fail("a timed call was refused");
+    }
+    return end > start ? end - start : UINT64_MAX;
+}
+
+static void answer_times(timed *function, const struct input bundles[BUNDLES], struct answer *answer)
+{
+    uint64_t count[BUNDLES];
+    uint64_t best[BUNDLES];
+    for (size_t i = 0; i < BUNDLES; i++) {
+        count[i] = 1;
+        while ((best[i] = time_of(function, &bundles[i], count[i])) < shortest_round && count[i] < most_calls) {
+            count[i] *= 2;
+        }
+    }
+    for (size_t round = 0; round < ROUNDS; round++) {
+        for (size_t i = 0; i < BUNDLES; i++) {
+            const uint64_t time = time_of(function, &bundles[i], count[i]);
+            best[i] = time < best[i] ? time : best[i];
+        }
+    }
+    for (size_t i = 0; i < BUNDLES; i++) {
+        put_number(answer, 8, best[i]);
+        put_number(answer, 8, count[i]);
+    }
+}
+
+static uint32_t answer_speed(struct answer *answer)
+{
+    uint8_t *bytes[BUNDLES];
+    struct input bundles[BUNDLES];
+    for (size_t i = 0; i < BUNDLES; i++) {
+        bytes[i] = two_frames(bundle_lengths[i]);
+        bundles[i] = (struct input){bytes[i], bundle_lengths[i]};
+    }
+    const uint32_t functions = sizeof timed_functions / sizeof timed_functions[0];
+    for (size_t i = 0; i < functions; i++) {
+        answer_times(timed_functions[i], bundles, answer);
+    }
+    for (size_t i = 0; i < BUNDLES; i++) {
+        free(bytes[i]);
+    }
+    return functions;
+}
+
+/* Messages. */
+
+/* How many were answered. */
+static uint32_t answer_calls(struct request request, uint32_t count, struct answer *answer)
+{
+    uint32_t answered = 0;
+    while (answered < count) {
+        answer_call(&request, answer);
+        answered++;
+    }
+    if (request.left != 0) {
+        fail("the request has bytes behind its last call");
+    }
+    return answered;
+}
+
+static void write_answer(uint32_t verb, uint32_t count, const struct answer *answer)
+{
+    if (answer->length > UINT32_MAX) {
+        fail("the answer is too long for a message");
+    }
+    uint8_t header[HEADER_BYTES];
+    store_low_byte_first(header, 4, verb);
+    store_low_byte_first(header + 4, 4, count);
+    store_low_byte_first(header + 8, 4, answer->length);
+    if (fwrite(header, 1, sizeof header, stdout) != sizeof header ||
+        fwrite(answer->bytes, 1, answer->length, stdout) != answer->length || fflush(stdout) != 0) {
+        fail("the answer cannot be written");
+    }
+}
+
+static void answer_message(const uint8_t header[HEADER_BYTES])
+{
+    const uint32_t verb = (uint32_t)low_byte_first(header, 4);
+    const uint32_t count = (uint32_t)low_byte_first(header + 4, 4);
+    const size_t length = (size_t)low_byte_first(header + 8, 4);
+    uint8_t *bytes = allocate(length + 1);
+    if (fread(bytes, 1, length, stdin) != length) {
+        fail("the message is cut short");
+    }
+    struct answer answer = {allocate(4096), 0, 4096};
+    if (verb == VERB_CALLS) {
+        write_answer(verb, answer_calls((struct request){bytes, length}, count, &answer), &answer);
+    } else if (verb == VERB_SPEED) {
+        write_answer(verb, answer_speed(&answer), &answer);
+    } else {
+        fail("the verb is not known");
+    }
+    free(answer.bytes);
+    free(bytes);
+}
+
+int main(void)
+{
+    uint8_t header[HEADER_BYTES];
+    size_t length;
+    while ((length = fread(header, 1, sizeof header, stdin)) == sizeof header) {
+        answer_message(header);
+    }
+    if (length != 0) {
+        fail("the message is cut short");
+    }
+    return 0;
+}
