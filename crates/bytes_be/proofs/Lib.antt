@@ -1,3 +1,4 @@
--- `Parts` has the laws of parts and of what a store leaves, `Numbers` those of big-endian numbers at any width.
+-- `Tests` has laws of tests, `Parts` those of parts and of what a store leaves, `Numbers` those of big-endian numbers at any width.
+pub mod Tests
 pub mod Parts
 pub mod Numbers

@@ -7,7 +7,7 @@ use native.Mathlib.Nat.{add-zero}
 use native.Mathlib.Numerals.{add-one}
 use native.Mathlib.Omega.{arith}
 use lib.ListN.{length, getD, take, drop, length-append, length-drop}
-use lib.Seq.{take-suc, take-at, drop-at, getD-drop, length-take-le, drop-drop, take-length, paste, length-paste}
+use lib.Seq.{take-append-le, drop-append-le, take-suc, take-at, drop-at, getD-drop, length-take-le, drop-drop, take-length, paste, length-paste}
 use lib.Dec.{leb}
 use borrow.Author.Tests.{le-leb, lt-leb, leb-true, leb-false}
 use Rattle.bytes_be.specs.Part.{holds, part, putAt}
@@ -36,6 +36,12 @@ module _ {A : Type 0} where
 
   pub part-behind : (xs ys : List A) (n at size : ℕ) → length xs ≡ n → part (xs ++ ys) (n + at) size ≡ part ys at size
   part-behind xs ys n at size e = ap (take size) (drop-behind xs ys n at e)
+
+  -- and what stands behind it changes nothing
+  pub part-inside : (xs ys : List A) (at size : ℕ) → at + size ≤ length xs → part (xs ++ ys) at size ≡ part xs at size
+  part-inside xs ys at size h =
+      let enough : size ≤ length (drop at xs) = simp length-drop (omega arith) in
+      ap (take size) (drop-append-le at xs ys (omega arith)) ∙ take-append-le size (drop at xs) ys enough
 
   -- the list in front is a part
   pub part-front : (xs ys : List A) (n : ℕ) → length xs ≡ n → part (xs ++ ys) 0 n ≡ xs
@@ -71,14 +77,14 @@ module _ {A : Type 0} where
         simp (put-fits h, append-assoc) (ap (λ (k : ℕ). part (take at out ++ (ys ++ drop (at + length ys) out)) k (length ys)) (sym (add-zero at)) ∙ part-behind (take at out) (ys ++ drop (at + length ys) out) at 0 (length ys) front ∙ part-front ys (drop (at + length ys) out) (length ys) refl)
 
   -- two writes, the second right behind the first, are one
-  pub put-then : (out : List A) (at : ℕ) (xs ys : List A) → at + length xs + length ys ≤ length out → putAt (putAt out at xs) (at + length xs) ys ≡ putAt out at (xs ++ ys)
-  put-then out at xs ys h =
-      let front : length (take at out ++ xs) ≡ at + length xs = length-append (take at out) xs ∙ omega (arith, length-take-le at out (omega arith)) in
-      let once : putAt out at xs ≡ take at out ++ xs ++ drop (at + length xs) out = put-fits out at xs (omega arith) in
-      let both : at + length (xs ++ ys) ≡ at + length xs + length ys = simp length-append (omega arith) in
-      put-fits (putAt out at xs) (at + length xs) ys (simp length-put (omega arith))
+  pub put-then : (out : List A) (at : ℕ) (xs ys : List A) (next : ℕ) → at + length xs ≡ next → next + length ys ≤ length out → putAt (putAt out at xs) next ys ≡ putAt out at (xs ++ ys)
+  put-then out at xs ys next e h =
+      let front : length (take at out ++ xs) ≡ next = length-append (take at out) xs ∙ omega (arith, length-take-le at out (omega arith)) in
+      let once : putAt out at xs ≡ take at out ++ xs ++ drop next out = put-fits out at xs (omega arith) ∙ ap (λ (k : ℕ). take at out ++ xs ++ drop k out) e in
+      let both : at + length (xs ++ ys) ≡ next + length ys = simp length-append (omega arith) in
+      put-fits (putAt out at xs) next ys (simp length-put h)
       ∙ ap₂ (λ (a b : List A). a ++ ys ++ b)
-          (ap (take (at + length xs)) once ∙ take-at (take at out ++ xs) (drop (at + length xs) out) (at + length xs) front)
-          (ap (drop (at + length xs + length ys)) once ∙ drop-behind (take at out ++ xs) (drop (at + length xs) out) (at + length xs) (length ys) front ∙ drop-drop (length ys) (at + length xs) out)
+          (ap (take next) once ∙ take-at (take at out ++ xs) (drop next out) next front)
+          (ap (drop (next + length ys)) once ∙ drop-behind (take at out ++ xs) (drop next out) next (length ys) front ∙ drop-drop (length ys) next out)
       ∙ ap₂ (λ (a : List A) (k : ℕ). a ++ drop k out) (append-assoc (take at out) xs ys) (sym both)
       ∙ sym (put-fits out at (xs ++ ys) (omega (arith, both)))

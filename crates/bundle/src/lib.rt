@@ -1,0 +1,106 @@
+// Bundles: the frames of a lent bundle, and the writers of a bundle of one frame and of two.
+ghost use mathlib.Core.Path.{_≡_};
+ghost use mathlib.Core.List.{[], _∷_};
+ghost use Prim.Native.Nat.{_*_, _≤_};
+ghost use Rattle.bundle.specs.Reading.{lengthOf, lengthsBefore, contentsOf, frameOf};
+ghost use Rattle.bundle.specs.Writing.{Written};
+
+pub enum Contents {
+    // How many frames a good bundle has, and the sum of their lengths.
+    Frames { count: usize, size: u64 },
+    // 10: no good bundle.
+    Bad,
+}
+
+pub enum Frame {
+    // Where the frame stands in the bundle.
+    At { place: usize, size: usize },
+    // There is no such frame: the index is behind the last one.
+    Behind,
+    // 10: no good bundle, and none of its frames is handed out.
+    Nowhere,
+}
+
+// The length of frame k.
+fn length_of(s: &[u8], k: usize) -> u32
+    requires { ⌜ k ≤ 16 ⌝ }
+    ensures { λ r. ⌜ r ≡ lengthOf (now (s .entry)) k ⌝ }
+{
+    bytes_be::read32(s, 2 + 4 * k)
+}
+
+// The sum of the lengths before that of frame k.
+fn lengths_before(s: &[u8], k: usize) -> u64
+    requires { ⌜ k ≤ 16 ⌝ }
+    ensures { λ r. ⌜ (r ≡ lengthsBefore (now (s .entry)) k) × (r ≤ k * 4294967295) ⌝ }
+{
+    let mut sum: u64 = 0;
+    let mut i = 0;
+    while i < k {
+        sum += length_of(s, i) as u64;
+        i += 1;
+    }
+    sum
+}
+
+// How many frames the bundle has and the size of its message.
+pub fn contents_of(s: &[u8]) -> Contents
+    ensures { λ r. ⌜ r ≡ contentsOf (now (s .entry)) ⌝ }
+{
+    let count = bytes_be::read16(s, 0) as usize;
+    let counted = (1 <= count) & (count <= 16);
+    if !counted {
+        return Contents::Bad;
+    }
+    let size = lengths_before(s, count);
+    let end = 2 + 4 * count as u64 + size;
+    if end != s.len() as u64 {
+        return Contents::Bad;
+    }
+    Contents::Frames { count: count, size: size }
+}
+
+// The place of the frame at `index`, counted from 0.
+pub fn frame_at(s: &[u8], index: usize) -> Frame
+    ensures { λ r. ⌜ r ≡ frameOf (now (s .entry)) index ⌝ }
+{
+    let Contents::Frames { count, size: _ } = contents_of(s) else {
+        return Frame::Nowhere;
+    };
+    if count <= index {
+        return Frame::Behind;
+    }
+    let place = 2 + 4 * count + lengths_before(s, index) as usize;
+    Frame::At { place: place, size: length_of(s, index) as usize }
+}
+
+// Writes the bundle of one frame of 8 bytes, and answers its length.
+pub fn write_one(out: &mut [u8], frame: [u8; 8]) -> usize
+    ensures { λ r. ⌜ Written (frame ∷ []) (now (out .entry)) r (now (out .exit)) ⌝ }
+{
+    if out.len() < 14 {
+        return 0;
+    }
+    bytes_be::copy_at(out, 0, &[0, 1, 0, 0, 0, 8]);
+    bytes_be::copy_at(out, 6, &frame);
+    14
+}
+
+// Writes the bundle of a frame of 8 bytes and another, and answers its length.
+pub fn write_two(out: &mut [u8], first: [u8; 8], second: &[u8]) -> usize
+    ensures { λ r. ⌜ Written (first ∷ now (second .entry) ∷ []) (now (out .entry)) r (now (out .exit)) ⌝ }
+{
+    let n = second.len();
+    if 4294967295 < n {
+        return 0;
+    }
+    let room = bytes_be::holds(out.len(), 18, n);
+    if !room {
+        return 0;
+    }
+    bytes_be::copy_at(out, 0, &[0, 2, 0, 0, 0, 8]);
+    bytes_be::store32(out, 6, n as u32);
+    bytes_be::copy_at(out, 10, &first);
+    bytes_be::copy_at(out, 18, second);
+    18 + n
+}

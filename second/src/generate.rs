@@ -1,0 +1,77 @@
+//! The calls that are compared, in sets: the exhaustive ones are made once, the generated ones again and again.
+
+mod bundles;
+mod bytes;
+mod control;
+mod indexes;
+mod lines;
+mod writers;
+
+use crate::calls::{Call, Contents, FrameAt, Line, ReadControl};
+use crate::random::Random;
+
+pub type Calls = Vec<Box<dyn Call>>;
+
+/// Calls of one kind.
+pub struct Set {
+    pub kind: &'static str,
+    pub make: fn(&mut Random) -> Calls,
+}
+
+pub const EXHAUSTIVE: &[Set] = &[
+    Set { kind: "every place to read from", make: bytes::every_read },
+    Set { kind: "every place to store at", make: bytes::every_store },
+    Set { kind: "every place to copy to", make: bytes::every_copy },
+    Set { kind: "every control byte", make: control::every_control_byte },
+    Set { kind: "every value of each signature byte", make: control::every_signature_byte },
+    Set { kind: "every length of a control frame", make: control::every_length },
+    Set { kind: "every index", make: indexes::every_index },
+    Set { kind: "every frame count", make: indexes::every_frame_count },
+    Set { kind: "every type and room for a control frame alone", make: writers::every_room_for_one },
+    Set { kind: "every room for a control frame and a body", make: writers::every_room_for_two },
+    Set { kind: "every room for a control frame and a long body", make: writers::every_room_for_long_bodies },
+    Set { kind: "inputs around the longest", make: lines::around_the_longest_input },
+];
+
+pub const GENERATED: &[Set] = &[
+    Set { kind: "valid bundles", make: bundles::valid_bundles },
+    Set { kind: "bundles with a wrong frame count", make: bundles::wrong_counts },
+    Set { kind: "bundles of too many frames", make: bundles::too_many_frames },
+    Set { kind: "bundles with a wrong length", make: bundles::wrong_lengths },
+    Set { kind: "bundles with lengths that wrap around", make: bundles::wrapping_lengths },
+    Set { kind: "bundles with a byte missing or extra", make: bundles::wrong_ends },
+    Set { kind: "control frames of another length", make: bundles::wrong_control_lengths },
+    Set { kind: "wrong signatures", make: bundles::wrong_signatures },
+    Set { kind: "every version", make: bundles::every_version },
+    Set { kind: "every type", make: bundles::every_type },
+    Set { kind: "bundles damaged at every byte", make: bundles::damaged },
+    Set { kind: "bundles cut at every byte", make: bundles::cut },
+    Set { kind: "bundles with bytes behind", make: bundles::bytes_behind },
+    Set { kind: "random bytes", make: bundles::random_bytes },
+    Set { kind: "random bytes behind a plausible count", make: bundles::plausible_count },
+    Set { kind: "random bytes behind plausible lengths", make: bundles::plausible_lengths },
+    Set { kind: "random control frames", make: control::random_frames },
+    Set { kind: "random places to read from", make: bytes::random_reads },
+    Set { kind: "random places to store at", make: bytes::random_stores },
+    Set { kind: "random places to copy to", make: bytes::random_copies },
+    Set { kind: "random messages to write", make: writers::random_writes },
+];
+
+/// Adds a call.
+fn add(calls: &mut Calls, call: impl Call + 'static) {
+    calls.push(Box::new(call));
+}
+
+/// Adds what is asked about a bundle that may be bad: some frame of it, its contents and its line.
+fn add_bundle(calls: &mut Calls, random: &mut Random, bundle: Vec<u8>) {
+    let index = random.between(0, 17) as u32;
+    add(calls, FrameAt { bundle: bundle.clone(), index });
+    add(calls, Contents { bundle: bundle.clone() });
+    add(calls, Line { input: bundle });
+}
+
+/// Adds what is asked about a bundle whose first frame matters, and the same of that frame alone.
+fn add_control(calls: &mut Calls, random: &mut Random, bundle: Vec<u8>, control: Vec<u8>) {
+    add(calls, ReadControl { frame: control });
+    add_bundle(calls, random, bundle);
+}
