@@ -297,8 +297,19 @@ static uint64_t call_line(struct call *call)
 
 /* A function's code is its place in this table, as in the second program's own. */
 static uint64_t (*const calls[])(struct call *call) = {
-    call_frame,   call_read16, call_read32,   call_read64,  call_store16,   call_store32,   call_store64,
-    call_copy,    call_contents, call_control, call_write_one, call_write_two, call_line,
+    call_frame,
+    call_read16,
+    call_read32,
+    call_read64,
+    call_store16,
+    call_store32,
+    call_store64,
+    call_copy,
+    call_contents,
+    call_control,
+    call_write_one,
+    call_write_two,
+    call_line,
 };
 
 /* The first lent argument, counted from 1, that is an input and is no longer what it was; 0 for none. */

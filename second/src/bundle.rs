@@ -22,7 +22,7 @@ pub fn frames(bundle: &[u8]) -> Option<Vec<Place>> {
         return None;
     }
     let count = bytes::number(&bundle[..2]) as usize;
-    if count < 1 || count > 16 {
+    if !(1..=16).contains(&count) {
         return None;
     }
     let bodies_at = 2 + 4 * count;
@@ -133,8 +133,9 @@ mod tests {
 
     #[test]
     fn bundles_have_1_to_16_frames_and_end_exactly() {
-        assert_eq!(contents(&of_frames(&[&[]; 16])), (0, [16, 0]));
-        assert_eq!(contents(&of_frames(&[&[]; 17])).0, 10);
+        let empty: &[u8] = &[];
+        assert_eq!(contents(&of_frames(&[empty; 16])), (0, [16, 0]));
+        assert_eq!(contents(&of_frames(&[empty; 17])).0, 10);
         assert_eq!(contents(&K2[..13]).0, 10);
         assert_eq!(contents(&[]).0, 10);
         assert_eq!(frame(&of_frames(&[&[], &[]]), 1), (0, [1, 10, 0]));

@@ -49,21 +49,21 @@ impl Batch {
         if self.expected == answers {
             return (self.asked.len(), None);
         }
-        let mut start = 0;
-        for (agreed, asked) in self.asked.iter().enumerate() {
-            let whole = start..asked.answer_end;
-            let model = &self.expected[whole.clone()];
-            let Some(library) = answers.get(whole) else {
-                return (agreed, Some(format!("no answer\n{}", report::call(asked.kind, asked.call.as_ref()))));
-            };
+        if self.expected.len() != answers.len() {
+            let (expected, got) = (self.expected.len(), answers.len());
+            return (0, Some(format!("the host's reply has {got} bytes of answers where {expected} were expected")));
+        }
+        let starts = std::iter::once(0).chain(self.asked.iter().map(|asked| asked.answer_end));
+        for (agreed, (start, asked)) in starts.zip(&self.asked).enumerate() {
+            let model = &self.expected[start..asked.answer_end];
+            let library = &answers[start..asked.answer_end];
             if model != library {
                 let call = asked.call.as_ref();
-                let answers = report::answers(call, model, library);
-                return (agreed, Some(format!("an answer differs\n{}{answers}", report::call(asked.kind, call))));
+                let (question, answers) = (report::call(asked.kind, call), report::answers(call, model, library));
+                return (agreed, Some(format!("an answer differs\n{question}{answers}")));
             }
-            start = asked.answer_end;
         }
-        (self.asked.len(), Some(format!("{} bytes behind the last answer\n", answers.len() - start)))
+        unreachable!("answers of the same length that differ do so in one of the calls")
     }
 
     /// The first call that a fresh host does not answer when it is asked alone.
@@ -188,7 +188,9 @@ impl Comparison<'_> {
                 self.run_set(set)?;
             }
         }
-        self.send()?;
+        if !self.filling.asked.is_empty() {
+            self.send()?;
+        }
         while !self.pending.is_empty() {
             self.settle()?;
         }
@@ -220,7 +222,7 @@ pub fn compare(seed: u64, calls: u64, command: &[String]) -> Result<bool, String
         }
         Err(difference) => {
             println!("second: {}", difference.trim_end());
-            println!("second: {} calls compared before this, 1 differs", tally.calls());
+            println!("second: {} calls agree before this", tally.calls());
             Ok(false)
         }
     }

@@ -30,6 +30,7 @@ pub const EXHAUSTIVE: &[Set] = &[
     Set { kind: "every type and room for a control frame alone", make: writers::every_room_for_one },
     Set { kind: "every room for a control frame and a body", make: writers::every_room_for_two },
     Set { kind: "every room for a control frame and a long body", make: writers::every_room_for_long_bodies },
+    Set { kind: "bodies with lengths around powers of two", make: writers::bodies_around_powers },
     Set { kind: "inputs around the longest", make: lines::around_the_longest_input },
 ];
 

@@ -1,2 +1,188 @@
--- Reading a bundle that was written gives back its frames. Assumes nothing.
-use mathlib.Core.Path.{_≡_, refl, sym, ap, _∙_}
+-- Reading a bundle that was written gives back its frames, whatever their number from 1 to 16. Assumes nothing.
+use mathlib.Core.Path.{_≡_, refl, sym, ap, ap₂, _∙_}
+use mathlib.Core.List.{List, [], _∷_, _++_, append-assoc, flatMap, flatten}
+use mathlib.Core.Bool.{true}
+use Prim.Native.Nat.{ℕ, zero, suc, _+_, _*_, _-_, _^_, _≤_, _<_}
+use native.Mathlib.Nat.{add-zero, zero-add, add-suc}
+use native.Mathlib.Omega.{arith}
+use lib.ListN.{length, getD, take, length-append}
+use lib.Seq.{take-length, ext-getD}
+use lib.Dec.{ltb}
+use borrow.Author.Tests.{ltb-true, le-leb, eq-eqb}
+use Rattle.bytes_be.specs.Part.{tabulate, part}
+use Rattle.bytes_be.specs.Number.{fromBytes, toBytes, numberAt}
+use Rattle.bytes_be.proofs.Tests.{both-true}
+use Rattle.bytes_be.proofs.Parts.{length-tabulate, getD-tabulate, length-part, part-then, part-behind, part-inside, part-front}
+use Rattle.bytes_be.proofs.Numbers.{Bytes, length-toBytes, from-to, bytes-there}
+use Rattle.bundle.specs.Reading.{countOf, lengthOf, lengthsBefore, placeOf, good, sizeOf, framesOf}
+use Rattle.bundle.proofs.Sums.{before-suc, good-told}
+use Rattle.bundle.specs.Writing.{lengthBytes, bundleOf, short}
+
+-- the lengths, one behind the other
+
+length-lengths : (frames : List (List ℕ)) → length (flatMap lengthBytes frames) ≡ 4 * length frames
+unfolding flatMap
+length-lengths [] = refl
+length-lengths (f ∷ rest) =
+    length-append (lengthBytes f) (flatMap lengthBytes rest) ∙ omega (arith, length-toBytes 4 (length f), length-lengths rest)
+
+part-lengths : (frames : List (List ℕ)) (k : ℕ) → k < length frames → part (flatMap lengthBytes frames) (4 * k) 4 ≡ lengthBytes (getD frames k [])
+unfolding flatMap
+part-lengths [] k h = absurd (omega arith)
+part-lengths (f ∷ rest) zero h = part-front (lengthBytes f) (flatMap lengthBytes rest) 4 (length-toBytes 4 (length f))
+part-lengths (f ∷ rest) (suc k) h =
+    let next : 4 * suc k ≡ 4 + 4 * k = omega arith in
+    ap (λ (n : ℕ). part (lengthBytes f ++ flatMap lengthBytes rest) n 4) next
+    ∙ part-behind (lengthBytes f) (flatMap lengthBytes rest) 4 (4 * k) 4 (length-toBytes 4 (length f))
+    ∙ part-lengths rest k (omega arith)
+
+-- the bodies, one behind the other
+
+bodies-more : (frames : List (List ℕ)) (k : ℕ) → k < length frames → length (flatten (take (suc k) frames)) ≡ length (flatten (take k frames)) + length (getD frames k [])
+unfolding flatten
+bodies-more [] k h = absurd (omega arith)
+bodies-more (f ∷ rest) zero h = length-append f [] ∙ omega arith
+bodies-more (f ∷ rest) (suc k) h =
+    length-append f (flatten (take (suc k) rest))
+    ∙ omega (arith, bodies-more rest k (omega arith), length-append f (flatten (take k rest)))
+
+part-bodies : (frames : List (List ℕ)) (k : ℕ) → k < length frames → part (flatten frames) (length (flatten (take k frames))) (length (getD frames k [])) ≡ getD frames k []
+unfolding flatten
+part-bodies [] k h = absurd (omega arith)
+part-bodies (f ∷ rest) zero h = part-front f (flatten rest) (length f) refl
+part-bodies (f ∷ rest) (suc k) h =
+    ap (λ (n : ℕ). part (f ++ flatten rest) n (length (getD rest k []))) (length-append f (flatten (take k rest)))
+    ∙ part-behind f (flatten rest) (length f) (length (flatten (take k rest))) (length (getD rest k [])) refl
+    ∙ part-bodies rest k (omega arith)
+
+short-at : (frames : List (List ℕ)) (k : ℕ) → short frames ≡ true → k < length frames → length (getD frames k []) < 256 ^ 4
+unfolding short
+short-at [] k all h = absurd (omega arith)
+short-at (f ∷ rest) zero all h = ltb-true (length f) (256 ^ 4) (both-true (ltb (length f) (256 ^ 4)) (short rest) all .0)
+short-at (f ∷ rest) (suc k) all h = short-at rest k (both-true (ltb (length f) (256 ^ 4)) (short rest) all .1) (omega arith)
+
+module _ (frames : List (List ℕ)) where
+  front : length (toBytes 2 (length frames) ++ flatMap lengthBytes frames) ≡ 2 + 4 * length frames
+  front = length-append (toBytes 2 (length frames)) (flatMap lengthBytes frames) ∙ omega (arith, length-toBytes 2 (length frames), length-lengths frames)
+
+  pub length-bundle : length (bundleOf frames) ≡ 2 + 4 * length frames + length (flatten frames)
+  unfolding bundleOf
+  length-bundle = length-append (toBytes 2 (length frames) ++ flatMap lengthBytes frames) (flatten frames) ∙ omega (arith, front)
+
+  -- a number that is a part of the bundle is the number there
+  number-there : (width at n : ℕ) → at + width ≤ length (bundleOf frames) → n < 256 ^ width → part (bundleOf frames) at width ≡ toBytes width n → numberAt width (bundleOf frames) at ≡ n
+  unfolding numberAt
+  number-there width at n inside small same = simp (le-leb (at + width) (length (bundleOf frames)) inside, same) (from-to width n small)
+
+  module _ (few : length frames ≤ 16) (all : short frames ≡ true) where
+    pub count-back : countOf (bundleOf frames) ≡ length frames
+    unfolding countOf bundleOf
+    count-back =
+        number-there 2 0 (length frames) (omega (arith, length-bundle)) (omega arith)
+        (ap (λ (l : List ℕ). part l 0 2) (append-assoc (toBytes 2 (length frames)) (flatMap lengthBytes frames) (flatten frames)) ∙ part-front (toBytes 2 (length frames)) (flatMap lengthBytes frames ++ flatten frames) 2 (length-toBytes 2 (length frames)))
+
+    pub length-back : (k : ℕ) → k < length frames → lengthOf (bundleOf frames) k ≡ length (getD frames k [])
+    unfolding lengthOf bundleOf
+    length-back k h =
+        number-there 4 (2 + 4 * k) (length (getD frames k [])) (omega (arith, length-bundle)) (short-at frames k all h)
+        (ap (λ (l : List ℕ). part l (2 + 4 * k) 4) (append-assoc (toBytes 2 (length frames)) (flatMap lengthBytes frames) (flatten frames))
+        ∙ part-behind (toBytes 2 (length frames)) (flatMap lengthBytes frames ++ flatten frames) 2 (4 * k) 4 (length-toBytes 2 (length frames))
+        ∙ part-inside (flatMap lengthBytes frames) (flatten frames) (4 * k) 4 (omega (arith, length-lengths frames))
+        ∙ part-lengths frames k h)
+
+    pub before-back : (k : ℕ) → k ≤ length frames → lengthsBefore (bundleOf frames) k ≡ length (flatten (take k frames))
+    unfolding lengthsBefore flatten
+    before-back zero h = refl
+    before-back (suc k) h = omega (arith, before-back k (omega arith), length-back k h, bodies-more frames k h)
+
+    place-back : (k : ℕ) → k ≤ length frames → placeOf (bundleOf frames) k ≡ 2 + 4 * length frames + length (flatten (take k frames))
+    unfolding placeOf
+    place-back k h = omega (arith, count-back, before-back k h)
+
+    -- what was written is a good bundle
+    pub good-back : 1 ≤ length frames → good (bundleOf frames) ≡ true
+    unfolding good
+    good-back some =
+        let ends : placeOf (bundleOf frames) (length frames) ≡ length (bundleOf frames) = place-back (length frames) (omega arith) ∙ ap (λ (l : List (List ℕ)). 2 + 4 * length frames + length (flatten l)) (take-length frames) ∙ sym length-bundle in
+        simp (count-back, le-leb 1 (length frames) some, le-leb (length frames) 16 few, eq-eqb (placeOf (bundleOf frames) (length frames)) (length (bundleOf frames)) ends)
+
+    -- and its size is that of its frames
+    pub size-back : sizeOf (bundleOf frames) ≡ length (flatten frames)
+    unfolding sizeOf
+    size-back = ap (lengthsBefore (bundleOf frames)) count-back ∙ before-back (length frames) (omega arith) ∙ ap (λ (l : List (List ℕ)). length (flatten l)) (take-length frames)
+
+    frame-back : (k : ℕ) → k < length frames → part (bundleOf frames) (placeOf (bundleOf frames) k) (lengthOf (bundleOf frames) k) ≡ getD frames k []
+    unfolding bundleOf
+    frame-back k h =
+        simp (place-back k (omega arith), length-back k h)
+        (part-behind (toBytes 2 (length frames) ++ flatMap lengthBytes frames) (flatten frames) (2 + 4 * length frames) (length (flatten (take k frames))) (length (getD frames k [])) front ∙ part-bodies frames k h)
+
+    -- its frames are those that were written
+    pub frames-back : framesOf (bundleOf frames) ≡ frames
+    unfolding framesOf
+    frames-back =
+        let f : ℕ → List ℕ = λ k. part (bundleOf frames) (placeOf (bundleOf frames) k) (lengthOf (bundleOf frames) k) in
+        let long : length (tabulate 0 (countOf (bundleOf frames)) f) ≡ length frames = length-tabulate f 0 (countOf (bundleOf frames)) ∙ count-back in
+        ext-getD [] _ frames long
+        (λ k h. getD-tabulate f 0 (countOf (bundleOf frames)) k [] (omega (arith, count-back)) ∙ ap f (zero-add k) ∙ frame-back k (omega arith))
+
+-- The other way: a good bundle is the bundle of its frames, so that each good bundle is written in one way alone.
+
+module _ (s : List ℕ) where
+  before-grows : (i k : ℕ) → lengthsBefore s i ≤ lengthsBefore s (i + k)
+  before-grows i zero = rw add-zero (omega arith)
+  before-grows i (suc k) = rw add-suc (omega (arith, before-grows i k, before-suc s (i + k)))
+
+  abbrev frame-of : ℕ → List ℕ
+  frame-of k = part s (placeOf s k) (lengthOf s k)
+
+  module _ (bytes : Bytes s) (g : good s ≡ true) where
+    -- the lengths lie in the contents, and the bodies behind them
+    contents-inside : (k : ℕ) → k < countOf s → 2 + 4 * k + 4 ≤ length s
+    unfolding placeOf
+    contents-inside k h = omega (arith, good-told s g .ends)
+
+    body-inside : (k : ℕ) → k < countOf s → placeOf s k + lengthOf s k ≤ length s
+    unfolding placeOf
+    body-inside k h =
+        let end : suc k + (countOf s - suc k) ≡ countOf s = omega arith in
+        omega (arith, good-told s g .ends, before-suc s k, rw end at (before-grows (suc k) (countOf s - suc k)))
+
+    lengths-there : (i k : ℕ) → i + k ≤ countOf s → flatMap lengthBytes (tabulate i k frame-of) ≡ part s (2 + 4 * i) (4 * k)
+    unfolding flatMap lengthOf
+    lengths-there i zero h = refl
+    lengths-there i (suc k) h =
+        let long : length (frame-of i) ≡ lengthOf s i = length-part s (placeOf s i) (lengthOf s i) (body-inside i (omega arith)) in
+        let all : 4 + 4 * k ≡ 4 * suc k = omega arith in
+        ap₂ (λ (a b : List ℕ). a ++ b) (ap (toBytes 4) long ∙ bytes-there 4 s (2 + 4 * i) bytes (contents-inside i (omega arith))) (lengths-there (suc i) k (omega arith))
+        ∙ part-then s (2 + 4 * i) 4 (4 * k) (2 + 4 * suc i) (omega arith)
+        ∙ ap (part s (2 + 4 * i)) all
+
+    bodies-there : (i k size : ℕ) → i + k ≤ countOf s → lengthsBefore s i + size ≡ lengthsBefore s (i + k) → flatten (tabulate i k frame-of) ≡ part s (placeOf s i) size
+    unfolding flatten placeOf
+    bodies-there i zero size h e =
+        let none : size ≡ 0 = omega (arith, rw add-zero at e) in
+        simp none
+    bodies-there i (suc k) size h e =
+        let next : i + suc k ≡ suc i + k = omega arith in
+        let rest : lengthsBefore s (suc i) + (size - lengthOf s i) ≡ lengthsBefore s (suc i + k) = omega (arith, rw next at e, before-suc s i, before-grows (suc i) k) in
+        let all : lengthOf s i + (size - lengthOf s i) ≡ size = omega (arith, rw next at e, before-suc s i, before-grows (suc i) k) in
+        ap (λ (b : List ℕ). frame-of i ++ b) (bodies-there (suc i) k (size - lengthOf s i) (omega arith) rest)
+        ∙ part-then s (placeOf s i) (lengthOf s i) (size - lengthOf s i) (placeOf s (suc i)) (omega (arith, before-suc s i))
+        ∙ ap (part s (placeOf s i)) all
+
+    -- what is read, written again, is the same bundle
+    pub bundle-back : bundleOf (framesOf s) ≡ s
+    unfolding bundleOf framesOf countOf placeOf lengthsBefore
+    bundle-back =
+        let size : ℕ = lengthsBefore s (countOf s) in
+        let count : toBytes 2 (length (tabulate 0 (countOf s) frame-of)) ≡ part s 0 2 = ap (toBytes 2) (length-tabulate frame-of 0 (countOf s)) ∙ bytes-there 2 s 0 bytes (omega (arith, good-told s g .ends)) in
+        let place : placeOf s 0 ≡ 2 + 4 * countOf s = omega arith in
+        let bodies : flatten (tabulate 0 (countOf s) frame-of) ≡ part s (2 + 4 * countOf s) size =
+              bodies-there 0 (countOf s) size (omega arith) (zero-add size ∙ ap (lengthsBefore s) (sym (zero-add (countOf s)))) ∙ ap (λ (k : ℕ). part s k size) place in
+        let end : 2 + 4 * countOf s + size ≡ length s = good-told s g .ends in
+        simp (count, lengths-there 0 (countOf s) (omega arith), bodies)
+        (ap (λ (l : List ℕ). l ++ part s (2 + 4 * countOf s) size) (part-then s 0 2 (4 * countOf s) 2 refl)
+        ∙ part-then s 0 (2 + 4 * countOf s) size (2 + 4 * countOf s) (omega arith)
+        ∙ ap (part s 0) end
+        ∙ take-length s)

@@ -2,7 +2,7 @@
 use mathlib.Core.Path.{_≡_, refl, sym, ap, _∙_}
 use mathlib.Core.List.{List}
 use mathlib.Core.Bool.{Bool, true, false, _&&_, cond}
-use Prim.Native.Nat.{ℕ, _+_, _≤_}
+use Prim.Native.Nat.{ℕ, suc, _+_, _≤_}
 use native.Mathlib.Numerals.{add-one}
 use native.Mathlib.Omega.{arith}
 use lib.Dec.{leb, eqb}
@@ -13,9 +13,12 @@ use Rattle.bundle.specs.Reading.{countOf, lengthOf, lengthsBefore, place
 use Rattle.bundle.specs.declared.Contents.{Contents}
 use Rattle.bundle.specs.declared.Contents.the-variants.{Frames, Bad}
 
-pub before-more : (s : List ℕ) (k : ℕ) → lengthsBefore s (k + 1) ≡ lengthsBefore s k + lengthOf s k
+pub before-suc : (s : List ℕ) (k : ℕ) → lengthsBefore s (suc k) ≡ lengthsBefore s k + lengthOf s k
 unfolding lengthsBefore
-before-more s k = rw add-one
+before-suc s k = refl
+
+pub before-more : (s : List ℕ) (k : ℕ) → lengthsBefore s (k + 1) ≡ lengthsBefore s k + lengthOf s k
+before-more s k = rw add-one (before-suc s k)
 
 -- what is known of a good bundle
 pub record Good (s : List ℕ) (count : ℕ) : Type 0 where

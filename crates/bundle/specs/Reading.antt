@@ -5,6 +5,7 @@ use mathlib.Core.List.{List}
 use mathlib.Core.Bool.{Bool, _&&_, cond}
 use lib.ListN.{length}
 use lib.Dec.{leb, ltb, eqb}
+use Rattle.bytes_be.specs.Part.{tabulate, part}
 use Rattle.bytes_be.specs.Number.{numberAt}
 use Rattle.bundle.specs.declared.Contents.{Contents}
 use Rattle.bundle.specs.declared.Contents.the-variants.{Frames, Bad}
@@ -44,6 +45,10 @@ contentsOf s = cond (good s) (Frames (countOf s) (sizeOf s)) Bad
 -- it answers that there is none."
 unfoldable pub frameOf : List ℕ → ℕ → Frame
 frameOf s k = cond (good s) (cond (ltb k (countOf s)) (At (placeOf s k) (lengthOf s k)) Behind) Nowhere
+
+-- all of its frames, as they are handed out
+unfoldable pub framesOf : List ℕ → List (List ℕ)
+framesOf s = tabulate 0 (countOf s) (λ k. part s (placeOf s k) (lengthOf s k))
 
 -- the number of each answer
 abbrev pub contentsNumber : Contents → ℕ

@@ -5,13 +5,14 @@ use Prim.Native.Nat.{ℕ, zero, suc, _+_, _*_, _/_, _%_, _^_, _≤_, _<_}
 use native.Mathlib.Nat.{add-zero, zero-add, add-suc, suc-add, pow-le-pow-right, lt-of-lt-of-le}
 use native.Mathlib.Numerals.{add-one}
 use native.Mathlib.Omega.{arith}
-use lib.Dec.{lit<}
-use lib.ListN.{length, getD, length-append}
-use mathlib.Core.Bool.{true}
-use borrow.Author.Tests.{le-leb}
+use lib.Dec.{lit<, ltb}
+use lib.ListN.{length, getD, drop, length-append, length-take, List·getD-eq-default}
+use lib.Seq.{getD-take, getD-drop}
+use mathlib.Core.Bool.{Bool, true, false}
+use borrow.Author.Tests.{le-leb, ltb-true, ltb-false}
 use Rattle.bytes_be.specs.Part.{holds, part, putAt}
 use Rattle.bytes_be.specs.Number.{fromBytesBehind, fromBytes, toBytes, numberAt}
-use Rattle.bytes_be.proofs.Parts.{length-put, part-put, part-more}
+use Rattle.bytes_be.proofs.Parts.{length-part, length-put, part-put, part-more}
 
 -- every element is a byte
 abbrev pub Bytes : List ℕ → Type 0
@@ -65,6 +66,21 @@ number-put width out at n room small =
     let bytes : part (putAt out at (toBytes width n)) at width ≡ toBytes width n = ap (part (putAt out at (toBytes width n)) at) (sym wide) ∙ part-put out at (toBytes width n) (omega arith) in
     let inside : holds (length (putAt out at (toBytes width n))) at width ≡ true = le-leb (at + width) (length (putAt out at (toBytes width n))) (simp length-put room) in
     simp (inside, bytes) (from-to width n small)
+
+-- the elements of a part are bytes too
+pub bytes-part : (s : List ℕ) (at size : ℕ) → Bytes s → Bytes (part s at size)
+bytes-part s at size h i = go (ltb i size) refl
+  where
+    go : (t : Bool) → ltb i size ≡ t → getD (part s at size) i 0 < 256
+    go true e = rw (getD-take size (drop at s) i 0 (ltb-true i size e), getD-drop at s i 0) (h (at + i))
+    go false e = rw (List·getD-eq-default (part s at size) 0 {n = i} (simp length-take (omega (arith, ltb-false i size e)))) (lit< tt)
+
+-- the bytes of the number at a place are those that stand there
+pub bytes-there : (width : ℕ) (s : List ℕ) (at : ℕ) → Bytes s → at + width ≤ length s → toBytes width (numberAt width s at) ≡ part s at width
+unfolding numberAt
+bytes-there width s at h inside =
+    simp (le-leb (at + width) (length s) inside)
+    (ap (λ (w : ℕ). toBytes w (fromBytes (part s at width))) (sym (length-part s at width inside)) ∙ to-from (part s at width) (bytes-part s at width h))
 
 -- a number of i bytes and a byte are a number of one byte more
 pub number-more : (s : List ℕ) (at i n : ℕ) → at + i < length s → n ≡ fromBytes (part s at i) → n * 256 + getD s (at + i) 0 ≡ fromBytes (part s at (i + 1))

@@ -2,15 +2,15 @@
 use mathlib.Core.Path.{_≡_, refl, sym, ap, ap₂, _∙_}
 use mathlib.Core.List.{List, [], _∷_, _++_, append-assoc}
 use mathlib.Core.Bool.{Bool, true, false}
-use Prim.Native.Nat.{ℕ, _+_, _-_, _≤_, _<_}
+use Prim.Native.Nat.{ℕ, zero, suc, _+_, _-_, _≤_, _<_}
 use native.Mathlib.Nat.{add-zero}
 use native.Mathlib.Numerals.{add-one}
 use native.Mathlib.Omega.{arith}
 use lib.ListN.{length, getD, take, drop, length-append, length-drop}
-use lib.Seq.{take-append-le, drop-append-le, take-suc, take-at, drop-at, getD-drop, length-take-le, drop-drop, take-length, paste, length-paste}
+use lib.Seq.{take-add, take-append-le, drop-append-le, take-suc, take-at, drop-at, getD-drop, length-take-le, drop-drop, take-length, paste, length-paste}
 use lib.Dec.{leb}
 use borrow.Author.Tests.{le-leb, lt-leb, leb-true, leb-false}
-use Rattle.bytes_be.specs.Part.{holds, part, putAt}
+use Rattle.bytes_be.specs.Part.{tabulate, holds, part, putAt}
 
 -- the test for room, with no sum that could wrap
 pub holds-less : (n at size : ℕ) → size ≤ n → leb at (n - size) ≡ holds n at size
@@ -19,6 +19,16 @@ holds-less n at size h = go (leb at (n - size)) refl
     go : (t : Bool) → leb at (n - size) ≡ t → t ≡ holds n at size
     go true e = sym (le-leb (at + size) n (omega (arith, leb-true at (n - size) e)))
     go false e = sym (lt-leb (at + size) n (omega (arith, leb-false at (n - size) e)))
+
+module _ {A : Type 0} (f : ℕ → A) where
+  pub length-tabulate : (first count : ℕ) → length (tabulate first count f) ≡ count
+  length-tabulate first zero = refl
+  length-tabulate first (suc count) = ap suc (length-tabulate (suc first) count)
+
+  pub getD-tabulate : (first count i : ℕ) (d : A) → i < count → getD (tabulate first count f) i d ≡ f (first + i)
+  getD-tabulate first zero i d h = absurd (omega arith)
+  getD-tabulate first (suc count) zero d h = ap f (sym (add-zero first))
+  getD-tabulate first (suc count) (suc i) d h = getD-tabulate (suc first) count i d (omega arith) ∙ ap f (omega arith)
 
 module _ {A : Type 0} where
   pub length-part : (xs : List A) (at size : ℕ) → at + size ≤ length xs → length (part xs at size) ≡ size
@@ -29,6 +39,11 @@ module _ {A : Type 0} where
   part-more xs at i d h =
       let inside : i < length (drop at xs) = simp length-drop (omega arith) in
       ap (λ (k : ℕ). take k (drop at xs)) (add-one i) ∙ take-suc (drop at xs) i d inside ∙ ap (λ (x : A). part xs at i ++ (x ∷ [])) (getD-drop at xs i d)
+
+  -- two parts, the second right behind the first, are one
+  pub part-then : (xs : List A) (at size more next : ℕ) → at + size ≡ next → part xs at size ++ part xs next more ≡ part xs at (size + more)
+  part-then xs at size more next e =
+      ap (λ (rest : List A). part xs at size ++ take more rest) (ap (λ (k : ℕ). drop k xs) (sym e) ∙ sym (drop-drop size at xs)) ∙ sym (take-add size more (drop at xs))
 
   -- what stands in front only moves what is behind it
   pub drop-behind : (xs ys : List A) (n at : ℕ) → length xs ≡ n → drop (n + at) (xs ++ ys) ≡ drop at ys

@@ -1,9 +1,14 @@
--- A part of a list, and a list after a part of it was written.
-use Prim.Native.Nat.{ℕ, _+_}
-use mathlib.Core.List.{List, _++_}
+-- A list by its places, a part of a list, and a list after a part of it was written.
+use Prim.Native.Nat.{ℕ, zero, suc, _+_}
+use mathlib.Core.List.{List, [], _∷_, _++_}
 use mathlib.Core.Bool.{Bool, cond}
 use lib.ListN.{length, take, drop}
 use lib.Dec.{leb}
+
+-- the values of f at `count` numbers, from `first` on
+abbrev pub tabulate : {A : Type 0} → ℕ → ℕ → (ℕ → A) → List A
+tabulate first zero f = []
+tabulate first (suc count) f = f first ∷ tabulate (suc first) count f
 
 -- whether a list of n elements holds `size` elements from place `at` on
 abbrev pub holds : ℕ → ℕ → ℕ → Bool

@@ -138,23 +138,26 @@ pub fn wrong_lengths(random: &mut Random) -> Calls {
 pub fn wrapping_lengths(random: &mut Random) -> Calls {
     let mut calls = Calls::new();
     for _ in 0..60 {
-        let count = random.between(2, 16);
-        let mut parts = frames(random, count);
-        let first = random.between(0, count - 1);
-        let second = (first + random.between(1, count - 1)) % count;
-        let right = u64::from(parts.lengths[first]) + u64::from(parts.lengths[second]);
-        let modulus: u64 = random.choose(&[1 << 32, 1 << 32, 1 << 32, 1 << 31, 1 << 16]);
-        let length = if modulus == 1 << 32 {
-            right + 1 + random.number() % (modulus - right - 1)
-        } else {
-            random.number() % (modulus + right)
-        };
-        parts.lengths[first] = length as u32;
-        parts.lengths[second] = (modulus + right - length) as u32;
-        add_bundle(&mut calls, random, parts.bytes());
-        add_bundle(&mut calls, random, wrapping_often(random).bytes());
+        let once = wrapping_once(random).bytes();
+        add_bundle(&mut calls, random, once);
+        let often = wrapping_often(random).bytes();
+        add_bundle(&mut calls, random, often);
     }
     calls
+}
+
+/// Two lengths are wrong, and their sum is the right one plus 2^32, now and then plus 2^31 or 2^16.
+fn wrapping_once(random: &mut Random) -> Parts {
+    let count = random.between(2, 16);
+    let mut parts = frames(random, count);
+    let first = random.between(0, count - 1);
+    let second = (first + random.between(1, count - 1)) % count;
+    let right = u64::from(parts.lengths[first]) + u64::from(parts.lengths[second]);
+    let excess: u64 = random.choose(&[1 << 32, 1 << 32, 1 << 32, 1 << 31, 1 << 16]);
+    let length = right + 1 + random.number() % (excess - right - 1);
+    parts.lengths[first] = length as u32;
+    parts.lengths[second] = (excess + right - length) as u32;
+    parts
 }
 
 /// All lengths are wrong, and their sum is the right one modulo 2^32.

@@ -1,7 +1,8 @@
 //! Control frames, good and bad.
 
+use super::bundles::Parts;
 use super::{add, Calls};
-use crate::calls::ReadControl;
+use crate::calls::{Line, ReadControl};
 use crate::control::{SIGNATURE, VERSION};
 use crate::random::Random;
 
@@ -37,7 +38,9 @@ pub fn every_control_byte(random: &mut Random) -> Calls {
     let mut calls = Calls::new();
     for control_byte in 0..=255 {
         for flags in [0, 1, 2, 3, 4, 8, 16, 32, 64, 128, 255] {
-            add(&mut calls, ReadControl { frame: frame(SIGNATURE, control_byte, flags, type_data(random)) });
+            let frame = frame(SIGNATURE, control_byte, flags, type_data(random));
+            add(&mut calls, Line { input: Parts::of_frames(vec![frame.clone()]).bytes() });
+            add(&mut calls, ReadControl { frame });
         }
     }
     calls

@@ -27,7 +27,8 @@ fn first_frames(random: &mut Random) -> Vec<Vec<u8>> {
 
 pub fn around_the_longest_input(random: &mut Random) -> Calls {
     let mut calls = Calls::new();
-    for length in [MOST_INPUT - 1, MOST_INPUT, MOST_INPUT + 1, 2 * MOST_INPUT - 1, 2 * MOST_INPUT, 2 * MOST_INPUT + 14] {
+    for length in [MOST_INPUT - 1, MOST_INPUT, MOST_INPUT + 1, 2 * MOST_INPUT - 1, 2 * MOST_INPUT, 2 * MOST_INPUT + 14]
+    {
         for count in [2, 16] {
             for first in first_frames(random) {
                 add_bundle(&mut calls, random, bundle_of_length(first, count, length).bytes());

@@ -39,18 +39,25 @@ pub fn every_room_for_two(random: &mut Random) -> Calls {
 
 pub fn every_room_for_long_bodies(random: &mut Random) -> Calls {
     let mut calls = Calls::new();
-    for length in [255, 256, 257, 1000, 4096] {
+    for length in [256, 1000, 3000] {
         let body = random.bytes(length);
-        let near = TWO + length - 40..=TWO + length + 40;
-        for room in (0..TWO + length).step_by(97).chain(near) {
+        for room in 0..=TWO + length + 20 {
             let message_type = random.between(1, 5) as u8;
             add(&mut calls, Write { room, control: control_of_type(random, message_type), body: Some(body.clone()) });
         }
     }
-    for length in [65_535, 65_536, 65_537] {
-        let body = random.bytes(length);
-        for room in TWO + length - 2..=TWO + length + 2 {
-            add(&mut calls, Write { room, control: control_of_type(random, 4), body: Some(body.clone()) });
+    calls
+}
+
+/// Bodies whose lengths are around powers of two, and the rooms around what each needs.
+pub fn bodies_around_powers(random: &mut Random) -> Calls {
+    let mut calls = Calls::new();
+    for power in [8, 12, 15, 16, 17] {
+        for length in (1 << power) - 1..=(1 << power) + 1 {
+            let body = random.bytes(length);
+            for room in TWO + length - 3..=TWO + length + 3 {
+                add(&mut calls, Write { room, control: control_of_type(random, 4), body: Some(body.clone()) });
+            }
         }
     }
     calls
