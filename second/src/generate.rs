@@ -71,7 +71,7 @@ fn add_bundle(calls: &mut Calls, random: &mut Random, bundle: Vec<u8>) {
     add(calls, Line { input: bundle });
 }
 
-/// Adds what is asked about a bundle whose first frame matters, and the same of that frame alone.
+/// Adds what is asked about a bundle whose first frame matters, and about that frame alone.
 fn add_control(calls: &mut Calls, random: &mut Random, bundle: Vec<u8>, control: Vec<u8>) {
     add(calls, ReadControl { frame: control });
     add_bundle(calls, random, bundle);

@@ -2,14 +2,14 @@
 use mathlib.Core.Path.{_≡_, refl, sym, ap, _∙_}
 use mathlib.Core.List.{List, [], _∷_, _++_, append-assoc, append-nil}
 use Prim.Native.Nat.{ℕ, zero, suc, _+_, _*_, _/_, _%_, _^_, _≤_, _<_}
-use native.Mathlib.Nat.{add-zero, zero-add, add-suc, suc-add, pow-le-pow-right, lt-of-lt-of-le}
+use native.Mathlib.Nat.{add-zero, zero-add, add-suc, suc-add, one-le-pow, pow-le-pow-right, lt-of-lt-of-le}
 use native.Mathlib.Numerals.{add-one}
 use native.Mathlib.Omega.{arith}
 use lib.Dec.{lit<, ltb}
 use lib.ListN.{length, getD, drop, length-append, length-take, List·getD-eq-default}
 use lib.Seq.{getD-take, getD-drop}
-use mathlib.Core.Bool.{Bool, true, false}
-use borrow.Author.Tests.{le-leb, ltb-true, ltb-false}
+use mathlib.Core.Bool.{Bool, true, false, cond}
+use borrow.Author.Tests.{le-leb, leb-true, ltb-true, ltb-false}
 use Rattle.bytes_be.specs.Part.{holds, part, putAt}
 use Rattle.bytes_be.specs.Number.{fromBytesBehind, fromBytes, toBytes, numberAt}
 use Rattle.bytes_be.proofs.Parts.{length-part, length-put, part-put, part-more}
@@ -67,6 +67,22 @@ number-put width out at n room small =
     let inside : holds (length (putAt out at (toBytes width n))) at width ≡ true = le-leb (at + width) (length (putAt out at (toBytes width n))) (simp length-put room) in
     simp (inside, bytes) (from-to width n small)
 
+-- a number that bytes say is as small as their count allows
+
+pub more-below : (i : ℕ) {n b : ℕ} → n < 256 ^ i → b < 256 → n * 256 + b < 256 ^ (i + 1)
+more-below i h k = rw add-one (omega arith)
+
+below-behind : (k n : ℕ) (bytes : List ℕ) → n < 256 ^ k → Bytes bytes → fromBytesBehind n bytes < 256 ^ (k + length bytes)
+unfolding fromBytesBehind
+below-behind k n [] small h = rw add-zero small
+below-behind k n (b ∷ rest) small h =
+    let next : k + 1 + length rest ≡ k + suc (length rest) = omega arith in
+    rw (← next) (below-behind (k + 1) (n * 256 + b) rest (more-below k small (h 0)) (λ i. h (suc i)))
+
+pub from-below : (bytes : List ℕ) → Bytes bytes → fromBytes bytes < 256 ^ length bytes
+unfolding fromBytes
+from-below bytes h = rw zero-add at (below-behind 0 0 bytes (lit< tt) h)
+
 -- the elements of a part are bytes too
 pub bytes-part : (s : List ℕ) (at size : ℕ) → Bytes s → Bytes (part s at size)
 bytes-part s at size h i = go (ltb i size) refl
@@ -74,6 +90,14 @@ bytes-part s at size h i = go (ltb i size) refl
     go : (t : Bool) → ltb i size ≡ t → getD (part s at size) i 0 < 256
     go true e = rw (getD-take size (drop at s) i 0 (ltb-true i size e), getD-drop at s i 0) (h (at + i))
     go false e = rw (List·getD-eq-default (part s at size) 0 {n = i} (simp length-take (omega (arith, ltb-false i size e)))) (lit< tt)
+
+pub number-below : (width : ℕ) (s : List ℕ) (at : ℕ) → Bytes s → numberAt width s at < 256 ^ width
+unfolding numberAt
+number-below width s at h = go (holds (length s) at width) refl
+  where
+    go : (t : Bool) → holds (length s) at width ≡ t → cond t (fromBytes (part s at width)) 0 < 256 ^ width
+    go true e = rw (length-part s at width (leb-true (at + width) (length s) e)) at (from-below (part s at width) (bytes-part s at width h))
+    go false e = one-le-pow width 256 (lit< tt)
 
 -- the bytes of the number at a place are those that stand there
 pub bytes-there : (width : ℕ) (s : List ℕ) (at : ℕ) → Bytes s → at + width ≤ length s → toBytes width (numberAt width s at) ≡ part s at width
@@ -85,9 +109,6 @@ bytes-there width s at h inside =
 -- a number of i bytes and a byte are a number of one byte more
 pub number-more : (s : List ℕ) (at i n : ℕ) → at + i < length s → n ≡ fromBytes (part s at i) → n * 256 + getD s (at + i) 0 ≡ fromBytes (part s at (i + 1))
 number-more s at i n inside e = sym (ap fromBytes (part-more s at i 0 inside) ∙ from-more (part s at i) (getD s (at + i) 0) ∙ ap (λ (k : ℕ). k * 256 + getD s (at + i) 0) (sym e))
-
-pub more-below : (i : ℕ) {n b : ℕ} → n < 256 ^ i → b < 256 → n * 256 + b < 256 ^ (i + 1)
-more-below i h k = rw add-one (omega arith)
 
 -- seven bytes leave room for one more in 64 bits
 pub room-for-one : {i n : ℕ} → i < 8 → n < 256 ^ i → n < 2 ^ 56

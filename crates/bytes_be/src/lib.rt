@@ -54,6 +54,12 @@ fn read(s: &[u8], at: usize, width: usize) -> u64
     n
 }
 
+pub fn read8(s: &[u8], at: usize) -> u8
+    ensures { λ r. ⌜ r ≡ numberAt 1 (now (s .entry)) at ⌝ }
+{
+    read(s, at, 1) as u8
+}
+
 pub fn read16(s: &[u8], at: usize) -> u16
     ensures { λ r. ⌜ r ≡ numberAt 2 (now (s .entry)) at ⌝ }
 {

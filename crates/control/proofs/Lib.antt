@@ -1,0 +1,2 @@
+-- `Round` has that reading a control frame and writing it undo each other.
+pub mod Round
