@@ -15,7 +15,7 @@ use Rattle.bytes_be.proofs.Tests.{both-true}
 use Rattle.bytes_be.proofs.Parts.{length-tabulate, getD-tabulate, length-part, part-then, part-behind, part-inside, part-front}
 use Rattle.bytes_be.proofs.Numbers.{Bytes, length-toBytes, from-to, bytes-there}
 use Rattle.bundle.specs.Reading.{countOf, lengthOf, lengthsBefore, placeOf, good, sizeOf, framesOf}
-use Rattle.bundle.proofs.Sums.{before-suc, good-told}
+use Rattle.bundle.proofs.Sums.{before-suc, before-grows, good-told, contents-inside, body-inside}
 use Rattle.bundle.specs.Writing.{lengthBytes, bundleOf, short}
 
 -- the lengths, one behind the other
@@ -129,32 +129,17 @@ module _ (frames : List (List ℕ)) where
 -- The other way: a good bundle is the bundle of its frames, so that each good bundle is written in one way alone.
 
 module _ (s : List ℕ) where
-  before-grows : (i k : ℕ) → lengthsBefore s i ≤ lengthsBefore s (i + k)
-  before-grows i zero = rw add-zero (omega arith)
-  before-grows i (suc k) = rw add-suc (omega (arith, before-grows i k, before-suc s (i + k)))
-
   abbrev frame-of : ℕ → List ℕ
   frame-of k = part s (placeOf s k) (lengthOf s k)
 
   module _ (bytes : Bytes s) (g : good s ≡ true) where
-    -- the lengths lie in the contents, and the bodies behind them
-    contents-inside : (k : ℕ) → k < countOf s → 2 + 4 * k + 4 ≤ length s
-    unfolding placeOf
-    contents-inside k h = omega (arith, good-told s g .ends)
-
-    body-inside : (k : ℕ) → k < countOf s → placeOf s k + lengthOf s k ≤ length s
-    unfolding placeOf
-    body-inside k h =
-        let end : suc k + (countOf s - suc k) ≡ countOf s = omega arith in
-        omega (arith, good-told s g .ends, before-suc s k, rw end at (before-grows (suc k) (countOf s - suc k)))
-
     lengths-there : (i k : ℕ) → i + k ≤ countOf s → flatMap lengthBytes (tabulate i k frame-of) ≡ part s (2 + 4 * i) (4 * k)
     unfolding flatMap lengthOf
     lengths-there i zero h = refl
     lengths-there i (suc k) h =
-        let long : length (frame-of i) ≡ lengthOf s i = length-part s (placeOf s i) (lengthOf s i) (body-inside i (omega arith)) in
+        let long : length (frame-of i) ≡ lengthOf s i = length-part s (placeOf s i) (lengthOf s i) (body-inside s g i (omega arith)) in
         let all : 4 + 4 * k ≡ 4 * suc k = omega arith in
-        ap₂ (λ (a b : List ℕ). a ++ b) (ap (toBytes 4) long ∙ bytes-there 4 s (2 + 4 * i) bytes (contents-inside i (omega arith))) (lengths-there (suc i) k (omega arith))
+        ap₂ (λ (a b : List ℕ). a ++ b) (ap (toBytes 4) long ∙ bytes-there 4 s (2 + 4 * i) bytes (contents-inside s g i (omega arith))) (lengths-there (suc i) k (omega arith))
         ∙ part-then s (2 + 4 * i) 4 (4 * k) (2 + 4 * suc i) (omega arith)
         ∙ ap (part s (2 + 4 * i)) all
 
@@ -165,8 +150,8 @@ module _ (s : List ℕ) where
         simp none
     bodies-there i (suc k) size h e =
         let next : i + suc k ≡ suc i + k = omega arith in
-        let rest : lengthsBefore s (suc i) + (size - lengthOf s i) ≡ lengthsBefore s (suc i + k) = omega (arith, rw next at e, before-suc s i, before-grows (suc i) k) in
-        let all : lengthOf s i + (size - lengthOf s i) ≡ size = omega (arith, rw next at e, before-suc s i, before-grows (suc i) k) in
+        let rest : lengthsBefore s (suc i) + (size - lengthOf s i) ≡ lengthsBefore s (suc i + k) = omega (arith, rw next at e, before-suc s i, before-grows s (suc i) k) in
+        let all : lengthOf s i + (size - lengthOf s i) ≡ size = omega (arith, rw next at e, before-suc s i, before-grows s (suc i) k) in
         ap (λ (b : List ℕ). frame-of i ++ b) (bodies-there (suc i) k (size - lengthOf s i) (omega arith) rest)
         ∙ part-then s (placeOf s i) (lengthOf s i) (size - lengthOf s i) (placeOf s (suc i)) (omega (arith, before-suc s i))
         ∙ ap (part s (placeOf s i)) all
@@ -179,7 +164,7 @@ module _ (s : List ℕ) where
         let count : toBytes 2 (length (tabulate 0 (countOf s) frame-of)) ≡ part s 0 2 = ap (toBytes 2) (length-tabulate frame-of 0 (countOf s)) ∙ bytes-there 2 s 0 bytes (omega (arith, good-told s g .ends)) in
         let place : placeOf s 0 ≡ 2 + 4 * countOf s = omega arith in
         let bodies : flatten (tabulate 0 (countOf s) frame-of) ≡ part s (2 + 4 * countOf s) size =
-              bodies-there 0 (countOf s) size (omega arith) (zero-add size ∙ ap (lengthsBefore s) (sym (zero-add (countOf s)))) ∙ ap (λ (k : ℕ). part s k size) place in
+        bodies-there 0 (countOf s) size (omega arith) (zero-add size ∙ ap (lengthsBefore s) (sym (zero-add (countOf s)))) ∙ ap (λ (k : ℕ). part s k size) place in
         let end : 2 + 4 * countOf s + size ≡ length s = good-told s g .ends in
         simp (count, lengths-there 0 (countOf s) (omega arith), bodies)
         (ap (λ (l : List ℕ). l ++ part s (2 + 4 * countOf s) size) (part-then s 0 2 (4 * countOf s) 2 refl)

@@ -2,16 +2,18 @@
 use mathlib.Core.Path.{_≡_, refl, sym, ap, _∙_}
 use mathlib.Core.List.{List}
 use mathlib.Core.Bool.{Bool, true, false, _&&_, cond}
-use Prim.Native.Nat.{ℕ, suc, _+_, _≤_}
+use Prim.Native.Nat.{ℕ, zero, suc, _+_, _*_, _-_, _≤_, _<_}
+use native.Mathlib.Nat.{add-zero, add-suc}
 use native.Mathlib.Numerals.{add-one}
 use native.Mathlib.Omega.{arith}
-use lib.Dec.{leb, eqb}
+use lib.Dec.{ltb, leb, eqb}
 use lib.ListN.{length}
-use borrow.Author.Tests.{leb-true, eqb-true}
+use borrow.Author.Tests.{ltb-true, leb-true, eqb-true}
 use Rattle.bytes_be.proofs.Tests.{both-true}
-use Rattle.bundle.specs.Reading.{countOf, lengthOf, lengthsBefore, placeOf, good, sizeOf, contentsOf}
+use Rattle.bundle.specs.Reading.{countOf, lengthOf, lengthsBefore, placeOf, good, sizeOf, contentsOf, frameOf}
 use Rattle.bundle.specs.declared.Contents.{Contents}
 use Rattle.bundle.specs.declared.Contents.the-variants.{Frames, Bad}
+use Rattle.bundle.specs.declared.Frame.the-variants.{At, Behind, Nowhere}
 
 pub before-suc : (s : List ℕ) (k : ℕ) → lengthsBefore s (suc k) ≡ lengthsBefore s k + lengthOf s k
 unfolding lengthsBefore
@@ -19,6 +21,10 @@ before-suc s k = refl
 
 pub before-more : (s : List ℕ) (k : ℕ) → lengthsBefore s (k + 1) ≡ lengthsBefore s k + lengthOf s k
 before-more s k = rw add-one (before-suc s k)
+
+pub before-grows : (s : List ℕ) (i k : ℕ) → lengthsBefore s i ≤ lengthsBefore s (i + k)
+before-grows s i zero = rw add-zero (omega arith)
+before-grows s i (suc k) = rw add-suc (omega (arith, before-grows s i k, before-suc s (i + k)))
 
 -- what is known of a good bundle
 pub record Good (s : List ℕ) (count : ℕ) : Type 0 where
@@ -34,6 +40,36 @@ good-told s e =
     let both = both-true (leb 1 (countOf s) && leb (countOf s) 16) (eqb (placeOf s (countOf s)) (length s)) e in
     let range = both-true (leb 1 (countOf s)) (leb (countOf s) 16) (both .0) in
     record { is-good = e; counted = refl; some = leb-true _ _ (range .0); few = leb-true _ _ (range .1); ends = eqb-true _ _ (both .1) }
+
+-- the lengths of a good bundle lie in its contents, and its bodies behind them
+
+pub contents-inside : (s : List ℕ) → good s ≡ true → (k : ℕ) → k < countOf s → 2 + 4 * k + 4 ≤ length s
+unfolding placeOf
+contents-inside s g k h = omega (arith, good-told s g .ends)
+
+pub body-inside : (s : List ℕ) → good s ≡ true → (k : ℕ) → k < countOf s → placeOf s k + lengthOf s k ≤ length s
+unfolding placeOf
+body-inside s g k h =
+    let end : suc k + (countOf s - suc k) ≡ countOf s = omega arith in
+    omega (arith, good-told s g .ends, before-suc s k, rw end at (before-grows s (suc k) (countOf s - suc k)))
+
+-- what is known of a frame that is handed out
+pub record There (s : List ℕ) (k place size : ℕ) : Type 0 where
+  pub counted : k < countOf s
+  pub inside : place + size ≤ length s
+
+pub frame-told : (s : List ℕ) (k place size : ℕ) → frameOf s k ≡ At place size → There s k place size
+unfolding frameOf
+frame-told s k place size e = go (good s) refl (ltb k (countOf s)) refl e
+  where
+    go : (g : Bool) → good s ≡ g → (t : Bool) → ltb k (countOf s) ≡ t → cond g (cond t (At (placeOf s k) (lengthOf s k)) Behind) Nowhere ≡ At place size → There s k place size
+    go true g true t same =
+        let at : placeOf s k ≡ place = cc in
+        let long : lengthOf s k ≡ size = cc in
+        let counted : k < countOf s = ltb-true k (countOf s) t in
+        record { counted = counted; inside = omega (arith, body-inside s g k counted) }
+    go true g false t same = let z : _≡_ {A = ℕ} 0 1 = cc in absurd (omega arith)
+    go false g t h same = let z : _≡_ {A = ℕ} 0 1 = cc in absurd (omega arith)
 
 -- contents are those of a good bundle alone
 pub contents-told : (s : List ℕ) (count size : ℕ) → contentsOf s ≡ Frames count size → Good s count

@@ -2,7 +2,7 @@
 ghost use mathlib.Core.Path.{_≡_};
 ghost use mathlib.Core.List.{[], _∷_};
 ghost use Prim.Native.Nat.{_*_, _≤_};
-ghost use Rattle.bundle.specs.Reading.{lengthOf, lengthsBefore, contentsOf, frameOf};
+ghost use Rattle.bundle.specs.Reading.{countOf, lengthOf, lengthsBefore, contentsOf, frameOf};
 ghost use Rattle.bundle.specs.Writing.{Written};
 
 pub enum Contents {
@@ -19,6 +19,13 @@ pub enum Frame {
     Behind,
     // 10: no good bundle, and none of its frames is handed out.
     Nowhere,
+}
+
+// The frame count that the bundle says, be it good or not.
+pub fn count_of(s: &[u8]) -> u16
+    ensures { λ r. ⌜ r ≡ countOf (now (s .entry)) ⌝ }
+{
+    bytes_be::read16(s, 0)
 }
 
 // The length of frame k.
@@ -47,7 +54,7 @@ fn lengths_before(s: &[u8], k: usize) -> u64
 pub fn contents_of(s: &[u8]) -> Contents
     ensures { λ r. ⌜ r ≡ contentsOf (now (s .entry)) ⌝ }
 {
-    let count = bytes_be::read16(s, 0) as usize;
+    let count = count_of(s) as usize;
     let counted = (1 <= count) & (count <= 16);
     if !counted {
         return Contents::Bad;
@@ -57,7 +64,10 @@ pub fn contents_of(s: &[u8]) -> Contents
     if end != s.len() as u64 {
         return Contents::Bad;
     }
-    Contents::Frames { count: count, size: size }
+    Contents::Frames {
+        count: count,
+        size: size,
+    }
 }
 
 // The place of the frame at `index`, counted from 0.
@@ -71,7 +81,10 @@ pub fn frame_at(s: &[u8], index: usize) -> Frame
         return Frame::Behind;
     }
     let place = 2 + 4 * count + lengths_before(s, index) as usize;
-    Frame::At { place: place, size: length_of(s, index) as usize }
+    Frame::At {
+        place: place,
+        size: length_of(s, index) as usize,
+    }
 }
 
 // Writes the bundle of one frame of 8 bytes, and answers its length.

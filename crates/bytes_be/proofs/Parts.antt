@@ -99,7 +99,7 @@ module _ {A : Type 0} where
       let both : at + length (xs ++ ys) ≡ next + length ys = simp length-append (omega arith) in
       put-fits (putAt out at xs) next ys (simp length-put h)
       ∙ ap₂ (λ (a b : List A). a ++ ys ++ b)
-          (ap (take next) once ∙ take-at (take at out ++ xs) (drop next out) next front)
-          (ap (drop (next + length ys)) once ∙ drop-behind (take at out ++ xs) (drop next out) next (length ys) front ∙ drop-drop (length ys) next out)
+      (ap (take next) once ∙ take-at (take at out ++ xs) (drop next out) next front)
+      (ap (drop (next + length ys)) once ∙ drop-behind (take at out ++ xs) (drop next out) next (length ys) front ∙ drop-drop (length ys) next out)
       ∙ ap₂ (λ (a : List A) (k : ℕ). a ++ drop k out) (append-assoc (take at out) xs ys) (sym both)
       ∙ sym (put-fits out at (xs ++ ys) (omega (arith, both)))

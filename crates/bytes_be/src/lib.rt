@@ -92,7 +92,12 @@ pub fn bytes32(n: u32) -> [u8; 4]
     let c = n / 256;
     let b = c / 256;
     let a = b / 256;
-    [(a % 256) as u8, (b % 256) as u8, (c % 256) as u8, (n % 256) as u8]
+    [
+        (a % 256) as u8,
+        (b % 256) as u8,
+        (c % 256) as u8,
+        (n % 256) as u8,
+    ]
 }
 
 pub fn bytes64(n: u64) -> [u8; 8]

@@ -13,7 +13,11 @@ pub enum Kind {
 
 // A frame of 8 bytes with the signature.
 pub enum Signed {
-    Frame { control: u8, flags: u8, type_data: u16 },
+    Frame {
+        control: u8,
+        flags: u8,
+        type_data: u16,
+    },
     Unsigned,
 }
 
@@ -30,7 +34,11 @@ pub enum Named {
 }
 
 pub enum Control {
-    Read { kind: Kind, flags: u8, type_data: u16 },
+    Read {
+        kind: Kind,
+        flags: u8,
+        type_data: u16,
+    },
     // The first of 11, 12 and 13 that applies.
     Refused(u8),
 }
@@ -89,7 +97,12 @@ pub fn named_of(number: u8) -> Named
 pub fn read(s: &[u8]) -> Control
     ensures { λ r. ⌜ r ≡ controlOf (now (s .entry)) ⌝ }
 {
-    let Signed::Frame { control, flags, type_data } = signed_of(s) else {
+    let Signed::Frame {
+        control,
+        flags,
+        type_data,
+    } = signed_of(s)
+    else {
         return Control::Refused(11);
     };
     let Version::One(number) = version_of(control) else {
@@ -98,7 +111,11 @@ pub fn read(s: &[u8]) -> Control
     let Named::Known(kind) = named_of(number) else {
         return Control::Refused(13);
     };
-    Control::Read { kind: kind, flags: flags, type_data: type_data }
+    Control::Read {
+        kind: kind,
+        flags: flags,
+        type_data: type_data,
+    }
 }
 
 // The bytes of a control frame.
@@ -106,5 +123,14 @@ pub fn bytes_of(kind: Kind, flags: u8, type_data: u16) -> [u8; 8]
     ensures { λ r. ⌜ r ≡ bytesOf kind flags «type_data» ⌝ }
 {
     let last = bytes_be::bytes16(type_data);
-    [0x46, 0x42, 0x44, 0x50, 8 * type_of(kind) + 1, flags, last[0], last[1]]
+    [
+        0x46,
+        0x42,
+        0x44,
+        0x50,
+        8 * type_of(kind) + 1,
+        flags,
+        last[0],
+        last[1],
+    ]
 }

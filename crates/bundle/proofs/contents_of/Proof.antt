@@ -9,11 +9,11 @@ use Rattle.bundle.proofs.contents_of.Tie as tie
 use Rattle.bundle.proofs.contents_of.Reads as reads
 use Rattle.bundle.proofs.contents_of.Lts as lts
 use Rattle.bundle.proofs.lengths_before.Reads as lengths-before-reads
-use Rattle.bytes_be.proofs.read16.Reads as read16-reads
+use Rattle.bundle.proofs.count_of.Reads as count-of-reads
 
 -- src/lib.rt:50:17
-read16-requires : tie.Need-read16-requires
-read16-requires c κs = search needs
+count-of-requires : tie.Need-count-of-requires
+count-of-requires c κs = search needs
 
 -- src/lib.rt:50:17
 cast-count : tie.Need-cast-count
@@ -21,12 +21,12 @@ cast-count c = search needs
 
 -- src/lib.rt:53:9
 returns : tie.Need-returns
-unfolding contentsOf good countOf
-returns c = simp (← (c .before .read16 .ensures), not-true (leb 1 (c .before .read16 .result) && leb (c .before .read16 .result) 16) (c .if1 .taken))
+unfolding contentsOf good
+returns c = simp (← (c .before .count-of .ensures), not-true (leb 1 (c .before .count-of .result) && leb (c .before .count-of .result) 16) (c .if1 .taken))
 
 -- src/lib.rt:55:9
 lengths-before-requires : tie.Need-lengths-before-requires
-lengths-before-requires c κs = leb-true _ _ (both-true (leb 1 (c .before .read16 .result)) (leb (c .before .read16 .result) 16) (not-false _ (c .if1 .left)) .1)
+lengths-before-requires c κs = leb-true _ _ (both-true (leb 1 (c .before .count-of .result)) (leb (c .before .count-of .result) 16) (not-false _ (c .if1 .left)) .1)
 
 -- src/lib.rt:56:19
 mul-end : tie.Need-mul-end
@@ -42,19 +42,19 @@ add-end-2 c = search needs
 
 -- src/lib.rt:58:9
 returns-2 : tie.Need-returns-2
-unfolding contentsOf good countOf placeOf
-returns-2 c = simp (← (c .before .before .before .read16 .ensures), not-false (leb 1 (c .before .before .before .read16 .result) && leb (c .before .before .before .read16 .result) 16) (c .before .before .if1 .left), ← (c .before .lengths-before .ensures .0), ne-eqb _ _ (c .if2 .taken))
+unfolding contentsOf good placeOf
+returns-2 c = simp (← (c .before .before .before .count-of .ensures), not-false (leb 1 (c .before .before .before .count-of .result) && leb (c .before .before .before .count-of .result) 16) (c .before .before .if1 .left), ← (c .before .lengths-before .ensures .0), ne-eqb _ _ (c .if2 .taken))
 
 -- src/lib.rt:47:1
 returns-3 : tie.Need-returns-3
-unfolding contentsOf good countOf placeOf sizeOf
-returns-3 c = simp (← (c .before .before .before .read16 .ensures), not-false (leb 1 (c .before .before .before .read16 .result) && leb (c .before .before .before .read16 .result) 16) (c .before .before .if1 .left), ← (c .before .lengths-before .ensures .0), eq-eqb _ _ (c .if2 .left))
+unfolding contentsOf good placeOf sizeOf
+returns-3 c = simp (← (c .before .before .before .count-of .ensures), not-false (leb 1 (c .before .before .before .count-of .result) && leb (c .before .before .before .count-of .result) 16) (c .before .before .if1 .left), ← (c .before .lengths-before .ensures .0), eq-eqb _ _ (c .if2 .left))
 
 pub contents-of-spec : {M : Type 1} → statement M
 contents-of-spec =
     tie.close
     (tie.spec
-    read16-requires
+    count-of-requires
     cast-count
     returns
     lengths-before-requires
