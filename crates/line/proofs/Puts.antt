@@ -16,5 +16,9 @@ put-more {text} {more} {before} {at = at} {next = next} one two room = record {
     left = two .left ∙ ap (λ (o : List ℕ). putAt o next more) (one .left) ∙ put-then before at text more next (sym (one .behind)) (omega (arith, two .behind)) }
 
 -- a line from the buffer's start
-pub put-filled : {line before after : List ℕ} {next : ℕ} → Put line before 0 next after → Filled line before next after
-put-filled {line} one = record { counted = one .behind ∙ zero-add (length line); left = one .left }
+pub put-filled : {line before after : List ℕ} {next : ℕ} → Put line before 0 next after → next ≤ length before → Filled line before next after
+put-filled {line} one room = record { counted = one .behind ∙ zero-add (length line); room = room; left = one .left }
+
+-- a line that fills a buffer lies in it
+pub filled-held : {line before after : List ℕ} {count : ℕ} → Filled line before count after → count ≤ length after
+filled-held {line} {before} one = omega (arith, one .room, ap length (one .left) ∙ length-put before 0 line)

@@ -67,7 +67,9 @@ pub record Named (kind : Kind) (text : List ℕ) (count : ℕ) : Type 0 where
   pub held : count ≤ length text
   pub spelled : take count text ≡ nameOf kind
 
--- what filling a buffer with a line answers, its length, and what it leaves: the line from the buffer's start and nothing behind it
+-- what filling a buffer with a line answers, its length, and what it leaves: the line, for which there is room, from the buffer's start
+-- and nothing behind it
 pub record Filled (line before : List ℕ) (count : ℕ) (after : List ℕ) : Type 0 where
   pub counted : count ≡ length line
+  pub room : count ≤ length before
   pub left : after ≡ putAt before 0 line

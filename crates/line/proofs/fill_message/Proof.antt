@@ -1,3 +1,4 @@
+use Prim.Native.Nat.{_≤_}
 use native.Mathlib.Omega.{arith}
 use Rattle.line.specs.Report.{lineOf}
 use Rattle.line.proofs.Puts.{put-more, put-filled}
@@ -62,7 +63,8 @@ returns c =
     let first = put-more (named .0) (flagged .0) (omega (arith, named .1, flagged .1)) in
     let second = put-more first (said .0) (omega (arith, named .1, flagged .1, said .1)) in
     let third = put-more second (counted .0) (omega (arith, named .1, flagged .1, said .1, counted .1)) in
-    put-filled (put-more third ended (omega (arith, named .1, flagged .1, said .1, counted .1, ended .behind)))
+    let room : c .before .before .put .result ≤ 96 = omega (arith, named .1, flagged .1, said .1, counted .1, ended .behind) in
+    put-filled (put-more third ended (omega arith)) (omega arith)
 
 pub fill-message-spec : {M : Type 1} → statement M
 fill-message-spec =

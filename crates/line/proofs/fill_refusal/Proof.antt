@@ -1,3 +1,4 @@
+use Prim.Native.Nat.{_≤_}
 use native.Mathlib.Omega.{arith}
 use Rattle.line.specs.Report.{lineOf}
 use Rattle.line.proofs.Puts.{put-more, put-filled}
@@ -32,7 +33,11 @@ same-length c = search needs
 -- src/lib.rt:131:1
 returns : tie.Need-returns
 unfolding lineOf
-returns c = put-filled (put-more (c .before .before .before .before .before .before .before .put-field .ensures .0) (c .before .before .put .ensures) (omega (arith, c .before .before .before .before .before .before .before .put-field .ensures .1, c .before .before .put .ensures .behind)))
+returns c =
+    let refused = c .before .before .before .before .before .before .before .put-field .ensures in
+    let ended = c .before .before .put .ensures in
+    let room : c .before .before .put .result ≤ 96 = omega (arith, refused .1, ended .behind) in
+    put-filled (put-more (refused .0) ended (omega arith)) (omega arith)
 
 pub fill-refusal-spec : {M : Type 1} → statement M
 fill-refusal-spec =

@@ -45,7 +45,7 @@ same-length c = search needs
 -- src/lib.rt:139:1
 returns : tie.Need-returns
 unfolding lineOf
-returns c = rw (c .before .before .before .before .before .enum-told .given .1) (put-filled (c .before .before .put .ensures))
+returns c = rw (c .before .before .before .before .before .enum-told .given .1) (put-filled (c .before .before .put .ensures) (omega (arith, c .before .before .put .ensures .behind)))
 
 -- src/lib.rt:139:1
 same-length-2 : tie.Need-same-length-2

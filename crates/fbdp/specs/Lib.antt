@@ -1,0 +1,2 @@
+-- What each entry of the C interface answers and leaves.
+pub mod Entries

@@ -1,0 +1,2 @@
+-- What the functions that are exported for the comparison answer and leave.
+pub mod Entries

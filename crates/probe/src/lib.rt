@@ -1,0 +1,144 @@
+// What no entry of the C interface reaches yet, exported for the comparison with the second program.
+ghost use mathlib.Core.Path.{_≡_};
+ghost use mathlib.Core.List.{[], _∷_};
+ghost use Rattle.bytes_be.specs.Part.{putAt};
+ghost use Rattle.bytes_be.specs.Number.{numberAt, toBytes};
+ghost use Rattle.bundle.specs.Reading.{contentsNumber};
+ghost use Rattle.control.specs.Frame.{namedOf, numberOf};
+ghost use Rattle.line.specs.Report.{reportOf, lineOf, Filled};
+ghost use Rattle.probe.specs.Entries.{contentsSlots, ContentsAnswer, controlSlots, ControlAnswer, Wrote};
+use bundle::Contents;
+use control::Control;
+use control::Named;
+
+#[no_mangle]
+pub extern "C" fn probe_read16(bytes: &[u8], at: usize) -> u16
+    ensures { λ r. ⌜ r ≡ numberAt 2 (now (bytes .entry)) at ⌝ }
+{
+    bytes_be::read16(bytes, at)
+}
+
+#[no_mangle]
+pub extern "C" fn probe_read32(bytes: &[u8], at: usize) -> u32
+    ensures { λ r. ⌜ r ≡ numberAt 4 (now (bytes .entry)) at ⌝ }
+{
+    bytes_be::read32(bytes, at)
+}
+
+#[no_mangle]
+pub extern "C" fn probe_read64(bytes: &[u8], at: usize) -> u64
+    ensures { λ r. ⌜ r ≡ numberAt 8 (now (bytes .entry)) at ⌝ }
+{
+    bytes_be::read64(bytes, at)
+}
+
+#[no_mangle]
+pub extern "C" fn probe_store16(out: &mut [u8], at: usize, number: u16)
+    ensures { λ _. ⌜ now (out .exit) ≡ putAt (now (out .entry)) at (toBytes 2 number) ⌝ }
+{
+    bytes_be::store16(out, at, number)
+}
+
+#[no_mangle]
+pub extern "C" fn probe_store32(out: &mut [u8], at: usize, number: u32)
+    ensures { λ _. ⌜ now (out .exit) ≡ putAt (now (out .entry)) at (toBytes 4 number) ⌝ }
+{
+    bytes_be::store32(out, at, number)
+}
+
+#[no_mangle]
+pub extern "C" fn probe_store64(out: &mut [u8], at: usize, number: u64)
+    ensures { λ _. ⌜ now (out .exit) ≡ putAt (now (out .entry)) at (toBytes 8 number) ⌝ }
+{
+    bytes_be::store64(out, at, number)
+}
+
+#[no_mangle]
+pub extern "C" fn probe_copy(out: &mut [u8], at: usize, bytes: &[u8])
+    ensures { λ _. ⌜ now (out .exit) ≡ putAt (now (out .entry)) at (now (bytes .entry)) ⌝ }
+{
+    bytes_be::copy_at(out, at, bytes)
+}
+
+fn contents_number(contents: Contents) -> u32
+    ensures { λ r. ⌜ r ≡ contentsNumber contents ⌝ }
+{
+    match contents {
+        Contents::Frames { count: _, size: _ } => 0,
+        Contents::Bad => 10,
+    }
+}
+
+fn contents_slots(contents: Contents) -> [u64; 2]
+    ensures { λ r. ⌜ r ≡ contentsSlots contents ⌝ }
+{
+    match contents {
+        Contents::Frames { count, size } => [count as u64, size],
+        Contents::Bad => [0, 0],
+    }
+}
+
+#[no_mangle]
+pub extern "C" fn probe_contents(bundle: &[u8], slots: &mut [u64; 2]) -> u32
+    ensures { λ r. ⌜ ContentsAnswer (now (bundle .entry)) r (now (slots .exit)) ⌝ }
+{
+    let contents = bundle::contents_of(bundle);
+    *slots = contents_slots(contents);
+    contents_number(contents)
+}
+
+fn control_number(control: Control) -> u32
+    ensures { λ r. ⌜ r ≡ numberOf control ⌝ }
+{
+    match control {
+        Control::Read { kind: _, flags: _, type_data: _ } => 0,
+        Control::Refused(number) => number as u32,
+    }
+}
+
+fn control_slots(control: Control) -> [u64; 3]
+    ensures { λ r. ⌜ r ≡ controlSlots control ⌝ }
+{
+    match control {
+        Control::Read { kind, flags, type_data } => [control::type_of(kind) as u64, flags as u64, type_data as u64],
+        Control::Refused(_) => [0, 0, 0],
+    }
+}
+
+#[no_mangle]
+pub extern "C" fn probe_control(frame: &[u8], slots: &mut [u64; 3]) -> u32
+    ensures { λ r. ⌜ ControlAnswer (now (frame .entry)) r (now (slots .exit)) ⌝ }
+{
+    let control = control::read(frame);
+    *slots = control_slots(control);
+    control_number(control)
+}
+
+#[no_mangle]
+pub extern "C" fn probe_write_one(out: &mut [u8], number: u8, flags: u8, type_data: u16) -> u64
+    ensures { λ r. ⌜ Wrote (namedOf number) flags «type_data» [] (now (out .entry)) r (now (out .exit)) ⌝ }
+{
+    let Named::Known(kind) = control::named_of(number) else {
+        return 0;
+    };
+    let frame = control::bytes_of(kind, flags, type_data);
+    bundle::write_one(out, frame) as u64
+}
+
+#[no_mangle]
+pub extern "C" fn probe_write_two(out: &mut [u8], number: u8, flags: u8, type_data: u16, body: &[u8]) -> u64
+    ensures { λ r. ⌜ Wrote (namedOf number) flags «type_data» (now (body .entry) ∷ []) (now (out .entry)) r (now (out .exit)) ⌝ }
+{
+    let Named::Known(kind) = control::named_of(number) else {
+        return 0;
+    };
+    let frame = control::bytes_of(kind, flags, type_data);
+    bundle::write_two(out, frame, body) as u64
+}
+
+#[no_mangle]
+pub extern "C" fn probe_line(input: &[u8], text: &mut [u8; 96]) -> u64
+    ensures { λ r. ⌜ Filled (lineOf (reportOf (now (input .entry)))) (now (text .entry)) r (now (text .exit)) ⌝ }
+{
+    line::fill(input, text) as u64
+}
