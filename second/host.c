@@ -27,7 +27,7 @@ enum {
     HEADER_BYTES = 12,
     GUARD = 32,     /* bytes before and behind whatever is lent */
     MOST_LENT = 8,  /* slices and arrays of numbers in one call */
-    LINE_BYTES = 64 /* the room that probe_line is given */
+    LINE_BYTES = 96 /* the room that probe_line is given */
 };
 
 static void fail(const char *why)

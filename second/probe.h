@@ -33,6 +33,6 @@ uint64_t probe_write_two(uint8_t *out, size_t out_length, uint8_t type, uint8_t 
 
 /* Fills `line` from its start with what peek writes for this input, newline included; returns its length.
  * The bytes behind it are left as they were. */
-uint64_t probe_line(const uint8_t *input, size_t length, uint8_t line[64]);
+uint64_t probe_line(const uint8_t *input, size_t length, uint8_t line[96]);
 
 #endif

@@ -299,7 +299,7 @@ impl Call for Line {
     }
 
     fn arguments(&self) -> Vec<(&'static str, Argument<'_>)> {
-        vec![("input", Argument::Input(&self.input)), ("line", Argument::FixedRoom(64))]
+        vec![("input", Argument::Input(&self.input)), ("line", Argument::FixedRoom(96))]
     }
 
     fn answer(&self, before: &[Vec<u8>]) -> Answer {
