@@ -1,16 +1,14 @@
 -- What a writer of a bundle must leave, from the writes that it made. Assumes nothing.
 use mathlib.Core.Path.{_≡_, refl, sym, ap, _∙_}
-use mathlib.Core.List.{List, [], _∷_, _++_, append-assoc, append-nil, flatMap, flatten}
+use mathlib.Core.List.{List, [], _∷_, _++_, append-nil, flatMap, flatten}
 use mathlib.Core.Bool.{true, false}
 use Prim.Native.Nat.{ℕ, _+_, _^_, _≤_, _<_}
-use native.Mathlib.Nat.{zero-add}
 use native.Mathlib.Omega.{arith}
 use lib.ListN.{length, length-append}
 use borrow.Author.Tests.{lt-ltb, le-ltb, le-leb, lt-leb}
 use Rattle.bytes_be.specs.Part.{holds, putAt}
 use Rattle.bytes_be.specs.Number.{toBytes}
 use Rattle.bytes_be.proofs.Parts.{put-then}
-use Rattle.bytes_be.proofs.Numbers.{length-toBytes}
 use Rattle.bundle.specs.Writing.{bundleOf, short, writable, Written}
 
 module _ (frames : List (List ℕ)) (out : List ℕ) where

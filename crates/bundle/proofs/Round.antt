@@ -3,14 +3,14 @@ use mathlib.Core.Path.{_≡_, refl, sym, ap, ap₂, _∙_}
 use mathlib.Core.List.{List, [], _∷_, _++_, append-assoc, flatMap, flatten}
 use mathlib.Core.Bool.{true}
 use Prim.Native.Nat.{ℕ, zero, suc, _+_, _*_, _-_, _^_, _≤_, _<_}
-use native.Mathlib.Nat.{add-zero, zero-add, add-suc}
+use native.Mathlib.Nat.{add-zero, zero-add}
 use native.Mathlib.Omega.{arith}
 use lib.ListN.{length, getD, take, length-append}
 use lib.Seq.{take-length, ext-getD}
 use lib.Dec.{ltb}
 use borrow.Author.Tests.{ltb-true, le-leb, eq-eqb}
 use Rattle.bytes_be.specs.Part.{tabulate, part}
-use Rattle.bytes_be.specs.Number.{fromBytes, toBytes, numberAt}
+use Rattle.bytes_be.specs.Number.{toBytes, numberAt}
 use Rattle.bytes_be.proofs.Tests.{both-true}
 use Rattle.bytes_be.proofs.Parts.{length-tabulate, getD-tabulate, length-part, part-then, part-behind, part-inside, part-front}
 use Rattle.bytes_be.proofs.Numbers.{Bytes, length-toBytes, from-to, bytes-there}

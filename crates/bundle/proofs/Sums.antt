@@ -1,5 +1,5 @@
 -- Laws of the lengths of a bundle, and what is known of a good one. Assumes nothing.
-use mathlib.Core.Path.{_≡_, refl, sym, ap, _∙_}
+use mathlib.Core.Path.{_≡_, refl}
 use mathlib.Core.List.{List}
 use mathlib.Core.Bool.{Bool, true, false, _&&_, cond}
 use Prim.Native.Nat.{ℕ, zero, suc, _+_, _*_, _-_, _≤_, _<_}
@@ -11,7 +11,6 @@ use lib.ListN.{length}
 use borrow.Author.Tests.{ltb-true, leb-true, eqb-true}
 use Rattle.bytes_be.proofs.Tests.{both-true}
 use Rattle.bundle.specs.Reading.{countOf, lengthOf, lengthsBefore, placeOf, good, sizeOf, contentsOf, frameOf}
-use Rattle.bundle.specs.declared.Contents.{Contents}
 use Rattle.bundle.specs.declared.Contents.the-variants.{Frames, Bad}
 use Rattle.bundle.specs.declared.Frame.the-variants.{At, Behind, Nowhere}
 

@@ -91,7 +91,11 @@ fn control_number(control: Control) -> u32
     ensures { λ r. ⌜ r ≡ numberOf control ⌝ }
 {
     match control {
-        Control::Read { kind: _, flags: _, type_data: _ } => 0,
+        Control::Read {
+            kind: _,
+            flags: _,
+            type_data: _,
+        } => 0,
         Control::Refused(number) => number as u32,
     }
 }
@@ -100,7 +104,15 @@ fn control_slots(control: Control) -> [u64; 3]
     ensures { λ r. ⌜ r ≡ controlSlots control ⌝ }
 {
     match control {
-        Control::Read { kind, flags, type_data } => [control::type_of(kind) as u64, flags as u64, type_data as u64],
+        Control::Read {
+            kind,
+            flags,
+            type_data,
+        } => [
+            control::type_of(kind) as u64,
+            flags as u64,
+            type_data as u64,
+        ],
         Control::Refused(_) => [0, 0, 0],
     }
 }
@@ -126,7 +138,13 @@ pub extern "C" fn probe_write_one(out: &mut [u8], number: u8, flags: u8, type_da
 }
 
 #[no_mangle]
-pub extern "C" fn probe_write_two(out: &mut [u8], number: u8, flags: u8, type_data: u16, body: &[u8]) -> u64
+pub extern "C" fn probe_write_two(
+    out: &mut [u8],
+    number: u8,
+    flags: u8,
+    type_data: u16,
+    body: &[u8],
+) -> u64
     ensures { λ r. ⌜ Wrote (namedOf number) flags «type_data» (now (body .entry) ∷ []) (now (out .entry)) r (now (out .exit)) ⌝ }
 {
     let Named::Known(kind) = control::named_of(number) else {

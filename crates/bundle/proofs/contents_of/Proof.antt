@@ -1,51 +1,40 @@
+-- `bundle::contents_of` meets its contract: at each `return` the tests that led there say whether the bundle is good.
+-- Assumes nothing.
 use mathlib.Core.Bool.{_&&_}
 use lib.Dec.{leb}
 use borrow.Author.Tests.{leb-true, eq-eqb, ne-eqb, not-true, not-false}
 use Rattle.bytes_be.proofs.Tests.{both-true}
-use Rattle.bundle.specs.Reading.{contentsOf, good, countOf, placeOf, sizeOf}
+use Rattle.bundle.specs.Reading.{contentsOf, good, placeOf, sizeOf}
 use borrow.Author.Needs.{needs}
 use Rattle.bundle.proofs.contents_of.Statement.{statement}
 use Rattle.bundle.proofs.contents_of.Tie as tie
-use Rattle.bundle.proofs.contents_of.Reads as reads
-use Rattle.bundle.proofs.contents_of.Lts as lts
-use Rattle.bundle.proofs.lengths_before.Reads as lengths-before-reads
-use Rattle.bundle.proofs.count_of.Reads as count-of-reads
 
--- src/lib.rt:50:17
 count-of-requires : tie.Need-count-of-requires
 count-of-requires c κs = search needs
 
--- src/lib.rt:50:17
 cast-count : tie.Need-cast-count
 cast-count c = search needs
 
--- src/lib.rt:53:9
 returns : tie.Need-returns
 unfolding contentsOf good
 returns c = simp (← (c .before .count-of .ensures), not-true (leb 1 (c .before .count-of .result) && leb (c .before .count-of .result) 16) (c .if1 .taken))
 
--- src/lib.rt:55:9
 lengths-before-requires : tie.Need-lengths-before-requires
 lengths-before-requires c κs = leb-true _ _ (both-true (leb 1 (c .before .count-of .result)) (leb (c .before .count-of .result) 16) (not-false _ (c .if1 .left)) .1)
 
--- src/lib.rt:56:19
 mul-end : tie.Need-mul-end
 mul-end c = search needs
 
--- src/lib.rt:56:15
 add-end : tie.Need-add-end
 add-end c = search needs
 
--- src/lib.rt:56:15
 add-end-2 : tie.Need-add-end-2
 add-end-2 c = search needs
 
--- src/lib.rt:58:9
 returns-2 : tie.Need-returns-2
 unfolding contentsOf good placeOf
 returns-2 c = simp (← (c .before .before .before .count-of .ensures), not-false (leb 1 (c .before .before .before .count-of .result) && leb (c .before .before .before .count-of .result) 16) (c .before .before .if1 .left), ← (c .before .lengths-before .ensures .0), ne-eqb _ _ (c .if2 .taken))
 
--- src/lib.rt:47:1
 returns-3 : tie.Need-returns-3
 unfolding contentsOf good placeOf sizeOf
 returns-3 c = simp (← (c .before .before .before .count-of .ensures), not-false (leb 1 (c .before .before .before .count-of .result) && leb (c .before .before .before .count-of .result) 16) (c .before .before .if1 .left), ← (c .before .lengths-before .ensures .0), eq-eqb _ _ (c .if2 .left))

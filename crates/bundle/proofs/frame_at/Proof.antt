@@ -1,3 +1,5 @@
+-- `bundle::frame_at` meets its contract: a bundle with contents is good, and has at most 16 frames, so that no sum wraps.
+-- Assumes nothing.
 use mathlib.Core.Path.{sym, _∙_}
 use native.Mathlib.Omega.{arith}
 use borrow.Author.Tests.{lt-ltb, le-ltb}
@@ -6,61 +8,44 @@ use Rattle.bundle.proofs.Sums.{contents-told, contents-none}
 use borrow.Author.Needs.{needs}
 use Rattle.bundle.proofs.frame_at.Statement.{statement}
 use Rattle.bundle.proofs.frame_at.Tie as tie
-use Rattle.bundle.proofs.frame_at.Reads as reads
-use Rattle.bundle.proofs.frame_at.Lts as lts
-use Rattle.bundle.proofs.contents_of.Reads as contents-of-reads
-use Rattle.bundle.proofs.length_of.Reads as length-of-reads
-use Rattle.bundle.proofs.lengths_before.Reads as lengths-before-reads
 
--- src/lib.rt:67:47
 contents-of-requires : tie.Need-contents-of-requires
 contents-of-requires c κs = search needs
 
--- src/lib.rt:67:28
 enum-known-count : tie.Need-enum-known-count
 enum-known-count c = search needs
 
--- src/lib.rt:68:9
 enum-told : tie.Need-enum-told
 enum-told c = search needs
 
--- src/lib.rt:68:9
 returns : tie.Need-returns
 unfolding frameOf
 returns c = simp (contents-none _ (sym (c .before .before .contents-of .ensures) ∙ c .enum-told .given .1))
 
--- src/lib.rt:71:9
 returns-2 : tie.Need-returns-2
 unfolding frameOf
 returns-2 c =
     let g = contents-told _ _ _ (sym (c .before .before .before .before .contents-of .ensures) ∙ c .before .before .count .given .1) in
     simp (g .is-good, g .counted, le-ltb _ _ (c .if1 .taken))
 
--- src/lib.rt:73:21
 mul-place : tie.Need-mul-place
 mul-place c = omega (arith, contents-told _ _ _ (sym (c .before .before .before .before .contents-of .ensures) ∙ c .before .before .count .given .1) .few)
 
--- src/lib.rt:73:17
 add-place : tie.Need-add-place
 add-place c = omega (arith, contents-told _ _ _ (sym (c .before .before .before .before .contents-of .ensures) ∙ c .before .before .count .given .1) .few)
 
--- src/lib.rt:73:33
 lengths-before-requires : tie.Need-lengths-before-requires
 lengths-before-requires c κs = omega (arith, contents-told _ _ _ (sym (c .before .before .before .before .contents-of .ensures) ∙ c .before .before .count .given .1) .few)
 
--- src/lib.rt:73:17
 add-place-2 : tie.Need-add-place-2
 add-place-2 c = omega (arith, contents-told _ _ _ (sym (c .before .before .before .before .before .contents-of .ensures) ∙ c .before .before .before .count .given .1) .few)
 
--- src/lib.rt:74:37
 length-of-requires : tie.Need-length-of-requires
 length-of-requires c κs = omega (arith, contents-told _ _ _ (sym (c .before .before .before .before .before .contents-of .ensures) ∙ c .before .before .before .count .given .1) .few)
 
--- src/lib.rt:74:37
 cast-t7 : tie.Need-cast-t7
 cast-t7 c = search needs
 
--- src/lib.rt:64:1
 returns-3 : tie.Need-returns-3
 unfolding frameOf placeOf
 returns-3 c =

@@ -1,16 +1,13 @@
 -- `bundle::lengths_before` meets its contract. The invariant of its loop: sum is that of the first i lengths, each of which is below 2^32.
 -- The measure is the number of lengths still to add. Assumes nothing.
-use mathlib.Core.Path.{_≡_, sym, ap, _∙_}
-use Prim.Native.Nat.{ℕ, _+_, _*_, _-_, _≤_}
+use mathlib.Core.Path.{_≡_, ap, _∙_}
+use Prim.Native.Nat.{_+_, _*_, _-_, _≤_}
 use native.Mathlib.Omega.{arith}
 use borrow.Author.Needs.{needs}
 use Rattle.bundle.specs.Reading.{lengthOf, lengthsBefore}
 use Rattle.bundle.proofs.Sums.{before-more}
 use Rattle.bundle.proofs.lengths_before.Statement.{statement}
 use Rattle.bundle.proofs.lengths_before.Tie as tie
-use Rattle.bundle.proofs.lengths_before.Reads as reads
-use Rattle.bundle.proofs.lengths_before.Lts as lts
-use Rattle.bundle.proofs.length_of.Reads as length-of-reads
 
 abbrev Inv-loop : tie.InvT-loop
 Inv-loop s k sum₀ i₀ sum i = (i ≤ k) × (sum ≡ lengthsBefore s i) × (sum ≤ i * 4294967295)

@@ -1,39 +1,31 @@
+-- `bundle::write_one` meets its contract: its two copies leave the bundle of one frame, or there was no room for it.
+-- Assumes nothing.
 use native.Mathlib.Omega.{arith}
 use Rattle.bundle.proofs.Outputs.{wrote-one, no-room-one}
 use borrow.Author.Needs.{needs}
 use Rattle.bundle.proofs.write_one.Statement.{statement}
 use Rattle.bundle.proofs.write_one.Tie as tie
-use Rattle.bundle.proofs.write_one.Reads as reads
-use Rattle.bundle.proofs.write_one.Lts as lts
-use Rattle.bytes_be.proofs.copy_at.Reads as copy-at-reads
 
--- src/lib.rt:82:9
 returns : tie.Need-returns
 returns c =
     let a = c .before .before .args in
     no-room-one (a .t2) (omega (arith, c .before .before .good)) (a .out .now) (c .if1 .taken)
 
--- src/lib.rt:84:31
 slice-aggregate-copy-at : tie.Need-slice-aggregate-copy-at
 slice-aggregate-copy-at c = search needs
 
--- src/lib.rt:84:5
 copy-at-requires : tie.Need-copy-at-requires
 copy-at-requires c κs = search needs
 
--- src/lib.rt:85:31
 slice-aggregate-copy-at-2 : tie.Need-slice-aggregate-copy-at-2
 slice-aggregate-copy-at-2 c = search needs
 
--- src/lib.rt:85:5
 copy-at-requires-2 : tie.Need-copy-at-requires-2
 copy-at-requires-2 c κs = search needs
 
--- src/lib.rt:78:1
 same-length : tie.Need-same-length
 same-length c = search needs
 
--- src/lib.rt:78:1
 returns-2 : tie.Need-returns-2
 returns-2 c =
     let a = c .before .before .before .before .before .before .before .before .before .before .before .before .args in

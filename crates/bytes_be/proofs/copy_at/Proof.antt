@@ -1,19 +1,16 @@
 -- `bytes_be::copy_at` meets its contract. The invariant of its loop: the bytes fit, i of them are copied, and the length is as it was.
 -- The measure is the number of bytes still to copy. Assumes nothing.
 use mathlib.Core.Path.{_≡_, sym, ap, _∙_}
-use Prim.Native.Nat.{ℕ, _+_, _-_, _≤_}
+use Prim.Native.Nat.{_+_, _-_, _≤_}
 use native.Mathlib.Numerals.{add-one}
 use native.Mathlib.Omega.{arith}
-use lib.ListN.{length, set, getD, length-set}
+use lib.ListN.{length, length-set}
 use lib.Seq.{paste, paste-zero, paste-suc}
 use borrow.Author.Needs.{needs}
 use borrow.Author.Tests.{leb-true, leb-false}
 use Rattle.bytes_be.proofs.Parts.{put-paste, put-none}
 use Rattle.bytes_be.proofs.copy_at.Statement.{statement}
 use Rattle.bytes_be.proofs.copy_at.Tie as tie
-use Rattle.bytes_be.proofs.copy_at.Reads as reads
-use Rattle.bytes_be.proofs.copy_at.Lts as lts
-use Rattle.bytes_be.proofs.holds.Reads as holds-reads
 
 abbrev Inv-loop : tie.InvT-loop
 Inv-loop out₀ at bytes fits i₀ out i = (i ≤ length bytes) × (at + length bytes ≤ length out₀) × (length out ≡ length out₀) × (out ≡ paste out₀ at bytes i)

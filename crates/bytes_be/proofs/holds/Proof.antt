@@ -1,3 +1,5 @@
+-- `bytes_be::holds` meets its contract: the difference that it compares says what the sum would, and cannot wrap.
+-- Assumes nothing.
 use mathlib.Core.Path.{sym}
 use Prim.Native.Nat.{_+_}
 use native.Mathlib.Omega.{arith}
@@ -5,15 +7,11 @@ use borrow.Author.Tests.{lt-leb}
 use Rattle.bytes_be.proofs.Parts.{holds-less}
 use Rattle.bytes_be.proofs.holds.Statement.{statement}
 use Rattle.bytes_be.proofs.holds.Tie as tie
-use Rattle.bytes_be.proofs.holds.Reads as reads
-use Rattle.bytes_be.proofs.holds.Lts as lts
 
--- src/lib.rt:14:9
 returns : tie.Need-returns
 returns c = let a = c .before .args in
     sym (lt-leb (a .at + a .size) (a .n) (omega arith))
 
--- src/lib.rt:10:1
 returns-2 : tie.Need-returns-2
 returns-2 c = holds-less _ _ _ (c .if1 .left)
 

@@ -1,7 +1,7 @@
 -- `bytes_be::read` meets its contract. The invariant of its loop: the bytes lie in the slice, and n is the number that the first i of
 -- them say, which i bytes can hold. The measure is the number of bytes still to read. Assumes nothing.
-use mathlib.Core.Path.{_≡_, refl, sym, ap, _∙_}
-use Prim.Native.Nat.{ℕ, _+_, _-_, _^_, _≤_, _<_}
+use mathlib.Core.Path.{_≡_, refl, sym, _∙_}
+use Prim.Native.Nat.{_+_, _-_, _^_, _≤_, _<_}
 use native.Mathlib.Nat.{one-le-pow}
 use native.Mathlib.Omega.{arith}
 use lib.Dec.{lit<}
@@ -13,10 +13,6 @@ use Rattle.bytes_be.specs.Number.{fromBytes, fromBytesBehind, numberAt}
 use Rattle.bytes_be.proofs.Numbers.{number-more, more-below, room-for-one}
 use Rattle.bytes_be.proofs.read.Statement.{statement}
 use Rattle.bytes_be.proofs.read.Tie as tie
-use Rattle.bytes_be.proofs.read.Reads as reads
-use Rattle.bytes_be.proofs.read.Lts as lts
-use Rattle.bytes_be.proofs.holds.Reads as holds-reads
-use Rattle.bytes_be.proofs.wide.Reads as wide-reads
 
 abbrev Inv-loop : tie.InvT-loop
 Inv-loop s at width fits n₀ i₀ n i = (i ≤ width) × (at + width ≤ length s) × (n ≡ fromBytes (part s at i)) × (n < 256 ^ i)

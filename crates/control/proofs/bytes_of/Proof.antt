@@ -1,3 +1,5 @@
+-- `control::bytes_of` meets its contract: a type is at most 5, so that the control byte fits.
+-- Assumes nothing.
 use native.Mathlib.Omega.{arith}
 use Rattle.bytes_be.specs.Number.{toBytes}
 use Rattle.control.specs.Frame.{bytesOf}
@@ -5,36 +7,25 @@ use Rattle.control.proofs.Round.{type-few}
 use borrow.Author.Needs.{needs}
 use Rattle.control.proofs.bytes_of.Statement.{statement}
 use Rattle.control.proofs.bytes_of.Tie as tie
-use Rattle.control.proofs.bytes_of.Reads as reads
-use Rattle.control.proofs.bytes_of.Lts as lts
-use Rattle.bytes_be.proofs.bytes16.Reads as bytes16-reads
-use Rattle.control.proofs.type_of.Reads as type-of-reads
 
--- src/lib.rt:108:16
 bytes16-requires : tie.Need-bytes16-requires
 bytes16-requires c κs = search needs
 
--- src/lib.rt:109:34
 type-of-requires : tie.Need-type-of-requires
 type-of-requires c κs = search needs
 
--- src/lib.rt:109:30
 mul-t7 : tie.Need-mul-t7
 mul-t7 c = omega (arith, c .type-of .ensures, type-few (c .before .before .args .kind))
 
--- src/lib.rt:109:30
 add-t8 : tie.Need-add-t8
 add-t8 c = omega (arith, c .type-of .ensures, type-few (c .before .before .args .kind))
 
--- src/lib.rt:109:60
 array-read-t11 : tie.Need-array-read-t11
 array-read-t11 c = search needs
 
--- src/lib.rt:109:69
 array-read-t14 : tie.Need-array-read-t14
 array-read-t14 c = search needs
 
--- src/lib.rt:105:1
 returns : tie.Need-returns
 unfolding bytesOf toBytes
 returns c = simp (c .type-of .ensures, c .before .bytes16 .ensures)

@@ -1,36 +1,30 @@
+-- `control::named_of` meets its contract: each arm is the case of `namedOf` at its own number.
+-- Assumes nothing.
 use borrow.Author.Tests.{ne-eqb}
 use Rattle.control.specs.Frame.{namedOf}
 use Rattle.control.proofs.named_of.Statement.{statement}
 use Rattle.control.proofs.named_of.Tie as tie
-use Rattle.control.proofs.named_of.Reads as reads
-use Rattle.control.proofs.named_of.Lts as lts
 
--- src/lib.rt:75:1
 returns : tie.Need-returns
 unfolding namedOf
 returns c = simp (c .match .keys1)
 
--- src/lib.rt:75:1
 returns-2 : tie.Need-returns-2
 unfolding namedOf
 returns-2 c = simp (c .match .keys2)
 
--- src/lib.rt:75:1
 returns-3 : tie.Need-returns-3
 unfolding namedOf
 returns-3 c = simp (c .match .keys3)
 
--- src/lib.rt:75:1
 returns-4 : tie.Need-returns-4
 unfolding namedOf
 returns-4 c = simp (c .match .keys4)
 
--- src/lib.rt:75:1
 returns-5 : tie.Need-returns-5
 unfolding namedOf
 returns-5 c = simp (c .match .keys5)
 
--- src/lib.rt:75:1
 returns-6 : tie.Need-returns-6
 unfolding namedOf
 returns-6 c =

@@ -1,66 +1,50 @@
+-- `control::read` meets its contract: each stage's answer decides the same case of `controlOf`.
+-- Assumes nothing.
 use mathlib.Core.Path.{sym, _∙_}
 use Rattle.control.specs.Frame.{controlOf}
 use borrow.Author.Needs.{needs}
 use Rattle.control.proofs.read.Statement.{statement}
 use Rattle.control.proofs.read.Tie as tie
-use Rattle.control.proofs.read.Reads as reads
-use Rattle.control.proofs.read.Lts as lts
-use Rattle.control.proofs.named_of.Reads as named-of-reads
-use Rattle.control.proofs.signed_of.Reads as signed-of-reads
-use Rattle.control.proofs.version_of.Reads as version-of-reads
 
--- src/lib.rt:92:55
 signed-of-requires : tie.Need-signed-of-requires
 signed-of-requires c κs = search needs
 
--- src/lib.rt:92:25
 enum-known-control : tie.Need-enum-known-control
 enum-known-control c = search needs
 
--- src/lib.rt:93:9
 enum-told : tie.Need-enum-told
 enum-told c = search needs
 
--- src/lib.rt:93:9
 returns : tie.Need-returns
 unfolding controlOf
 returns c = simp (sym (c .before .before .signed-of .ensures) ∙ c .enum-told .given .1)
 
--- src/lib.rt:95:32
 version-of-requires : tie.Need-version-of-requires
 version-of-requires c κs = search needs
 
--- src/lib.rt:95:22
 enum-known-number : tie.Need-enum-known-number
 enum-known-number c = search needs
 
--- src/lib.rt:96:9
 enum-told-2 : tie.Need-enum-told-2
 enum-told-2 c = search needs
 
--- src/lib.rt:96:9
 returns-2 : tie.Need-returns-2
 unfolding controlOf
 returns-2 c = simp (sym (c .before .before .before .before .before .before .signed-of .ensures) ∙ c .before .before .before .before .control .given .1, sym (c .before .before .version-of .ensures) ∙ c .enum-told2 .given .1)
 
--- src/lib.rt:98:30
 named-of-requires : tie.Need-named-of-requires
 named-of-requires c κs = search needs
 
--- src/lib.rt:98:22
 enum-known-kind : tie.Need-enum-known-kind
 enum-known-kind c = search needs
 
--- src/lib.rt:99:9
 enum-told-3 : tie.Need-enum-told-3
 enum-told-3 c = search needs
 
--- src/lib.rt:99:9
 returns-3 : tie.Need-returns-3
 unfolding controlOf
 returns-3 c = simp (sym (c .before .before .before .before .before .before .before .before .before .before .signed-of .ensures) ∙ c .before .before .before .before .before .before .before .before .control .given .1, sym (c .before .before .before .before .before .before .version-of .ensures) ∙ c .before .before .before .before .number .given .1, sym (c .before .before .named-of .ensures) ∙ c .enum-told3 .given .1)
 
--- src/lib.rt:89:1
 returns-4 : tie.Need-returns-4
 unfolding controlOf
 returns-4 c = simp (sym (c .before .before .before .before .before .before .before .before .before .before .before .signed-of .ensures) ∙ c .before .before .before .before .before .before .before .before .before .control .given .1, sym (c .before .before .before .before .before .before .before .version-of .ensures) ∙ c .before .before .before .before .before .number .given .1, sym (c .before .before .before .named-of .ensures) ∙ c .before .kind .given .1)

@@ -1,16 +1,14 @@
+-- `control::version_of` meets its contract: the test is that of `versionOf`.
+-- Assumes nothing.
 use borrow.Author.Tests.{eq-eqb, ne-eqb}
 use Rattle.control.specs.Frame.{versionOf}
 use Rattle.control.proofs.version_of.Statement.{statement}
 use Rattle.control.proofs.version_of.Tie as tie
-use Rattle.control.proofs.version_of.Reads as reads
-use Rattle.control.proofs.version_of.Lts as lts
 
--- src/lib.rt:69:9
 returns : tie.Need-returns
 unfolding versionOf
 returns c = simp (eq-eqb _ _ (c .if1 .taken))
 
--- src/lib.rt:65:1
 returns-2 : tie.Need-returns-2
 unfolding versionOf
 returns-2 c = simp (ne-eqb _ _ (c .if1 .left))

@@ -1,30 +1,24 @@
+-- `fbdp::place_slots` meets its contract: a frame's place is the one that it carries.
+-- Assumes nothing.
 use borrow.Author.Needs.{needs}
 use Rattle.fbdp.proofs.place_slots.Statement.{statement}
 use Rattle.fbdp.proofs.place_slots.Tie as tie
-use Rattle.fbdp.proofs.place_slots.Reads as reads
-use Rattle.fbdp.proofs.place_slots.Lts as lts
 
--- src/lib.rt:21:21
 enum-known-frame : tie.Need-enum-known-frame
 enum-known-frame c = search needs
 
--- src/lib.rt:22:26
 enum-told : tie.Need-enum-told
 enum-told c = search needs
 
--- src/lib.rt:23:27
 enum-told-2 : tie.Need-enum-told-2
 enum-told-2 c = search needs
 
--- src/lib.rt:17:1
 returns : tie.Need-returns
 returns c = simp (c .before .frame .given .1)
 
--- src/lib.rt:17:1
 returns-2 : tie.Need-returns-2
 returns-2 c = search needs
 
--- src/lib.rt:17:1
 returns-3 : tie.Need-returns-3
 returns-3 c = search needs
 

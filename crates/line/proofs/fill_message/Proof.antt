@@ -1,3 +1,5 @@
+-- `line::fill_message` meets its contract: its five texts, one behind the other, are the line, and 96 bytes have room for them.
+-- Assumes nothing.
 use Prim.Native.Nat.{_≤_}
 use native.Mathlib.Omega.{arith}
 use Rattle.line.specs.Report.{lineOf}
@@ -5,53 +7,37 @@ use Rattle.line.proofs.Puts.{put-more, put-filled}
 use borrow.Author.Needs.{needs}
 use Rattle.line.proofs.fill_message.Statement.{statement}
 use Rattle.line.proofs.fill_message.Tie as tie
-use Rattle.line.proofs.fill_message.Reads as reads
-use Rattle.line.proofs.fill_message.Lts as lts
-use Rattle.line.proofs.put.Reads as put-reads
-use Rattle.line.proofs.put_field.Reads as put-field-reads
-use Rattle.line.proofs.put_name.Reads as put-name-reads
 
--- src/lib.rt:124:9
 put-name-requires : tie.Need-put-name-requires
 put-name-requires c κs = search needs
 
--- src/lib.rt:125:41
 slice-aggregate-put-field : tie.Need-slice-aggregate-put-field
 slice-aggregate-put-field c = search needs
 
--- src/lib.rt:125:9
 put-field-requires : tie.Need-put-field-requires
 put-field-requires c κs = search needs
 
--- src/lib.rt:126:40
 slice-aggregate-put-field-2 : tie.Need-slice-aggregate-put-field-2
 slice-aggregate-put-field-2 c = search needs
 
--- src/lib.rt:126:9
 put-field-requires-2 : tie.Need-put-field-requires-2
 put-field-requires-2 c κs = search needs
 
--- src/lib.rt:127:40
 slice-aggregate-put-field-3 : tie.Need-slice-aggregate-put-field-3
 slice-aggregate-put-field-3 c = search needs
 
--- src/lib.rt:127:9
 put-field-requires-3 : tie.Need-put-field-requires-3
 put-field-requires-3 c κs = search needs
 
--- src/lib.rt:128:23
 slice-aggregate-put : tie.Need-slice-aggregate-put
 slice-aggregate-put c = search needs
 
--- src/lib.rt:128:5
 put-requires : tie.Need-put-requires
 put-requires c κs = search needs
 
--- src/lib.rt:120:1
 same-length : tie.Need-same-length
 same-length c = search needs
 
--- src/lib.rt:120:1
 returns : tie.Need-returns
 unfolding lineOf
 returns c =

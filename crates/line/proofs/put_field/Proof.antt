@@ -1,3 +1,5 @@
+-- `line::put_field` meets its contract: the digits are the number in decimal, and follow the label.
+-- Assumes nothing.
 use mathlib.Core.Path.{_≡_, ap, _∙_}
 use native.Mathlib.Omega.{arith}
 use lib.ListN.{length, take}
@@ -7,28 +9,19 @@ use Rattle.line.proofs.Puts.{put-more}
 use borrow.Author.Needs.{needs}
 use Rattle.line.proofs.put_field.Statement.{statement}
 use Rattle.line.proofs.put_field.Tie as tie
-use Rattle.line.proofs.put_field.Reads as reads
-use Rattle.line.proofs.put_field.Lts as lts
-use Rattle.io.proofs.decimal.Reads as decimal-reads
-use Rattle.line.proofs.put.Reads as put-reads
 
--- src/lib.rt:77:9
 decimal-requires : tie.Need-decimal-requires
 decimal-requires c κs = search needs
 
--- src/lib.rt:78:9
 put-requires : tie.Need-put-requires
 put-requires c κs = search needs
 
--- src/lib.rt:79:20
 array-share-prefix-digits : tie.Need-array-share-prefix-digits
 array-share-prefix-digits c = search needs
 
--- src/lib.rt:79:20
 slice-aggregate-put : tie.Need-slice-aggregate-put
 slice-aggregate-put c = search needs
 
--- src/lib.rt:79:5
 put-requires-2 : tie.Need-put-requires-2
 unfolding decimal
 put-requires-2 c κs =
@@ -37,11 +30,9 @@ put-requires-2 c κs =
     let long = ap length (said .1 .1 ∙ decimal-is number (c .before .before .before .before .before .before .decimal .result) (c .before .before .before .before .before .before .before .before .before .before .fits .number .fits) (said .1 .0)) in
     omega (arith, long, decimal-short 20 number, c .before .before .before .before .put .ensures .behind)
 
--- src/lib.rt:72:1
 same-length : tie.Need-same-length
 same-length c = search needs
 
--- src/lib.rt:72:1
 returns : tie.Need-returns
 unfolding decimal
 returns c =

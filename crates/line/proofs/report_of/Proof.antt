@@ -1,3 +1,5 @@
+-- `line::report_of` meets its contract: a frame that is handed out lies in the input, and each answer is the case of `reportOf` that led there.
+-- Assumes nothing.
 use mathlib.Core.Path.{sym, _∙_}
 use native.Mathlib.Nat.{add-sub-cancel-left}
 use native.Mathlib.Omega.{arith}
@@ -7,77 +9,55 @@ use Rattle.line.specs.Report.{reportOf}
 use borrow.Author.Needs.{needs}
 use Rattle.line.proofs.report_of.Statement.{statement}
 use Rattle.line.proofs.report_of.Tie as tie
-use Rattle.line.proofs.report_of.Reads as reads
-use Rattle.line.proofs.report_of.Lts as lts
-use Rattle.bundle.proofs.count_of.Reads as count-of-reads
-use Rattle.bundle.proofs.frame_at.Reads as frame-at-reads
-use Rattle.control.proofs.read.Reads as read-reads
-use Rattle.line.proofs.told.Reads as told-reads
 
--- src/lib.rt:56:9
 returns : tie.Need-returns
 unfolding reportOf
 returns c = simp (lt-ltb _ _ (c .if1 .taken))
 
--- src/lib.rt:58:11
 frame-at-requires : tie.Need-frame-at-requires
 frame-at-requires c κs = search needs
 
--- src/lib.rt:59:21
 enum-known-place : tie.Need-enum-known-place
 enum-known-place c = search needs
 
--- src/lib.rt:60:23
 add-end : tie.Need-add-end
 add-end c = omega (arith, frame-told _ _ _ _ (sym (c .before .before .before .frame-at .ensures) ∙ c .before .place .given .1) .inside)
 
--- src/lib.rt:61:41
 sub-read : tie.Need-sub-read
 sub-read c = search needs
 
--- src/lib.rt:61:41
 part-read-start : tie.Need-part-read-start
 part-read-start c = search needs
 
--- src/lib.rt:61:41
 part-read-end : tie.Need-part-read-end
 part-read-end c = omega (arith, frame-told _ _ _ _ (sym (c .before .before .before .frame-at .ensures) ∙ c .before .place .given .1) .inside)
 
--- src/lib.rt:61:17
 read-requires : tie.Need-read-requires
 read-requires c κs = search needs
 
--- src/lib.rt:62:17
 count-of-requires : tie.Need-count-of-requires
 count-of-requires c κs = search needs
 
--- src/lib.rt:63:27
 sub-told : tie.Need-sub-told
 sub-told c = omega (arith, frame-told _ _ _ _ (sym (c .before .before .before .before .before .before .frame-at .ensures) ∙ c .before .before .before .before .place .given .1) .counted, c .count-of .ensures)
 
--- src/lib.rt:63:13
 told-requires : tie.Need-told-requires
 told-requires c κs = search needs
 
--- src/lib.rt:65:26
 enum-told : tie.Need-enum-told
 enum-told c = search needs
 
--- src/lib.rt:66:27
 enum-told-2 : tie.Need-enum-told-2
 enum-told-2 c = search needs
 
--- src/lib.rt:52:1
 returns-2 : tie.Need-returns-2
 unfolding reportOf
 returns-2 c = simp (le-ltb _ _ (c .before .before .before .before .before .before .before .before .if1 .left), sym (c .before .before .before .before .before .before .before .frame-at .ensures) ∙ c .before .before .before .before .before .place .given .1, c .told .ensures, c .before .before .read .ensures, c .before .count-of .ensures, add-sub-cancel-left)
 
--- src/lib.rt:52:1
 returns-3 : tie.Need-returns-3
 unfolding reportOf
 returns-3 c = simp (le-ltb _ _ (c .before .before .before .if1 .left), sym (c .before .before .frame-at .ensures) ∙ c .enum-told .given .1)
 
--- src/lib.rt:52:1
 returns-4 : tie.Need-returns-4
 unfolding reportOf
 returns-4 c = simp (le-ltb _ _ (c .before .before .before .if1 .left), sym (c .before .before .frame-at .ensures) ∙ c .enum-told2 .given .1)

@@ -1,22 +1,18 @@
+-- `probe::contents_slots` meets its contract: the slots are what the contents carry.
+-- Assumes nothing.
 use borrow.Author.Needs.{needs}
 use Rattle.probe.proofs.contents_slots.Statement.{statement}
 use Rattle.probe.proofs.contents_slots.Tie as tie
-use Rattle.probe.proofs.contents_slots.Reads as reads
-use Rattle.probe.proofs.contents_slots.Lts as lts
 
--- src/lib.rt:76:28
 enum-known-contents : tie.Need-enum-known-contents
 enum-known-contents c = search needs
 
--- src/lib.rt:77:26
 enum-told : tie.Need-enum-told
 enum-told c = search needs
 
--- src/lib.rt:72:1
 returns : tie.Need-returns
 returns c = simp (c .before .contents .given .1)
 
--- src/lib.rt:72:1
 returns-2 : tie.Need-returns-2
 returns-2 c = search needs
 

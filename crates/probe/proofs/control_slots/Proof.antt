@@ -1,39 +1,30 @@
+-- `probe::control_slots` meets its contract: the slots are what the control frame carries.
+-- Assumes nothing.
 use borrow.Author.Needs.{needs}
 use Rattle.probe.proofs.control_slots.Statement.{statement}
 use Rattle.probe.proofs.control_slots.Tie as tie
-use Rattle.probe.proofs.control_slots.Reads as reads
-use Rattle.probe.proofs.control_slots.Lts as lts
-use Rattle.control.proofs.type_of.Reads as type-of-reads
 
--- src/lib.rt:103:25
 enum-known-control : tie.Need-enum-known-control
 enum-known-control c = search needs
 
--- src/lib.rt:103:54
 type-of-requires : tie.Need-type-of-requires
 type-of-requires c κs = search needs
 
--- src/lib.rt:103:54
 cast-t7 : tie.Need-cast-t7
 cast-t7 c = search needs
 
--- src/lib.rt:103:85
 cast-t8 : tie.Need-cast-t8
 cast-t8 c = search needs
 
--- src/lib.rt:103:99
 cast-t9 : tie.Need-cast-t9
 cast-t9 c = search needs
 
--- src/lib.rt:104:32
 enum-told : tie.Need-enum-told
 enum-told c = search needs
 
--- src/lib.rt:99:1
 returns : tie.Need-returns
 returns c = simp (c .before .before .control .given .1, c .type-of .ensures)
 
--- src/lib.rt:99:1
 returns-2 : tie.Need-returns-2
 returns-2 c = search needs
 

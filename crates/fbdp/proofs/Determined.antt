@@ -1,0 +1,8 @@
+-- For each entry: any two results which meet its contract, at the same arguments, coincide. Assumes nothing.
+use mathlib.Core.Path.{_≡_, sym, _∙_}
+use mathlib.Core.List.{List}
+use Prim.Native.Nat.{ℕ}
+use Rattle.fbdp.specs.Entries.{FrameAnswer}
+
+pub frame-determined : {bundle : List ℕ} {index number number′ : ℕ} {place place′ : List ℕ} → FrameAnswer bundle index number place → FrameAnswer bundle index number′ place′ → (number ≡ number′) × (place ≡ place′)
+frame-determined one other = (one .numbered ∙ sym (other .numbered), one .placed ∙ sym (other .placed))
