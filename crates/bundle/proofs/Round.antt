@@ -8,15 +8,15 @@ use native.Mathlib.Omega.{arith}
 use lib.ListN.{length, getD, take, length-append}
 use lib.Seq.{take-length, ext-getD}
 use lib.Dec.{ltb}
-use borrow.Author.Tests.{ltb-true, le-leb, eq-eqb}
-use Rattle.bytes_be.specs.Part.{tabulate, part}
+use borrow.Author.Tests.{leb-true, ltb-true, le-leb, eq-eqb}
+use Rattle.bytes_be.specs.Part.{tabulate, holds, part, putAt}
 use Rattle.bytes_be.specs.Number.{toBytes, numberAt}
 use Rattle.bytes_be.proofs.Tests.{both-true}
-use Rattle.bytes_be.proofs.Parts.{length-tabulate, getD-tabulate, length-part, part-then, part-behind, part-inside, part-front}
+use Rattle.bytes_be.proofs.Parts.{length-tabulate, getD-tabulate, length-part, part-then, part-put, part-behind, part-inside, part-front}
 use Rattle.bytes_be.proofs.Numbers.{Bytes, length-toBytes, from-to, bytes-there}
 use Rattle.bundle.specs.Reading.{countOf, lengthOf, lengthsBefore, placeOf, good, sizeOf, framesOf}
 use Rattle.bundle.proofs.Sums.{before-suc, before-grows, good-told, contents-inside, body-inside}
-use Rattle.bundle.specs.Writing.{lengthBytes, bundleOf, short}
+use Rattle.bundle.specs.Writing.{lengthBytes, bundleOf, short, writable, Written}
 
 -- the lengths, one behind the other
 
@@ -125,6 +125,16 @@ module _ (frames : List (List ℕ)) where
         let long : length (tabulate 0 (countOf (bundleOf frames)) f) ≡ length frames = length-tabulate f 0 (countOf (bundleOf frames)) ∙ count-back in
         ext-getD [] _ frames long
         (λ k h. getD-tabulate f 0 (countOf (bundleOf frames)) k [] (omega (arith, count-back)) ∙ ap f (zero-add k) ∙ frame-back k (omega arith))
+
+-- the bytes that a writer counted, at the start of the output, are the bundle of its frames
+pub message-written : {frames : List (List ℕ)} {before after : List ℕ} {count : ℕ} →
+    writable (length before) frames ≡ true → Written frames before count after → part after 0 count ≡ bundleOf frames
+unfolding writable
+message-written {frames} {before} {after} {count} can written =
+    let both = both-true (short frames) (holds (length before) 0 (length (bundleOf frames))) can in
+    let counted : count ≡ length (bundleOf frames) = simp can at (written .counted) in
+    let left : after ≡ putAt before 0 (bundleOf frames) = simp can at (written .left) in
+    ap₂ (λ (l : List ℕ) (n : ℕ). part l 0 n) left counted ∙ part-put before 0 (bundleOf frames) (leb-true _ _ (both .1))
 
 -- The other way: a good bundle is the bundle of its frames, so that each good bundle is written in one way alone.
 

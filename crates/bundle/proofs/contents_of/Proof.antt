@@ -17,10 +17,14 @@ cast-count c = search needs
 
 returns : tie.Need-returns
 unfolding contentsOf good
-returns c = simp (← (c .before .count-of .ensures), not-true (leb 1 (c .before .count-of .result) && leb (c .before .count-of .result) 16) (c .if1 .taken))
+returns c =
+    let count = c .before .count-of in
+    simp (← (count .ensures), not-true (leb 1 (count .result) && leb (count .result) 16) (c .if1 .taken))
 
 lengths-before-requires : tie.Need-lengths-before-requires
-lengths-before-requires c κs = leb-true _ _ (both-true (leb 1 (c .before .count-of .result)) (leb (c .before .count-of .result) 16) (not-false _ (c .if1 .left)) .1)
+lengths-before-requires c κs =
+    let count = c .before .count-of .result in
+    leb-true _ _ (both-true (leb 1 count) (leb count 16) (not-false _ (c .if1 .left)) .1)
 
 mul-end : tie.Need-mul-end
 mul-end c = search needs
@@ -33,11 +37,17 @@ add-end-2 c = search needs
 
 returns-2 : tie.Need-returns-2
 unfolding contentsOf good placeOf
-returns-2 c = simp (← (c .before .before .before .count-of .ensures), not-false (leb 1 (c .before .before .before .count-of .result) && leb (c .before .before .before .count-of .result) 16) (c .before .before .if1 .left), ← (c .before .lengths-before .ensures .0), ne-eqb _ _ (c .if2 .taken))
+returns-2 c =
+    let count = c .before .before .before .count-of in
+    let counted = not-false (leb 1 (count .result) && leb (count .result) 16) (c .before .before .if1 .left) in
+    simp (← (count .ensures), counted, ← (c .before .lengths-before .ensures .0), ne-eqb _ _ (c .if2 .taken))
 
 returns-3 : tie.Need-returns-3
 unfolding contentsOf good placeOf sizeOf
-returns-3 c = simp (← (c .before .before .before .count-of .ensures), not-false (leb 1 (c .before .before .before .count-of .result) && leb (c .before .before .before .count-of .result) 16) (c .before .before .if1 .left), ← (c .before .lengths-before .ensures .0), eq-eqb _ _ (c .if2 .left))
+returns-3 c =
+    let count = c .before .before .before .count-of in
+    let counted = not-false (leb 1 (count .result) && leb (count .result) 16) (c .before .before .if1 .left) in
+    simp (← (count .ensures), counted, ← (c .before .lengths-before .ensures .0), eq-eqb _ _ (c .if2 .left))
 
 pub contents-of-spec : {M : Type 1} → statement M
 contents-of-spec =

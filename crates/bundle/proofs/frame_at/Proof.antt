@@ -4,10 +4,14 @@ use mathlib.Core.Path.{sym, _∙_}
 use native.Mathlib.Omega.{arith}
 use borrow.Author.Tests.{lt-ltb, le-ltb}
 use Rattle.bundle.specs.Reading.{frameOf, placeOf}
-use Rattle.bundle.proofs.Sums.{contents-told, contents-none}
+use Rattle.bundle.proofs.Sums.{Good, contents-told, contents-none}
 use borrow.Author.Needs.{needs}
 use Rattle.bundle.proofs.frame_at.Statement.{statement}
 use Rattle.bundle.proofs.frame_at.Tie as tie
+
+-- where there are contents, the bundle is good
+is-good : (c : tie.After-count) → Good (c .before .before .before .before .args .s .now) (c .count .given .0 .0)
+is-good c = contents-told _ _ _ (sym (c .before .before .contents-of .ensures) ∙ c .count .given .1)
 
 contents-of-requires : tie.Need-contents-of-requires
 contents-of-requires c κs = search needs
@@ -25,23 +29,23 @@ returns c = simp (contents-none _ (sym (c .before .before .contents-of .ensures)
 returns-2 : tie.Need-returns-2
 unfolding frameOf
 returns-2 c =
-    let g = contents-told _ _ _ (sym (c .before .before .before .before .contents-of .ensures) ∙ c .before .before .count .given .1) in
+    let g = is-good (c .before .before) in
     simp (g .is-good, g .counted, le-ltb _ _ (c .if1 .taken))
 
 mul-place : tie.Need-mul-place
-mul-place c = omega (arith, contents-told _ _ _ (sym (c .before .before .before .before .contents-of .ensures) ∙ c .before .before .count .given .1) .few)
+mul-place c = omega (arith, is-good (c .before .before) .few)
 
 add-place : tie.Need-add-place
-add-place c = omega (arith, contents-told _ _ _ (sym (c .before .before .before .before .contents-of .ensures) ∙ c .before .before .count .given .1) .few)
+add-place c = omega (arith, is-good (c .before .before) .few)
 
 lengths-before-requires : tie.Need-lengths-before-requires
-lengths-before-requires c κs = omega (arith, contents-told _ _ _ (sym (c .before .before .before .before .contents-of .ensures) ∙ c .before .before .count .given .1) .few)
+lengths-before-requires c κs = omega (arith, is-good (c .before .before) .few)
 
 add-place-2 : tie.Need-add-place-2
-add-place-2 c = omega (arith, contents-told _ _ _ (sym (c .before .before .before .before .before .contents-of .ensures) ∙ c .before .before .before .count .given .1) .few)
+add-place-2 c = omega (arith, is-good (c .before .before .before) .few)
 
 length-of-requires : tie.Need-length-of-requires
-length-of-requires c κs = omega (arith, contents-told _ _ _ (sym (c .before .before .before .before .before .contents-of .ensures) ∙ c .before .before .before .count .given .1) .few)
+length-of-requires c κs = omega (arith, is-good (c .before .before .before) .few)
 
 cast-t7 : tie.Need-cast-t7
 cast-t7 c = search needs
@@ -49,7 +53,7 @@ cast-t7 c = search needs
 returns-3 : tie.Need-returns-3
 unfolding frameOf placeOf
 returns-3 c =
-    let g = contents-told _ _ _ (sym (c .before .before .before .before .before .before .contents-of .ensures) ∙ c .before .before .before .before .count .given .1) in
+    let g = is-good (c .before .before .before .before) in
     simp (g .is-good, g .counted, lt-ltb _ _ (c .before .before .if1 .left), c .before .lengths-before .ensures .0, c .length-of .ensures)
 
 pub frame-at-spec : {M : Type 1} → statement M

@@ -28,8 +28,12 @@ same-length c = search needs
 
 returns-2 : tie.Need-returns-2
 returns-2 c =
-    let a = c .before .before .before .before .before .before .before .before .before .before .before .before .args in
-    rw (c .before .before .copy-at2 .ensures, c .before .before .before .before .before .before .before .copy-at .ensures) (wrote-one (a .t2) (omega (arith, c .before .before .before .before .before .before .before .before .before .before .before .before .good)) (a .out .now) (c .before .before .before .before .before .before .before .before .before .before .if1 .left))
+    let copied = c .before .before in
+    let headed = copied .before .before .before .before .before in
+    let start = headed .before .before .before .before .before in
+    let a = start .args in
+    rw (copied .copy-at2 .ensures, headed .copy-at .ensures)
+    (wrote-one (a .t2) (omega (arith, start .good)) (a .out .now) (headed .before .before .before .if1 .left))
 
 pub write-one-spec : {M : Type 1} → statement M
 write-one-spec =

@@ -12,16 +12,20 @@ use Rattle.bundle.proofs.write_two.Tie as tie
 
 returns : tie.Need-returns
 returns c =
-    let a = c .before .before .before .args in
-    too-long-two (a .t2) (omega (arith, c .before .before .before .good)) (a .out .now) (a .second .now) (c .if1 .taken)
+    let start = c .before .before .before in
+    let a = start .args in
+    too-long-two (a .t2) (omega (arith, start .good)) (a .out .now) (a .second .now) (c .if1 .taken)
 
 holds-requires : tie.Need-holds-requires
 holds-requires c κs = search needs
 
 returns-2 : tie.Need-returns-2
 returns-2 c =
-    let a = c .before .before .before .before .before .args in
-    no-room-two (a .t2) (omega (arith, c .before .before .before .before .before .good)) (a .out .now) (a .second .now) (omega arith) (leb-false _ _ (sym (c .before .holds .ensures) ∙ not-true (c .before .holds .result) (c .if2 .taken)))
+    let start = c .before .before .before .before .before in
+    let a = start .args in
+    let tested = c .before .holds in
+    let none = leb-false _ _ (sym (tested .ensures) ∙ not-true (tested .result) (c .if2 .taken)) in
+    no-room-two (a .t2) (omega (arith, start .good)) (a .out .now) (a .second .now) (omega arith) none
 
 slice-aggregate-copy-at : tie.Need-slice-aggregate-copy-at
 slice-aggregate-copy-at c = search needs
@@ -52,9 +56,17 @@ same-length c = search needs
 
 returns-3 : tie.Need-returns-3
 returns-3 c =
-    let a = c .before .before .before .before .before .before .before .before .before .before .before .before .before .before .before .before .before .before .before .before .before .before .before .args in
-    let room : 18 + length (a .second .now) ≤ length (a .out .now) = leb-true _ _ (sym (c .before .before .before .before .before .before .before .before .before .before .before .before .before .before .before .before .before .before .before .holds .ensures) ∙ not-false (c .before .before .before .before .before .before .before .before .before .before .before .before .before .before .before .before .before .before .before .holds .result) (c .before .before .before .before .before .before .before .before .before .before .before .before .before .before .before .before .before .before .if2 .left)) in
-    rw (c .before .before .copy-at3 .ensures, c .before .before .before .before .before .before .copy-at2 .ensures, c .before .before .before .before .before .before .before .before .before .before .before .store32 .ensures, c .before .before .before .before .before .before .before .before .before .before .before .before .before .before .before .copy-at .ensures) (wrote-two (a .t2) (omega (arith, c .before .before .before .before .before .before .before .before .before .before .before .before .before .before .before .before .before .before .before .before .before .before .before .good)) (a .out .now) (a .second .now) (omega arith) room)
+    let copied = c .before .before in
+    let framed = copied .before .before .before .before in
+    let sized = framed .before .before .before .before .before in
+    let headed = sized .before .before .before .before in
+    let taken = headed .before .before .before in
+    let start = taken .before .before .before .before .before in
+    let a = start .args in
+    let tested = taken .before .holds in
+    let room = leb-true _ _ (sym (tested .ensures) ∙ not-false (tested .result) (taken .if2 .left)) in
+    rw (copied .copy-at3 .ensures, framed .copy-at2 .ensures, sized .store32 .ensures, headed .copy-at .ensures)
+    (wrote-two (a .t2) (omega (arith, start .good)) (a .out .now) (a .second .now) (omega arith) room)
 
 pub write-two-spec : {M : Type 1} → statement M
 write-two-spec =

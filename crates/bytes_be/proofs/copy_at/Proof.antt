@@ -22,7 +22,9 @@ holds-requires : tie.Need-holds-requires Inv-loop μ-loop
 holds-requires c κs = search needs
 
 loop-holds : tie.Need-loop-holds Inv-loop μ-loop
-loop-holds c = (search needs, leb-true _ _ (sym (c .before .holds .ensures) ∙ c .if1 .taken), search needs, let a = c .before .before .before .before .args in paste-zero (a .out .now) (a .at) (a .bytes .now))
+loop-holds c =
+    let a = c .before .before .before .before .args in
+    (search needs, leb-true _ _ (sym (c .before .holds .ensures) ∙ c .if1 .taken), search needs, paste-zero (a .out .now) (a .at) (a .bytes .now))
 
 shared-slice-read-out : tie.Need-shared-slice-read-out Inv-loop μ-loop
 shared-slice-read-out c = search needs
@@ -42,10 +44,10 @@ loop-less c = search needs
 loop-again : tie.Need-loop-again Inv-loop μ-loop
 loop-again c =
     let at-loop = c .before .before in
-    let start = at-loop .before .before .before .before .before in
-    let at = start .args .at in
+    let a = at-loop .before .before .before .before .before .args in
     let i = at-loop .loop .i in
-    (search needs, at-loop .loop .inv .1, simp length-set (at-loop .loop .inv .2), rw (at-loop .loop .inv .3, add-one) (paste-suc (start .args .out .now) at (start .args .bytes .now) i 0 (omega arith) (omega arith)))
+    let stored = paste-suc (a .out .now) (a .at) (a .bytes .now) i 0 (omega arith) (omega arith) in
+    (search needs, at-loop .loop .inv .1, simp length-set (at-loop .loop .inv .2), rw (at-loop .loop .inv .3, add-one) stored)
 
 same-length : tie.Need-same-length Inv-loop μ-loop
 same-length c = c .before .loop .inv .2
@@ -53,9 +55,11 @@ same-length c = c .before .loop .inv .2
 returns : tie.Need-returns Inv-loop μ-loop
 returns c =
     let at-loop = c .before in
-    let start = at-loop .before .before .before .before .before in
-    let all : at-loop .loop .i ≡ length (start .args .bytes .now) = omega arith in
-    at-loop .loop .inv .3 ∙ ap (paste (start .args .out .now) (start .args .at) (start .args .bytes .now)) all ∙ put-paste _ _ _ (at-loop .loop .inv .1)
+    let a = at-loop .before .before .before .before .before .args in
+    let all : at-loop .loop .i ≡ length (a .bytes .now) = omega arith in
+    at-loop .loop .inv .3
+    ∙ ap (paste (a .out .now) (a .at) (a .bytes .now)) all
+    ∙ put-paste _ _ _ (at-loop .loop .inv .1)
 
 returns-2 : tie.Need-returns-2 Inv-loop μ-loop
 returns-2 c = sym (put-none _ _ _ (leb-false _ _ (sym (c .before .holds .ensures) ∙ c .if1 .left)))

@@ -48,7 +48,8 @@ wide-requires c κs = search needs
 add-n : tie.Need-add-n Inv-loop μ-loop
 add-n c =
     let at-loop = c .before .before .before in
-    omega (arith, room-for-one {i = at-loop .loop .i} {n = at-loop .loop .n} (omega arith) (at-loop .loop .inv .3), c .before .shared-slice-known2 .given (at-loop .before .before .before .before .args .at + at-loop .loop .i))
+    let small = room-for-one {i = at-loop .loop .i} {n = at-loop .loop .n} (omega arith) (at-loop .loop .inv .3) in
+    omega (arith, small, c .before .shared-slice-known2 .given (at-loop .before .before .before .before .args .at + at-loop .loop .i))
 
 add-i : tie.Need-add-i Inv-loop μ-loop
 add-i c = omega arith
@@ -60,8 +61,10 @@ loop-again : tie.Need-loop-again Inv-loop μ-loop
 loop-again c =
     let at-loop = c .before .before .before in
     let a = at-loop .before .before .before .before .args in
-    let here = a .at + at-loop .loop .i in
-    (omega arith, at-loop .loop .inv .1, rw (c .wide .ensures) (number-more (a .s .now) (a .at) (at-loop .loop .i) (at-loop .loop .n) (omega arith) (at-loop .loop .inv .2)), more-below (at-loop .loop .i) (at-loop .loop .inv .3) (omega (arith, c .before .shared-slice-known2 .given here)))
+    let i = at-loop .loop .i in
+    let byte = c .before .shared-slice-known2 .given (a .at + i) in
+    let more = number-more (a .s .now) (a .at) i (at-loop .loop .n) (omega arith) (at-loop .loop .inv .2) in
+    (omega arith, at-loop .loop .inv .1, rw (c .wide .ensures) more, more-below i (at-loop .loop .inv .3) (omega (arith, byte)))
 
 returns-2 : tie.Need-returns-2 Inv-loop μ-loop
 unfolding numberAt

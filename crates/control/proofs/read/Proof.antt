@@ -30,7 +30,9 @@ enum-told-2 c = search needs
 
 returns-2 : tie.Need-returns-2
 unfolding controlOf
-returns-2 c = simp (sym (c .before .before .before .before .before .before .signed-of .ensures) ∙ c .before .before .before .before .control .given .1, sym (c .before .before .version-of .ensures) ∙ c .enum-told2 .given .1)
+returns-2 c =
+    let signed = c .before .before .before .before in
+    simp (sym (signed .before .before .signed-of .ensures) ∙ signed .control .given .1, sym (c .before .before .version-of .ensures) ∙ c .enum-told2 .given .1)
 
 named-of-requires : tie.Need-named-of-requires
 named-of-requires c κs = search needs
@@ -43,11 +45,26 @@ enum-told-3 c = search needs
 
 returns-3 : tie.Need-returns-3
 unfolding controlOf
-returns-3 c = simp (sym (c .before .before .before .before .before .before .before .before .before .before .signed-of .ensures) ∙ c .before .before .before .before .before .before .before .before .control .given .1, sym (c .before .before .before .before .before .before .version-of .ensures) ∙ c .before .before .before .before .number .given .1, sym (c .before .before .named-of .ensures) ∙ c .enum-told3 .given .1)
+returns-3 c =
+    let versioned = c .before .before .before .before in
+    let signed = versioned .before .before .before .before in
+    simp (
+      sym (signed .before .before .signed-of .ensures) ∙ signed .control .given .1,
+      sym (versioned .before .before .version-of .ensures) ∙ versioned .number .given .1,
+      sym (c .before .before .named-of .ensures) ∙ c .enum-told3 .given .1,
+    )
 
 returns-4 : tie.Need-returns-4
 unfolding controlOf
-returns-4 c = simp (sym (c .before .before .before .before .before .before .before .before .before .before .before .signed-of .ensures) ∙ c .before .before .before .before .before .before .before .before .before .control .given .1, sym (c .before .before .before .before .before .before .before .version-of .ensures) ∙ c .before .before .before .before .before .number .given .1, sym (c .before .before .before .named-of .ensures) ∙ c .before .kind .given .1)
+returns-4 c =
+    let named = c .before in
+    let versioned = named .before .before .before .before in
+    let signed = versioned .before .before .before .before in
+    simp (
+      sym (signed .before .before .signed-of .ensures) ∙ signed .control .given .1,
+      sym (versioned .before .before .version-of .ensures) ∙ versioned .number .given .1,
+      sym (named .before .before .named-of .ensures) ∙ named .kind .given .1,
+    )
 
 pub read-spec : {M : Type 1} → statement M
 read-spec =

@@ -41,16 +41,21 @@ same-length c = search needs
 returns : tie.Need-returns
 unfolding lineOf
 returns c =
-    let named = c .before .before .before .before .before .before .before .before .before .before .before .before .before .before .before .before .before .before .before .before .before .before .put-name .ensures in
-    let flagged = c .before .before .before .before .before .before .before .before .before .before .before .before .before .before .before .before .before .put-field .ensures in
-    let said = c .before .before .before .before .before .before .before .before .before .before .before .before .put-field2 .ensures in
-    let counted = c .before .before .before .before .before .before .before .put-field3 .ensures in
-    let ended = c .before .before .put .ensures in
-    let first = put-more (named .0) (flagged .0) (omega (arith, named .1, flagged .1)) in
-    let second = put-more first (said .0) (omega (arith, named .1, flagged .1, said .1)) in
-    let third = put-more second (counted .0) (omega (arith, named .1, flagged .1, said .1, counted .1)) in
-    let room : c .before .before .put .result ≤ 96 = omega (arith, named .1, flagged .1, said .1, counted .1, ended .behind) in
-    put-filled (put-more third ended (omega arith)) (omega arith)
+    let ended = c .before .before in
+    let counted = ended .before .before .before .before .before in
+    let said = counted .before .before .before .before .before in
+    let flagged = said .before .before .before .before .before in
+    let named = flagged .before .before .before .before .before in
+    let first = named .put-name .ensures in
+    let second = flagged .put-field .ensures in
+    let third = said .put-field2 .ensures in
+    let fourth = counted .put-field3 .ensures in
+    let last = ended .put .ensures in
+    let room : ended .put .result ≤ 96 = omega (arith, first .1, second .1, third .1, fourth .1, last .behind) in
+    let one = put-more (first .0) (second .0) (omega (arith, first .1, second .1)) in
+    let two = put-more one (third .0) (omega (arith, first .1, second .1, third .1)) in
+    let three = put-more two (fourth .0) (omega (arith, first .1, second .1, third .1, fourth .1)) in
+    put-filled (put-more three last (omega arith)) (omega arith)
 
 pub fill-message-spec : {M : Type 1} → statement M
 fill-message-spec =

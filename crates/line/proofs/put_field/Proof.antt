@@ -25,10 +25,11 @@ slice-aggregate-put c = search needs
 put-requires-2 : tie.Need-put-requires-2
 unfolding decimal
 put-requires-2 c κs =
-    let number = c .before .before .before .before .before .before .before .before .before .before .args .number in
-    let said = c .before .before .before .before .before .before .decimal .ensures in
-    let long = ap length (said .1 .1 ∙ decimal-is number (c .before .before .before .before .before .before .decimal .result) (c .before .before .before .before .before .before .before .before .before .before .fits .number .fits) (said .1 .0)) in
-    omega (arith, long, decimal-short 20 number, c .before .before .before .before .put .ensures .behind)
+    let said = c .before .before .before .before .before .before .decimal in
+    let start = c .before .before .before .before .before .before .before .before .before .before in
+    let number = start .args .number in
+    let spelled = said .ensures .1 .1 ∙ decimal-is number (said .result) (start .fits .number .fits) (said .ensures .1 .0) in
+    omega (arith, ap length spelled, decimal-short 20 number, c .before .before .before .before .put .ensures .behind)
 
 same-length : tie.Need-same-length
 same-length c = search needs
@@ -36,13 +37,14 @@ same-length c = search needs
 returns : tie.Need-returns
 unfolding decimal
 returns c =
-    let count = c .before .before .before .before .before .before .before .before .before .decimal .result in
-    let number = c .before .before .before .before .before .before .before .before .before .before .before .before .before .args .number in
-    let said = c .before .before .before .before .before .before .before .before .before .decimal .ensures in
-    let spelled : take count (c .before .before .before .before .before .before .before .before .before .decimal .last .1 .0) ≡ decimal number = said .1 .1 ∙ decimal-is number count (c .before .before .before .before .before .before .before .before .before .before .before .before .before .fits .number .fits) (said .1 .0) in
-    let digits = rw spelled at (c .before .before .put2 .ensures) in
+    let said = c .before .before .before .before .before .before .before .before .before .decimal in
+    let start = c .before .before .before .before .before .before .before .before .before .before .before .before .before in
+    let number = start .args .number in
+    let spelled = said .ensures .1 .1 ∙ decimal-is number (said .result) (start .fits .number .fits) (said .ensures .1 .0) in
     let label = c .before .before .before .before .before .before .before .put .ensures in
-    (put-more label digits (omega (arith, label .behind, digits .behind, decimal-short 20 number)), omega (arith, label .behind, digits .behind, decimal-short 20 number))
+    let digits = rw spelled at (c .before .before .put2 .ensures) in
+    let near = decimal-short 20 number in
+    (put-more label digits (omega (arith, label .behind, digits .behind)), omega (arith, label .behind, digits .behind))
 
 pub put-field-spec : {M : Type 1} → statement M
 put-field-spec =

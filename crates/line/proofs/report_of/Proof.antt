@@ -4,11 +4,15 @@ use mathlib.Core.Path.{sym, _∙_}
 use native.Mathlib.Nat.{add-sub-cancel-left}
 use native.Mathlib.Omega.{arith}
 use borrow.Author.Tests.{lt-ltb, le-ltb}
-use Rattle.bundle.proofs.Sums.{frame-told}
+use Rattle.bundle.proofs.Sums.{There, frame-told}
 use Rattle.line.specs.Report.{reportOf}
 use borrow.Author.Needs.{needs}
 use Rattle.line.proofs.report_of.Statement.{statement}
 use Rattle.line.proofs.report_of.Tie as tie
+
+-- what is known of the frame that was found
+is-there : (c : tie.After-place) → There (c .before .before .before .before .before .args .input .now) 0 (c .place .given .0 .0) (c .place .given .0 .1 .0)
+is-there c = frame-told _ _ _ _ (sym (c .before .before .frame-at .ensures) ∙ c .place .given .1)
 
 returns : tie.Need-returns
 unfolding reportOf
@@ -21,7 +25,7 @@ enum-known-place : tie.Need-enum-known-place
 enum-known-place c = search needs
 
 add-end : tie.Need-add-end
-add-end c = omega (arith, frame-told _ _ _ _ (sym (c .before .before .before .frame-at .ensures) ∙ c .before .place .given .1) .inside)
+add-end c = omega (arith, is-there (c .before) .inside)
 
 sub-read : tie.Need-sub-read
 sub-read c = search needs
@@ -30,7 +34,7 @@ part-read-start : tie.Need-part-read-start
 part-read-start c = search needs
 
 part-read-end : tie.Need-part-read-end
-part-read-end c = omega (arith, frame-told _ _ _ _ (sym (c .before .before .before .frame-at .ensures) ∙ c .before .place .given .1) .inside)
+part-read-end c = omega (arith, is-there (c .before) .inside)
 
 read-requires : tie.Need-read-requires
 read-requires c κs = search needs
@@ -39,7 +43,7 @@ count-of-requires : tie.Need-count-of-requires
 count-of-requires c κs = search needs
 
 sub-told : tie.Need-sub-told
-sub-told c = omega (arith, frame-told _ _ _ _ (sym (c .before .before .before .before .before .before .frame-at .ensures) ∙ c .before .before .before .before .place .given .1) .counted, c .count-of .ensures)
+sub-told c = omega (arith, is-there (c .before .before .before .before) .counted, c .count-of .ensures)
 
 told-requires : tie.Need-told-requires
 told-requires c κs = search needs
@@ -52,7 +56,16 @@ enum-told-2 c = search needs
 
 returns-2 : tie.Need-returns-2
 unfolding reportOf
-returns-2 c = simp (le-ltb _ _ (c .before .before .before .before .before .before .before .before .if1 .left), sym (c .before .before .before .before .before .before .before .frame-at .ensures) ∙ c .before .before .before .before .before .place .given .1, c .told .ensures, c .before .before .read .ensures, c .before .count-of .ensures, add-sub-cancel-left)
+returns-2 c =
+    let found = c .before .before .before .before .before in
+    simp (
+      le-ltb _ _ (found .before .before .before .if1 .left),
+      sym (found .before .before .frame-at .ensures) ∙ found .place .given .1,
+      c .told .ensures,
+      c .before .before .read .ensures,
+      c .before .count-of .ensures,
+      add-sub-cancel-left,
+    )
 
 returns-3 : tie.Need-returns-3
 unfolding reportOf

@@ -27,7 +27,10 @@ same-length : tie.Need-same-length
 same-length c = search needs
 
 returns-2 : tie.Need-returns-2
-returns-2 c = rw (sym (c .before .before .before .before .before .before .before .before .named-of .ensures) ∙ c .before .before .before .before .before .before .kind .given .1, sym (c .before .before .before .before .bytes-of .ensures)) (c .before .before .write-two .ensures)
+returns-2 c =
+    let written = c .before .before in
+    let known = written .before .before .before .before in
+    rw (sym (known .before .before .named-of .ensures) ∙ known .kind .given .1, sym (written .before .before .bytes-of .ensures)) (written .write-two .ensures)
 
 pub probe-write-two-spec : {M : Type 1} → statement M
 probe-write-two-spec =
