@@ -13,7 +13,8 @@ use Rattle.bundle.specs.Writing.{bundleOf, short, writable, Written}
 
 module _ (frames : List (List ℕ)) (out : List ℕ) where
   -- it fits, and is written
-  pub wrote : (n : ℕ) (after : List ℕ) → short frames ≡ true → length (bundleOf frames) ≡ n → n ≤ length out → after ≡ putAt out 0 (bundleOf frames) → Written frames out n after
+  pub wrote : (n : ℕ) (after : List ℕ) → short frames ≡ true → length (bundleOf frames) ≡ n → n ≤ length out →
+      after ≡ putAt out 0 (bundleOf frames) → Written frames out n after
   unfolding writable
   wrote n after all e room same =
       let fits : holds (length out) 0 (length (bundleOf frames)) ≡ true = le-leb (0 + length (bundleOf frames)) (length out) (omega arith) in

@@ -13,7 +13,7 @@ use Rattle.bytes_be.specs.Part.{tabulate, holds, part, putAt}
 use Rattle.bytes_be.specs.Number.{toBytes, numberAt}
 use Rattle.bytes_be.proofs.Tests.{both-true}
 use Rattle.bytes_be.proofs.Parts.{length-tabulate, getD-tabulate, length-part, part-then, part-put, part-behind, part-inside, part-front}
-use Rattle.bytes_be.proofs.Numbers.{Bytes, length-toBytes, from-to, bytes-there}
+use Rattle.bytes_be.proofs.Numbers.{Bytes, length-toBytes, number-is, bytes-there}
 use Rattle.bundle.specs.Reading.{countOf, lengthOf, lengthsBefore, placeOf, good, sizeOf, framesOf}
 use Rattle.bundle.proofs.Sums.{before-suc, before-grows, good-told, contents-inside, body-inside}
 use Rattle.bundle.specs.Writing.{lengthBytes, bundleOf, short, writable, Written}
@@ -38,7 +38,8 @@ part-lengths (f ∷ rest) (suc k) h =
 
 -- the bodies, one behind the other
 
-bodies-more : (frames : List (List ℕ)) (k : ℕ) → k < length frames → length (flatten (take (suc k) frames)) ≡ length (flatten (take k frames)) + length (getD frames k [])
+bodies-more : (frames : List (List ℕ)) (k : ℕ) → k < length frames →
+    length (flatten (take (suc k) frames)) ≡ length (flatten (take k frames)) + length (getD frames k [])
 unfolding flatten
 bodies-more [] k h = absurd (omega arith)
 bodies-more (f ∷ rest) zero h = length-append f [] ∙ omega arith
@@ -46,7 +47,8 @@ bodies-more (f ∷ rest) (suc k) h =
     length-append f (flatten (take (suc k) rest))
     ∙ omega (arith, bodies-more rest k (omega arith), length-append f (flatten (take k rest)))
 
-part-bodies : (frames : List (List ℕ)) (k : ℕ) → k < length frames → part (flatten frames) (length (flatten (take k frames))) (length (getD frames k [])) ≡ getD frames k []
+part-bodies : (frames : List (List ℕ)) (k : ℕ) → k < length frames →
+    part (flatten frames) (length (flatten (take k frames))) (length (getD frames k [])) ≡ getD frames k []
 unfolding flatten
 part-bodies [] k h = absurd (omega arith)
 part-bodies (f ∷ rest) zero h = part-front f (flatten rest) (length f) refl
@@ -61,34 +63,40 @@ short-at [] k all h = absurd (omega arith)
 short-at (f ∷ rest) zero all h = ltb-true (length f) (256 ^ 4) (both-true (ltb (length f) (256 ^ 4)) (short rest) all .0)
 short-at (f ∷ rest) (suc k) all h = short-at rest k (both-true (ltb (length f) (256 ^ 4)) (short rest) all .1) (omega arith)
 
+-- the contents of a bundle, in front of its bodies
+abbrev contents : List (List ℕ) → List ℕ
+contents frames = toBytes 2 (length frames) ++ flatMap lengthBytes frames
+
 module _ (frames : List (List ℕ)) where
-  front : length (toBytes 2 (length frames) ++ flatMap lengthBytes frames) ≡ 2 + 4 * length frames
-  front = length-append (toBytes 2 (length frames)) (flatMap lengthBytes frames) ∙ omega (arith, length-toBytes 2 (length frames), length-lengths frames)
+  length-contents : length (contents frames) ≡ 2 + 4 * length frames
+  length-contents =
+      length-append (toBytes 2 (length frames)) (flatMap lengthBytes frames)
+      ∙ omega (arith, length-toBytes 2 (length frames), length-lengths frames)
 
   pub length-bundle : length (bundleOf frames) ≡ 2 + 4 * length frames + length (flatten frames)
   unfolding bundleOf
-  length-bundle = length-append (toBytes 2 (length frames) ++ flatMap lengthBytes frames) (flatten frames) ∙ omega (arith, front)
+  length-bundle = length-append (contents frames) (flatten frames) ∙ omega (arith, length-contents)
 
-  -- a number that is a part of the bundle is the number there
-  number-there : (width at n : ℕ) → at + width ≤ length (bundleOf frames) → n < 256 ^ width → part (bundleOf frames) at width ≡ toBytes width n → numberAt width (bundleOf frames) at ≡ n
-  unfolding numberAt
-  number-there width at n inside small same = simp (le-leb (at + width) (length (bundleOf frames)) inside, same) (from-to width n small)
+  -- the count in front of the lengths
+  count-first : bundleOf frames ≡ toBytes 2 (length frames) ++ (flatMap lengthBytes frames ++ flatten frames)
+  unfolding bundleOf
+  count-first = append-assoc (toBytes 2 (length frames)) (flatMap lengthBytes frames) (flatten frames)
 
   module _ (few : length frames ≤ 16) (all : short frames ≡ true) where
     pub count-back : countOf (bundleOf frames) ≡ length frames
-    unfolding countOf bundleOf
+    unfolding countOf
     count-back =
-        number-there 2 0 (length frames) (omega (arith, length-bundle)) (omega arith)
-        (ap (λ (l : List ℕ). part l 0 2) (append-assoc (toBytes 2 (length frames)) (flatMap lengthBytes frames) (flatten frames)) ∙ part-front (toBytes 2 (length frames)) (flatMap lengthBytes frames ++ flatten frames) 2 (length-toBytes 2 (length frames)))
+        number-is 2 (bundleOf frames) 0 (length frames) (omega (arith, length-bundle)) (omega arith)
+        (rw count-first (part-front (toBytes 2 (length frames)) _ 2 (length-toBytes 2 (length frames))))
 
     pub length-back : (k : ℕ) → k < length frames → lengthOf (bundleOf frames) k ≡ length (getD frames k [])
-    unfolding lengthOf bundleOf
+    unfolding lengthOf
     length-back k h =
-        number-there 4 (2 + 4 * k) (length (getD frames k [])) (omega (arith, length-bundle)) (short-at frames k all h)
-        (ap (λ (l : List ℕ). part l (2 + 4 * k) 4) (append-assoc (toBytes 2 (length frames)) (flatMap lengthBytes frames) (flatten frames))
-        ∙ part-behind (toBytes 2 (length frames)) (flatMap lengthBytes frames ++ flatten frames) 2 (4 * k) 4 (length-toBytes 2 (length frames))
+        number-is 4 (bundleOf frames) (2 + 4 * k) (length (getD frames k [])) (omega (arith, length-bundle)) (short-at frames k all h)
+        (rw count-first
+        (part-behind (toBytes 2 (length frames)) (flatMap lengthBytes frames ++ flatten frames) 2 (4 * k) 4 (length-toBytes 2 (length frames))
         ∙ part-inside (flatMap lengthBytes frames) (flatten frames) (4 * k) 4 (omega (arith, length-lengths frames))
-        ∙ part-lengths frames k h)
+        ∙ part-lengths frames k h))
 
     pub before-back : (k : ℕ) → k ≤ length frames → lengthsBefore (bundleOf frames) k ≡ length (flatten (take k frames))
     unfolding lengthsBefore flatten
@@ -99,32 +107,36 @@ module _ (frames : List (List ℕ)) where
     unfolding placeOf
     place-back k h = omega (arith, count-back, before-back k h)
 
+    -- the bundle's size is that of its frames
+    pub size-back : sizeOf (bundleOf frames) ≡ length (flatten frames)
+    unfolding sizeOf
+    size-back = simp count-back (rw (take-length frames) at (before-back (length frames) (omega arith)))
+
     -- what was written is a good bundle
     pub good-back : 1 ≤ length frames → good (bundleOf frames) ≡ true
     unfolding good
     good-back some =
-        let ends : placeOf (bundleOf frames) (length frames) ≡ length (bundleOf frames) = place-back (length frames) (omega arith) ∙ ap (λ (l : List (List ℕ)). 2 + 4 * length frames + length (flatten l)) (take-length frames) ∙ sym length-bundle in
-        simp (count-back, le-leb 1 (length frames) some, le-leb (length frames) 16 few, eq-eqb (placeOf (bundleOf frames) (length frames)) (length (bundleOf frames)) ends)
-
-    -- and its size is that of its frames
-    pub size-back : sizeOf (bundleOf frames) ≡ length (flatten frames)
-    unfolding sizeOf
-    size-back = ap (lengthsBefore (bundleOf frames)) count-back ∙ before-back (length frames) (omega arith) ∙ ap (λ (l : List (List ℕ)). length (flatten l)) (take-length frames)
+        let last = rw (take-length frames) at (place-back (length frames) (omega arith)) in
+        let ends : placeOf (bundleOf frames) (length frames) ≡ length (bundleOf frames) = last ∙ sym length-bundle in
+        simp (count-back, le-leb 1 (length frames) some, le-leb (length frames) 16 few, eq-eqb _ _ ends)
 
     frame-back : (k : ℕ) → k < length frames → part (bundleOf frames) (placeOf (bundleOf frames) k) (lengthOf (bundleOf frames) k) ≡ getD frames k []
     unfolding bundleOf
     frame-back k h =
+        let before : ℕ = length (flatten (take k frames)) in
+        let size : ℕ = length (getD frames k []) in
         simp (place-back k (omega arith), length-back k h)
-        (part-behind (toBytes 2 (length frames) ++ flatMap lengthBytes frames) (flatten frames) (2 + 4 * length frames) (length (flatten (take k frames))) (length (getD frames k [])) front ∙ part-bodies frames k h)
+        (part-behind (contents frames) (flatten frames) (2 + 4 * length frames) before size length-contents ∙ part-bodies frames k h)
 
     -- its frames are those that were written
     pub frames-back : framesOf (bundleOf frames) ≡ frames
     unfolding framesOf
     frames-back =
         let f : ℕ → List ℕ = λ k. part (bundleOf frames) (placeOf (bundleOf frames) k) (lengthOf (bundleOf frames) k) in
-        let long : length (tabulate 0 (countOf (bundleOf frames)) f) ≡ length frames = length-tabulate f 0 (countOf (bundleOf frames)) ∙ count-back in
-        ext-getD [] _ frames long
-        (λ k h. getD-tabulate f 0 (countOf (bundleOf frames)) k [] (omega (arith, count-back)) ∙ ap f (zero-add k) ∙ frame-back k (omega arith))
+        let count : ℕ = countOf (bundleOf frames) in
+        ext-getD [] _ frames (length-tabulate f 0 count ∙ count-back)
+        (λ k h. let there : k < length frames = omega (arith, length-tabulate f 0 count, count-back) in
+        getD-tabulate f 0 count k [] (omega (arith, count-back)) ∙ ap f (zero-add k) ∙ frame-back k there)
 
 -- the bytes that a writer counted, at the start of the output, are the bundle of its frames
 pub message-written : {frames : List (List ℕ)} {before after : List ℕ} {count : ℕ} →
@@ -149,11 +161,13 @@ module _ (s : List ℕ) where
     lengths-there i (suc k) h =
         let long : length (frame-of i) ≡ lengthOf s i = length-part s (placeOf s i) (lengthOf s i) (body-inside s g i (omega arith)) in
         let all : 4 + 4 * k ≡ 4 * suc k = omega arith in
-        ap₂ (λ (a b : List ℕ). a ++ b) (ap (toBytes 4) long ∙ bytes-there 4 s (2 + 4 * i) bytes (contents-inside s g i (omega arith))) (lengths-there (suc i) k (omega arith))
+        let here : toBytes 4 (length (frame-of i)) ≡ part s (2 + 4 * i) 4 = ap (toBytes 4) long ∙ bytes-there 4 s (2 + 4 * i) bytes (contents-inside s g i (omega arith)) in
+        ap₂ (λ (a b : List ℕ). a ++ b) here (lengths-there (suc i) k (omega arith))
         ∙ part-then s (2 + 4 * i) 4 (4 * k) (2 + 4 * suc i) (omega arith)
         ∙ ap (part s (2 + 4 * i)) all
 
-    bodies-there : (i k size : ℕ) → i + k ≤ countOf s → lengthsBefore s i + size ≡ lengthsBefore s (i + k) → flatten (tabulate i k frame-of) ≡ part s (placeOf s i) size
+    bodies-there : (i k size : ℕ) → i + k ≤ countOf s →
+        lengthsBefore s i + size ≡ lengthsBefore s (i + k) → flatten (tabulate i k frame-of) ≡ part s (placeOf s i) size
     unfolding flatten placeOf
     bodies-there i zero size h e =
         let none : size ≡ 0 = omega (arith, rw add-zero at e) in
@@ -171,7 +185,8 @@ module _ (s : List ℕ) where
     unfolding bundleOf framesOf countOf placeOf lengthsBefore
     bundle-back =
         let size : ℕ = lengthsBefore s (countOf s) in
-        let count : toBytes 2 (length (tabulate 0 (countOf s) frame-of)) ≡ part s 0 2 = ap (toBytes 2) (length-tabulate frame-of 0 (countOf s)) ∙ bytes-there 2 s 0 bytes (omega (arith, good-told s g .ends)) in
+        let count : toBytes 2 (length (tabulate 0 (countOf s) frame-of)) ≡ part s 0 2 =
+        ap (toBytes 2) (length-tabulate frame-of 0 (countOf s)) ∙ bytes-there 2 s 0 bytes (omega (arith, good-told s g .ends)) in
         let place : placeOf s 0 ≡ 2 + 4 * countOf s = omega arith in
         let bodies : flatten (tabulate 0 (countOf s) frame-of) ≡ part s (2 + 4 * countOf s) size =
         bodies-there 0 (countOf s) size (omega arith) (zero-add size ∙ ap (lengthsBefore s) (sym (zero-add (countOf s)))) ∙ ap (λ (k : ℕ). part s k size) place in

@@ -1,7 +1,7 @@
 -- Laws of the lengths of a bundle, and what is known of a good one. Assumes nothing.
-use mathlib.Core.Path.{_≡_, refl}
+use mathlib.Core.Path.{_≡_, refl, sym}
 use mathlib.Core.List.{List}
-use mathlib.Core.Bool.{Bool, true, false, _&&_, cond}
+use mathlib.Core.Bool.{true, false, _&&_}
 use Prim.Native.Nat.{ℕ, zero, suc, _+_, _*_, _-_, _≤_, _<_}
 use native.Mathlib.Nat.{add-zero, add-suc}
 use native.Mathlib.Numerals.{add-one}
@@ -9,7 +9,7 @@ use native.Mathlib.Omega.{arith}
 use lib.Dec.{ltb, leb, eqb}
 use lib.ListN.{length}
 use borrow.Author.Tests.{ltb-true, leb-true, eqb-true}
-use Rattle.bytes_be.proofs.Tests.{both-true}
+use Rattle.bytes_be.proofs.Tests.{both-true, took-first, took-second}
 use Rattle.bundle.specs.Reading.{countOf, lengthOf, lengthsBefore, placeOf, good, sizeOf, contentsOf, frameOf}
 use Rattle.bundle.specs.declared.Contents.the-variants.{Frames, Bad}
 use Rattle.bundle.specs.declared.Frame.the-variants.{At, Behind, Nowhere}
@@ -57,33 +57,36 @@ pub record There (s : List ℕ) (k place size : ℕ) : Type 0 where
   pub counted : k < countOf s
   pub inside : place + size ≤ length s
 
+nowhere-at : {place size : ℕ} → Nowhere ≡ At place size → ⊥
+nowhere-at e = let z : _≡_ {A = ℕ} 0 1 = cc in omega arith
+
+behind-at : {place size : ℕ} → Behind ≡ At place size → ⊥
+behind-at e = let z : _≡_ {A = ℕ} 0 1 = cc in omega arith
+
 pub frame-told : (s : List ℕ) (k place size : ℕ) → frameOf s k ≡ At place size → There s k place size
 unfolding frameOf
-frame-told s k place size e = go (good s) refl (ltb k (countOf s)) refl e
-  where
-    go : (g : Bool) → good s ≡ g → (t : Bool) → ltb k (countOf s) ≡ t → cond g (cond t (At (placeOf s k) (lengthOf s k)) Behind) Nowhere ≡ At place size → There s k place size
-    go true g true t same =
-        let at : placeOf s k ≡ place = cc in
-        let long : lengthOf s k ≡ size = cc in
-        let counted : k < countOf s = ltb-true k (countOf s) t in
-        record { counted = counted; inside = omega (arith, body-inside s g k counted) }
-    go true g false t same = let z : _≡_ {A = ℕ} 0 1 = cc in absurd (omega arith)
-    go false g t h same = let z : _≡_ {A = ℕ} 0 1 = cc in absurd (omega arith)
+frame-told s k place size e =
+    let whole = took-first (good s) nowhere-at e in
+    let found = took-first (ltb k (countOf s)) behind-at (whole .1) in
+    let there : k < countOf s = ltb-true k (countOf s) (found .0) in
+    let at : At (placeOf s k) (lengthOf s k) ≡ At place size = found .1 in
+    let starts : placeOf s k ≡ place = cc in
+    let long : lengthOf s k ≡ size = cc in
+    record { counted = there; inside = omega (arith, body-inside s (whole .0) k there) }
 
 -- contents are those of a good bundle alone
+
+bad-frames : {count size : ℕ} → Bad ≡ Frames count size → ⊥
+bad-frames e = let z : _≡_ {A = ℕ} 0 1 = cc in omega arith
+
 pub contents-told : (s : List ℕ) (count size : ℕ) → contentsOf s ≡ Frames count size → Good s count
 unfolding contentsOf
-contents-told s count size e = go (good s) refl e
-  where
-    go : (t : Bool) → good s ≡ t → cond t (Frames (countOf s) (sizeOf s)) Bad ≡ Frames count size → Good s count
-    go true g same = let counted : countOf s ≡ count = cc in rw counted at (good-told s g)
-    go false g same = let z : _≡_ {A = ℕ} 0 1 = cc in absurd (omega arith)
+contents-told s count size e =
+    let whole = took-first (good s) bad-frames e in
+    let same : Frames (countOf s) (sizeOf s) ≡ Frames count size = whole .1 in
+    let counted : countOf s ≡ count = cc in
+    rw counted at (good-told s (whole .0))
 
--- and a bundle without contents is not good
 pub contents-none : (s : List ℕ) → contentsOf s ≡ Bad → good s ≡ false
 unfolding contentsOf
-contents-none s e = go (good s) e
-  where
-    go : (t : Bool) → cond t (Frames (countOf s) (sizeOf s)) Bad ≡ Bad → t ≡ false
-    go true same = cc
-    go false same = refl
+contents-none s e = took-second (good s) (λ same. bad-frames (sym same)) e .0

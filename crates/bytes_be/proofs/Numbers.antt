@@ -58,14 +58,17 @@ pub to-from : (bytes : List ℕ) → Bytes bytes → toBytes (length bytes) (fro
 unfolding fromBytes toBytes
 to-from bytes h = ap (λ (k : ℕ). toBytes k (fromBytesBehind 0 bytes)) (sym (zero-add (length bytes))) ∙ to-behind 0 0 bytes h
 
+-- where the bytes of a number stand, that number is read
+pub number-is : (width : ℕ) (s : List ℕ) (at n : ℕ) → at + width ≤ length s → n < 256 ^ width → part s at width ≡ toBytes width n → numberAt width s at ≡ n
+unfolding numberAt
+number-is width s at n inside small same = simp (le-leb (at + width) (length s) inside, same) (from-to width n small)
+
 -- what was stored at a place is the number there
 pub number-put : (width : ℕ) (out : List ℕ) (at n : ℕ) → at + width ≤ length out → n < 256 ^ width → numberAt width (putAt out at (toBytes width n)) at ≡ n
-unfolding numberAt
 number-put width out at n room small =
     let wide : length (toBytes width n) ≡ width = length-toBytes width n in
-    let bytes : part (putAt out at (toBytes width n)) at width ≡ toBytes width n = ap (part (putAt out at (toBytes width n)) at) (sym wide) ∙ part-put out at (toBytes width n) (omega arith) in
-    let inside : holds (length (putAt out at (toBytes width n))) at width ≡ true = le-leb (at + width) (length (putAt out at (toBytes width n))) (simp length-put room) in
-    simp (inside, bytes) (from-to width n small)
+    let there = part-put out at (toBytes width n) (omega arith) in
+    number-is width (putAt out at (toBytes width n)) at n (simp length-put room) small (rw wide at there)
 
 -- a number that bytes say is as small as their count allows
 
@@ -108,7 +111,9 @@ bytes-there width s at h inside =
 
 -- a number of i bytes and a byte are a number of one byte more
 pub number-more : (s : List ℕ) (at i n : ℕ) → at + i < length s → n ≡ fromBytes (part s at i) → n * 256 + getD s (at + i) 0 ≡ fromBytes (part s at (i + 1))
-number-more s at i n inside e = sym (ap fromBytes (part-more s at i 0 inside) ∙ from-more (part s at i) (getD s (at + i) 0) ∙ ap (λ (k : ℕ). k * 256 + getD s (at + i) 0) (sym e))
+number-more s at i n inside e =
+    let more = ap fromBytes (part-more s at i 0 inside) ∙ from-more (part s at i) (getD s (at + i) 0) in
+    rw (← e) at (sym more)
 
 -- seven bytes leave room for one more in 64 bits
 pub room-for-one : {i n : ℕ} → i < 8 → n < 256 ^ i → n < 2 ^ 56

@@ -38,12 +38,13 @@ module _ {A : Type 0} where
   pub part-more : (xs : List A) (at i : ℕ) (d : A) → at + i < length xs → part xs at (i + 1) ≡ part xs at i ++ (getD xs (at + i) d ∷ [])
   part-more xs at i d h =
       let inside : i < length (drop at xs) = simp length-drop (omega arith) in
-      ap (λ (k : ℕ). take k (drop at xs)) (add-one i) ∙ take-suc (drop at xs) i d inside ∙ ap (λ (x : A). part xs at i ++ (x ∷ [])) (getD-drop at xs i d)
+      simp add-one (take-suc (drop at xs) i d inside ∙ ap (λ (x : A). part xs at i ++ (x ∷ [])) (getD-drop at xs i d))
 
   -- two parts, the second right behind the first, are one
   pub part-then : (xs : List A) (at size more next : ℕ) → at + size ≡ next → part xs at size ++ part xs next more ≡ part xs at (size + more)
   part-then xs at size more next e =
-      ap (λ (rest : List A). part xs at size ++ take more rest) (ap (λ (k : ℕ). drop k xs) (sym e) ∙ sym (drop-drop size at xs)) ∙ sym (take-add size more (drop at xs))
+      let rest : drop next xs ≡ drop size (drop at xs) = ap (λ (k : ℕ). drop k xs) (sym e) ∙ sym (drop-drop size at xs) in
+      ap (λ (l : List A). part xs at size ++ take more l) rest ∙ sym (take-add size more (drop at xs))
 
   -- what stands in front only moves what is behind it
   pub drop-behind : (xs ys : List A) (n at : ℕ) → length xs ≡ n → drop (n + at) (xs ++ ys) ≡ drop at ys
@@ -89,10 +90,13 @@ module _ {A : Type 0} where
     pub part-put : at + length ys ≤ length out → part (putAt out at ys) at (length ys) ≡ ys
     part-put h =
         let front : length (take at out) ≡ at = length-take-le at out (omega arith) in
-        simp (put-fits h, append-assoc) (ap (λ (k : ℕ). part (take at out ++ (ys ++ drop (at + length ys) out)) k (length ys)) (sym (add-zero at)) ∙ part-behind (take at out) (ys ++ drop (at + length ys) out) at 0 (length ys) front ∙ part-front ys (drop (at + length ys) out) (length ys) refl)
+        let rest : List A = drop (at + length ys) out in
+        let there = part-behind (take at out) (ys ++ rest) at 0 (length ys) front ∙ part-front ys rest (length ys) refl in
+        simp (put-fits h, append-assoc) (rw add-zero at there)
 
   -- two writes, the second right behind the first, are one
-  pub put-then : (out : List A) (at : ℕ) (xs ys : List A) (next : ℕ) → at + length xs ≡ next → next + length ys ≤ length out → putAt (putAt out at xs) next ys ≡ putAt out at (xs ++ ys)
+  pub put-then : (out : List A) (at : ℕ) (xs ys : List A) (next : ℕ) → at + length xs ≡ next → next + length ys ≤ length out →
+      putAt (putAt out at xs) next ys ≡ putAt out at (xs ++ ys)
   put-then out at xs ys next e h =
       let front : length (take at out ++ xs) ≡ next = length-append (take at out) xs ∙ omega (arith, length-take-le at out (omega arith)) in
       let once : putAt out at xs ≡ take at out ++ xs ++ drop next out = put-fits out at xs (omega arith) ∙ ap (λ (k : ℕ). take at out ++ xs ++ drop k out) e in

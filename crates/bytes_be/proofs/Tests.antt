@@ -1,14 +1,21 @@
--- Laws of tests that are joined or chosen by. Assumes nothing.
+-- Laws of tests that are joined, and of choices by a test. Assumes nothing.
 use mathlib.Core.Path.{_≡_, refl}
-use mathlib.Core.Bool.{Bool, true, false, _&&_}
+use mathlib.Core.Bool.{Bool, true, false, _&&_, cond}
 use Prim.Native.Nat.{ℕ}
 use native.Mathlib.Omega.{arith}
-
--- a test is not both
-pub true-false : {t : Bool} → t ≡ true → t ≡ false → ⊥
-true-false {t} yes′ no′ = let z : _≡_ {A = ℕ} 0 1 = cc in omega arith
 
 -- both halves of a conjunction that holds
 pub both-true : (a b : Bool) → a && b ≡ true → (a ≡ true) × (b ≡ true)
 both-true true b e = (refl, e)
-both-true false b e = absurd (true-false e refl)
+both-true false b e = let z : _≡_ {A = ℕ} 0 1 = cc in absurd (omega arith)
+
+module _ {A : Type 0} where
+  -- a choice that gives what its second answer cannot be has taken the first
+  pub took-first : (t : Bool) {a b x : A} → (b ≡ x → ⊥) → cond t a b ≡ x → (t ≡ true) × (a ≡ x)
+  took-first true other e = (refl, e)
+  took-first false other e = absurd (other e)
+
+  -- and the other way round
+  pub took-second : (t : Bool) {a b x : A} → (a ≡ x → ⊥) → cond t a b ≡ x → (t ≡ false) × (b ≡ x)
+  took-second true other e = absurd (other e)
+  took-second false other e = (refl, e)

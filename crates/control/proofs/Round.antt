@@ -10,17 +10,19 @@ use lib.Seq.{take-all}
 use borrow.Author.Tests.{eqb-true}
 use Rattle.bytes_be.specs.Part.{part}
 use Rattle.bytes_be.specs.Number.{fromBytes, fromBytesBehind, numberAt, toBytes}
-use Rattle.bytes_be.proofs.Tests.{both-true}
+use Rattle.bytes_be.proofs.Tests.{both-true, took-first}
 use Rattle.bytes_be.proofs.Parts.{part-then}
 use Rattle.bytes_be.proofs.Numbers.{Bytes, bytes-there, number-below}
 use Rattle.control.specs.Frame.{typeOf, signedOf, versionOf, namedOf, ifSigned, ifOne, ifNamed, controlOf, bytesOf}
 use Rattle.control.specs.declared.Kind.{Kind}
 use Rattle.control.specs.declared.Kind.the-variants.{Open, Ready, Noop, Data, Close}
+use Rattle.control.specs.declared.Signed.{Signed}
 use Rattle.control.specs.declared.Signed.the-variants.{Frame, Unsigned}
 use Rattle.control.specs.declared.Version.{Version}
 use Rattle.control.specs.declared.Version.the-variants.{One, Other}
 use Rattle.control.specs.declared.Named.{Named}
 use Rattle.control.specs.declared.Named.the-variants.{Known, Unknown}
+use Rattle.control.specs.declared.Control.{Control}
 use Rattle.control.specs.declared.Control.the-variants.{Read, Refused}
 
 pub type-few : (kind : Kind) → typeOf kind ≤ 5
@@ -59,10 +61,23 @@ pub control-back : (kind : Kind) (flags type-data : ℕ) → type-data < 65536 �
 unfolding controlOf
 control-back kind flags type-data h = simp (signed-back kind flags type-data h, version-back kind, named-back kind)
 
--- a number that is named is the type's own
+-- what a stage says that was passed
 
-named-here : (n : ℕ) (kind here : Kind) (rest : Named) → (rest ≡ Known kind → n ≡ typeOf kind) → cond (eqb n (typeOf here)) (Known here) rest ≡ Known kind → n ≡ typeOf kind
-named-here n kind here rest next e = go (eqb n (typeOf here)) refl e
+unknown-known : {kind : Kind} → Unknown ≡ Known kind → ⊥
+unknown-known e = let z : _≡_ {A = ℕ} 0 1 = cc in omega arith
+
+other-one : {number : ℕ} → Other ≡ One number → ⊥
+other-one e = let z : _≡_ {A = ℕ} 0 1 = cc in omega arith
+
+unsigned-frame : {control flags type-data : ℕ} → Unsigned ≡ Frame control flags type-data → ⊥
+unsigned-frame e = let z : _≡_ {A = ℕ} 0 1 = cc in omega arith
+
+refused-read : {kind : Kind} {number flags type-data : ℕ} → Refused number ≡ Read kind flags type-data → ⊥
+refused-read e = let z : _≡_ {A = ℕ} 0 1 = cc in omega arith
+
+named-here : (n : ℕ) (kind here : Kind) {rest : Named} → (rest ≡ Known kind → n ≡ typeOf kind) →
+    cond (eqb n (typeOf here)) (Known here) rest ≡ Known kind → n ≡ typeOf kind
+named-here n kind here {rest} next e = go (eqb n (typeOf here)) refl e
   where
     go : (t : Bool) → eqb n (typeOf here) ≡ t → cond t (Known here) rest ≡ Known kind → n ≡ typeOf kind
     go true same found = let it : here ≡ kind = cc in eqb-true n (typeOf here) same ∙ ap typeOf it
@@ -71,20 +86,37 @@ named-here n kind here rest next e = go (eqb n (typeOf here)) refl e
 named-told : (n : ℕ) (kind : Kind) → namedOf n ≡ Known kind → n ≡ typeOf kind
 unfolding namedOf
 named-told n kind =
-    named-here n kind Open _
-    (named-here n kind Ready _
-    (named-here n kind Noop _
-    (named-here n kind Data _
-    (named-here n kind Close _
-    (λ none. let z : _≡_ {A = ℕ} 0 1 = cc in absurd (omega arith))))))
+    named-here n kind Open
+    (named-here n kind Ready
+    (named-here n kind Noop
+    (named-here n kind Data
+    (named-here n kind Close
+    (λ none. absurd (unknown-known none))))))
 
-version-told : (control type : ℕ) → versionOf control ≡ One type → control ≡ 8 * type + 1
+version-told : (control n : ℕ) → versionOf control ≡ One n → control ≡ 8 * n + 1
 unfolding versionOf
-version-told control type e = go (eqb (control % 8) 1) refl e
-  where
-    go : (t : Bool) → eqb (control % 8) 1 ≡ t → cond t (One (control / 8)) Other ≡ One type → control ≡ 8 * type + 1
-    go true one found = let high : control / 8 ≡ type = cc in omega (arith, eqb-true (control % 8) 1 one)
-    go false other found = let z : _≡_ {A = ℕ} 0 1 = cc in absurd (omega arith)
+version-told control n e =
+    let one = took-first (eqb (control % 8) 1) other-one e in
+    let same : One (control / 8) ≡ One n = one .1 in
+    let high : control / 8 ≡ n = cc in
+    omega (arith, eqb-true (control % 8) 1 (one .0))
+
+-- a stage that is not the one that refuses was passed
+
+past-signed : (signed : Signed) (next : ℕ → ℕ → ℕ → Control) {kind : Kind} {flags type-data : ℕ} → ifSigned signed (Refused 11) next ≡ Read kind flags type-data →
+    (control : ℕ) × (f : ℕ) × (d : ℕ) × (signed ≡ Frame control f d) × (next control f d ≡ Read kind flags type-data)
+past-signed (Frame control f d) next e = (control, f, d, refl, e)
+past-signed Unsigned next e = absurd (refused-read e)
+
+past-version : (version : Version) (next : ℕ → Control) {kind : Kind} {flags type-data : ℕ} → ifOne version (Refused 12) next ≡ Read kind flags type-data →
+    (n : ℕ) × (version ≡ One n) × (next n ≡ Read kind flags type-data)
+past-version (One n) next e = (n, refl, e)
+past-version Other next e = absurd (refused-read e)
+
+past-named : (named : Named) (next : Kind → Control) {kind : Kind} {flags type-data : ℕ} → ifNamed named (Refused 13) next ≡ Read kind flags type-data →
+    (k : Kind) × (named ≡ Known k) × (next k ≡ Read kind flags type-data)
+past-named (Known k) next e = (k, refl, e)
+past-named Unknown next e = absurd (refused-read e)
 
 -- what is known of a frame that is read
 pub record Told (s : List ℕ) (kind : Kind) (flags type-data : ℕ) : Type 0 where
@@ -94,46 +126,51 @@ pub record Told (s : List ℕ) (kind : Kind) (flags type-data : ℕ) : Type 0 wh
   pub flagged : numberAt 1 s 5 ≡ flags
   pub ended : numberAt 2 s 6 ≡ type-data
 
-four-fields : (s : List ℕ) → Bytes s → length s ≡ 8 → toBytes 4 (numberAt 4 s 0) ++ toBytes 1 (numberAt 1 s 4) ++ toBytes 1 (numberAt 1 s 5) ++ toBytes 2 (numberAt 2 s 6) ≡ s
+gathered : (s : List ℕ) {kind k : Kind} {flags type-data control f d n : ℕ} → length s ≡ 8 → numberAt 4 s 0 ≡ 0x46424450 →
+    Frame (numberAt 1 s 4) (numberAt 1 s 5) (numberAt 2 s 6) ≡ Frame control f d → control ≡ 8 * n + 1 → n ≡ typeOf k → Read k f d ≡ Read kind flags type-data →
+    Told s kind flags type-data
+gathered s {kind} {k} {flags} {type-data} {control} {f} {d} {n} long signed fields one named same =
+    let first : numberAt 1 s 4 ≡ control = cc in
+    let it : k ≡ kind = cc in
+    let number : typeOf k ≡ typeOf kind = ap typeOf it in
+    let flagged : numberAt 1 s 5 ≡ flags = cc in
+    let ended : numberAt 2 s 6 ≡ type-data = cc in
+    record { long = long; signed = signed; control = omega arith; flagged = flagged; ended = ended }
+
+pub control-told : (s : List ℕ) (kind : Kind) (flags type-data : ℕ) → controlOf s ≡ Read kind flags type-data → Told s kind flags type-data
+unfolding controlOf signedOf
+control-told s kind flags type-data e =
+    let signed = past-signed (signedOf s) _ e in
+    let version = past-version (versionOf (signed .0)) _ (signed .4) in
+    let named = past-named (namedOf (version .0)) _ (version .2) in
+    let fields = took-first (eqb (length s) 8 && eqb (numberAt 4 s 0) 0x46424450) unsigned-frame (signed .3) in
+    let tests = both-true (eqb (length s) 8) (eqb (numberAt 4 s 0) 0x46424450) (fields .0) in
+    gathered s (eqb-true _ _ (tests .0)) (eqb-true _ _ (tests .1)) (fields .1)
+    (version-told (signed .0) (version .0) (version .1)) (named-told (version .0) (named .0) (named .1)) (named .2)
+
+-- a frame of 8 bytes is its four fields
+four-fields : (s : List ℕ) → Bytes s → length s ≡ 8 →
+    toBytes 4 (numberAt 4 s 0) ++ toBytes 1 (numberAt 1 s 4) ++ toBytes 1 (numberAt 1 s 5) ++ toBytes 2 (numberAt 2 s 6) ≡ s
 four-fields s bytes long =
-    let there : (width at : ℕ) → at + width ≤ 8 → toBytes width (numberAt width s at) ≡ part s at width = λ width at inside. bytes-there width s at bytes (omega arith) in
-    simp (there 4 0 (omega arith), there 1 4 (omega arith), there 1 5 (omega arith), there 2 6 (omega arith), part-then s 0 4 1 4 refl, part-then s 0 5 1 5 refl, part-then s 0 6 2 6 refl)
+    let there : (width at : ℕ) → at + width ≤ 8 → toBytes width (numberAt width s at) ≡ part s at width =
+    λ width at inside. bytes-there width s at bytes (omega arith) in
+    simp (
+      there 4 0 (omega arith),
+      there 1 4 (omega arith),
+      there 1 5 (omega arith),
+      there 2 6 (omega arith),
+      part-then s 0 4 1 4 refl,
+      part-then s 0 5 1 5 refl,
+      part-then s 0 6 2 6 refl,
+    )
     (take-all 8 s (omega arith))
 
-module _ (kind : Kind) (flags type-data : ℕ) where
-  behind-named : (n f d : ℕ) → ifNamed (namedOf n) (Refused 13) (λ k. Read k f d) ≡ Read kind flags type-data → (n ≡ typeOf kind) × (f ≡ flags) × (d ≡ type-data)
-  behind-named n f d e = go (namedOf n) refl e
-    where
-      go : (named : Named) → namedOf n ≡ named → ifNamed named (Refused 13) (λ k. Read k f d) ≡ Read kind flags type-data → (n ≡ typeOf kind) × (f ≡ flags) × (d ≡ type-data)
-      go (Known k) h found = let it : k ≡ kind = cc in (named-told n kind (h ∙ ap Known it), cc, cc)
-      go Unknown h found = let z : _≡_ {A = ℕ} 0 1 = cc in absurd (omega arith)
-
-  behind-version : (control f d : ℕ) → ifOne (versionOf control) (Refused 12) (λ n. ifNamed (namedOf n) (Refused 13) (λ k. Read k f d)) ≡ Read kind flags type-data → (control ≡ 8 * typeOf kind + 1) × (f ≡ flags) × (d ≡ type-data)
-  behind-version control f d e = go (versionOf control) refl e
-    where
-      go : (version : Version) → versionOf control ≡ version → ifOne version (Refused 12) (λ n. ifNamed (namedOf n) (Refused 13) (λ k. Read k f d)) ≡ Read kind flags type-data → (control ≡ 8 * typeOf kind + 1) × (f ≡ flags) × (d ≡ type-data)
-      go (One n) h found = let told = behind-named n f d found in (omega (arith, version-told control n h, told .0), told .1, told .2)
-      go Other h found = let z : _≡_ {A = ℕ} 0 1 = cc in absurd (omega arith)
-
-  pub control-told : (s : List ℕ) → controlOf s ≡ Read kind flags type-data → Told s kind flags type-data
-  unfolding controlOf signedOf
-  control-told s e = go (eqb (length s) 8 && eqb (numberAt 4 s 0) 0x46424450) refl e
-    where
-      go : (t : Bool) → (eqb (length s) 8 && eqb (numberAt 4 s 0) 0x46424450) ≡ t →
-          ifSigned (cond t (Frame (numberAt 1 s 4) (numberAt 1 s 5) (numberAt 2 s 6)) Unsigned) (Refused 11) (λ control f d. ifOne (versionOf control) (Refused 12) (λ n. ifNamed (namedOf n) (Refused 13) (λ k. Read k f d))) ≡ Read kind flags type-data →
-          Told s kind flags type-data
-      go true h found =
-          let both = both-true (eqb (length s) 8) (eqb (numberAt 4 s 0) 0x46424450) h in
-          let told = behind-version (numberAt 1 s 4) (numberAt 1 s 5) (numberAt 2 s 6) found in
-          record { long = eqb-true (length s) 8 (both .0); signed = eqb-true (numberAt 4 s 0) 0x46424450 (both .1); control = told .0; flagged = told .1; ended = told .2 }
-      go false h found = let z : _≡_ {A = ℕ} 0 1 = cc in absurd (omega arith)
-
-  -- what is read, written again, is the same frame
-  pub bytes-back : (s : List ℕ) → Bytes s → controlOf s ≡ Read kind flags type-data → bytesOf kind flags type-data ≡ s
-  unfolding bytesOf toBytes
-  bytes-back s bytes e =
-      let told = control-told s e in
-      let control : 8 * typeOf kind + 1 ≡ numberAt 1 s 4 % 256 = omega (arith, told .control, type-few kind) in
-      let flagged : flags ≡ numberAt 1 s 5 % 256 = omega (arith, told .flagged, number-below 1 s 5 bytes) in
-      let signature : (0x46 ∷ 0x42 ∷ 0x44 ∷ 0x50 ∷ []) ≡ toBytes 4 (numberAt 4 s 0) = ap (toBytes 4) (sym (told .signed)) in
-      (λ i. signature i ++ (control i ∷ []) ++ (flagged i ∷ []) ++ toBytes 2 (sym (told .ended) i)) ∙ four-fields s bytes (told .long)
+-- what is read, written again, is the same frame
+pub bytes-back : (s : List ℕ) (kind : Kind) (flags type-data : ℕ) → Bytes s → controlOf s ≡ Read kind flags type-data → bytesOf kind flags type-data ≡ s
+unfolding bytesOf toBytes
+bytes-back s kind flags type-data bytes e =
+    let told = control-told s kind flags type-data e in
+    let signature : (0x46 ∷ 0x42 ∷ 0x44 ∷ 0x50 ∷ []) ≡ toBytes 4 (numberAt 4 s 0) = ap (toBytes 4) (sym (told .signed)) in
+    let control : 8 * typeOf kind + 1 ≡ numberAt 1 s 4 % 256 = omega (arith, told .control, type-few kind) in
+    let flagged : flags ≡ numberAt 1 s 5 % 256 = omega (arith, told .flagged, number-below 1 s 5 bytes) in
+    (λ i. signature i ++ (control i ∷ []) ++ (flagged i ∷ []) ++ toBytes 2 (sym (told .ended) i)) ∙ four-fields s bytes (told .long)

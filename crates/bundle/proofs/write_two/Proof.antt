@@ -1,9 +1,7 @@
 -- `bundle::write_two` meets its contract: its four writes leave the bundle of two frames, or it could not be written.
 -- Assumes nothing.
 use mathlib.Core.Path.{sym, _∙_}
-use Prim.Native.Nat.{_+_, _≤_}
 use native.Mathlib.Omega.{arith}
-use lib.ListN.{length}
 use borrow.Author.Tests.{leb-true, leb-false, not-true, not-false}
 use Rattle.bundle.proofs.Outputs.{wrote-two, too-long-two, no-room-two}
 use borrow.Author.Needs.{needs}

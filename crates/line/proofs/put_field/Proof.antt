@@ -1,8 +1,8 @@
 -- `line::put_field` meets its contract: the digits are the number in decimal, and follow the label.
 -- Assumes nothing.
-use mathlib.Core.Path.{_≡_, ap, _∙_}
+use mathlib.Core.Path.{ap, _∙_}
 use native.Mathlib.Omega.{arith}
-use lib.ListN.{length, take}
+use lib.ListN.{length}
 use Rattle.line.specs.Text.{decimal}
 use Rattle.line.proofs.Digits.{decimal-short, decimal-is}
 use Rattle.line.proofs.Puts.{put-more}
