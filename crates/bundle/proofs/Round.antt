@@ -14,8 +14,9 @@ use Rattle.bytes_be.specs.Number.{toBytes, numberAt}
 use Rattle.bytes_be.proofs.Tests.{both-true}
 use Rattle.bytes_be.proofs.Parts.{length-tabulate, getD-tabulate, length-part, part-then, part-put, part-behind, part-inside, part-front}
 use Rattle.bytes_be.proofs.Numbers.{Bytes, length-toBytes, number-is, bytes-there}
-use Rattle.bundle.specs.Reading.{countOf, lengthOf, lengthsBefore, placeOf, good, sizeOf, framesOf}
-use Rattle.bundle.proofs.Sums.{before-suc, before-grows, good-told, contents-inside, body-inside}
+use Rattle.bundle.specs.Reading.{countOf, lengthOf, lengthsBefore, placeOf, good, sizeOf, frameOf, framesOf}
+use Rattle.bundle.specs.declared.Frame.the-variants.{At, Behind}
+use Rattle.bundle.proofs.Sums.{before-suc, before-grows, good-told, contents-inside, body-inside, frame-there, frame-behind}
 use Rattle.bundle.specs.Writing.{lengthBytes, bundleOf, short, writable, Written}
 
 -- the lengths, one behind the other
@@ -120,13 +121,21 @@ module _ (frames : List (List ℕ)) where
         let ends : placeOf (bundleOf frames) (length frames) ≡ length (bundleOf frames) = last ∙ sym length-bundle in
         simp (count-back, le-leb 1 (length frames) some, le-leb (length frames) 16 few, eq-eqb _ _ ends)
 
-    frame-back : (k : ℕ) → k < length frames → part (bundleOf frames) (placeOf (bundleOf frames) k) (lengthOf (bundleOf frames) k) ≡ getD frames k []
+    pub frame-back : (k : ℕ) → k < length frames → part (bundleOf frames) (placeOf (bundleOf frames) k) (lengthOf (bundleOf frames) k) ≡ getD frames k []
     unfolding bundleOf
     frame-back k h =
         let before : ℕ = length (flatten (take k frames)) in
         let size : ℕ = length (getD frames k []) in
         simp (place-back k (omega arith), length-back k h)
         (part-behind (contents frames) (flatten frames) (2 + 4 * length frames) before size length-contents ∙ part-bodies frames k h)
+
+    -- the reader hands out each frame that was written, and none behind the last
+
+    pub handed-back : 1 ≤ length frames → (k : ℕ) → k < length frames → frameOf (bundleOf frames) k ≡ At (placeOf (bundleOf frames) k) (lengthOf (bundleOf frames) k)
+    handed-back some k h = frame-there (bundleOf frames) (good-back some) k (omega (arith, count-back))
+
+    pub none-behind : 1 ≤ length frames → (k : ℕ) → length frames ≤ k → frameOf (bundleOf frames) k ≡ Behind
+    none-behind some k h = frame-behind (bundleOf frames) (good-back some) k (omega (arith, count-back))
 
     -- its frames are those that were written
     pub frames-back : framesOf (bundleOf frames) ≡ frames

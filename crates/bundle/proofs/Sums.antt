@@ -8,7 +8,7 @@ use native.Mathlib.Numerals.{add-one}
 use native.Mathlib.Omega.{arith}
 use lib.Dec.{ltb, leb, eqb}
 use lib.ListN.{length}
-use borrow.Author.Tests.{ltb-true, leb-true, eqb-true}
+use borrow.Author.Tests.{ltb-true, lt-ltb, le-ltb, leb-true, eqb-true}
 use Rattle.bytes_be.proofs.Tests.{both-true, took-first, took-second}
 use Rattle.bundle.specs.Reading.{countOf, lengthOf, lengthsBefore, placeOf, good, sizeOf, contentsOf, frameOf}
 use Rattle.bundle.specs.declared.Contents.the-variants.{Frames, Bad}
@@ -51,6 +51,16 @@ unfolding placeOf
 body-inside s g k h =
     let end : suc k + (countOf s - suc k) ≡ countOf s = omega arith in
     omega (arith, good-told s g .ends, before-suc s k, rw end at (before-grows s (suc k) (countOf s - suc k)))
+
+-- a good bundle hands out each of its frames, and none behind the last
+
+pub frame-there : (s : List ℕ) → good s ≡ true → (k : ℕ) → k < countOf s → frameOf s k ≡ At (placeOf s k) (lengthOf s k)
+unfolding frameOf
+frame-there s g k h = simp (g, lt-ltb k (countOf s) h)
+
+pub frame-behind : (s : List ℕ) → good s ≡ true → (k : ℕ) → countOf s ≤ k → frameOf s k ≡ Behind
+unfolding frameOf
+frame-behind s g k h = simp (g, le-ltb k (countOf s) h)
 
 -- what is known of a frame that is handed out
 pub record There (s : List ℕ) (k place size : ℕ) : Type 0 where

@@ -1,13 +1,13 @@
 -- Laws of big-endian numbers, at any width: each of the two readings undoes the other. Assumes nothing.
 use mathlib.Core.Path.{_≡_, refl, sym, ap, _∙_}
 use mathlib.Core.List.{List, [], _∷_, _++_, append-assoc, append-nil}
-use Prim.Native.Nat.{ℕ, zero, suc, _+_, _*_, _/_, _%_, _^_, _≤_, _<_}
+use Prim.Native.Nat.{ℕ, zero, suc, _+_, _*_, _/_, _%_, _^_, _≤_, _<_, _-_}
 use native.Mathlib.Nat.{add-zero, zero-add, add-suc, suc-add, one-le-pow, pow-le-pow-right, lt-of-lt-of-le}
 use native.Mathlib.Numerals.{add-one}
 use native.Mathlib.Omega.{arith}
 use lib.Dec.{lit<, ltb}
-use lib.ListN.{length, getD, drop, length-append, length-take, List·getD-eq-default}
-use lib.Seq.{getD-take, getD-drop}
+use lib.ListN.{length, getD, drop, length-append, length-take, List·getD-eq-default, take, drop-of-length-le}
+use lib.Seq.{getD-take, getD-drop, drop-append-le, take-all}
 use mathlib.Core.Bool.{Bool, true, false, cond}
 use borrow.Author.Tests.{le-leb, leb-true, ltb-true, ltb-false}
 use Rattle.bytes_be.specs.Part.{holds, part, putAt}
@@ -23,6 +23,23 @@ unfolding toBytes
 length-toBytes zero n = refl
 length-toBytes (suc width) n =
     length-append (toBytes width (n / 256)) (n % 256 ∷ []) ∙ omega (arith, length-toBytes width (n / 256))
+
+-- the last bytes of a number's bytes are its bytes at the lesser width
+
+drop-toBytes : (more width n : ℕ) → drop more (toBytes (more + width) n) ≡ toBytes width n
+unfolding toBytes
+drop-toBytes more zero n = drop-of-length-le (toBytes (more + 0) n) {i = more} (simp (length-toBytes, add-zero) (omega arith))
+drop-toBytes more (suc width) n =
+    let long : more ≤ length (toBytes (more + width) (n / 256)) = omega (arith, length-toBytes (more + width) (n / 256)) in
+    ap (λ (k : ℕ). drop more (toBytes k n)) (add-suc more width)
+    ∙ drop-append-le more (toBytes (more + width) (n / 256)) (n % 256 ∷ []) long
+    ∙ ap (λ (l : List ℕ). l ++ (n % 256 ∷ [])) (drop-toBytes more width (n / 256))
+
+pub last-bytes : (width n : ℕ) → width ≤ 8 → part (toBytes 8 n) (8 - width) (8 - (8 - width)) ≡ toBytes width n
+last-bytes width n h =
+    let all : 8 - width + width ≡ 8 = omega arith in
+    let last : drop (8 - width) (toBytes 8 n) ≡ toBytes width n = rw all at (drop-toBytes (8 - width) width n) in
+    ap (take (8 - (8 - width))) last ∙ take-all (8 - (8 - width)) (toBytes width n) (omega (arith, length-toBytes width n))
 
 behind-append : (n : ℕ) (xs ys : List ℕ) → fromBytesBehind n (xs ++ ys) ≡ fromBytesBehind (fromBytesBehind n xs) ys
 unfolding fromBytesBehind

@@ -1,7 +1,6 @@
 // Big-endian numbers at a place of a slice, and the copy that everything written to an output uses.
 ghost use mathlib.Core.Path.{_≡_};
 ghost use Prim.Native.Nat.{_≤_, _<_, _^_};
-ghost use lib.ListN.{length};
 ghost use Rattle.bytes_be.specs.Part.{putAt};
 ghost use Rattle.bytes_be.specs.Part.{holds as Part·holds};
 ghost use Rattle.bytes_be.specs.Number.{numberAt, toBytes};
@@ -86,20 +85,6 @@ pub fn bytes16(n: u16) -> [u8; 2]
     [(a % 256) as u8, (n % 256) as u8]
 }
 
-pub fn bytes32(n: u32) -> [u8; 4]
-    ensures { λ r. ⌜ r ≡ toBytes 4 n ⌝ }
-{
-    let c = n / 256;
-    let b = c / 256;
-    let a = b / 256;
-    [
-        (a % 256) as u8,
-        (b % 256) as u8,
-        (c % 256) as u8,
-        (n % 256) as u8,
-    ]
-}
-
 pub fn bytes64(n: u64) -> [u8; 8]
     ensures { λ r. ⌜ r ≡ toBytes 8 n ⌝ }
 {
@@ -122,24 +107,30 @@ pub fn bytes64(n: u64) -> [u8; 8]
     ]
 }
 
-// Stores the bytes of a number from place `at` on. Where they do not all fit, `out` stays as it is.
+// Stores the last `width` bytes of a number from place `at` on. Where they do not all fit, `out` stays as it is.
+fn store(out: &mut [u8], at: usize, width: usize, n: u64)
+    requires { ⌜ width ≤ 8 ⌝ }
+    ensures { λ _. ⌜ now (out .exit) ≡ putAt (now (out .entry)) at (toBytes width n) ⌝ }
+{
+    let bytes = bytes64(n);
+    let first = 8 - width;
+    copy_at(out, at, &bytes[first..]);
+}
+
 pub fn store16(out: &mut [u8], at: usize, n: u16)
     ensures { λ _. ⌜ now (out .exit) ≡ putAt (now (out .entry)) at (toBytes 2 n) ⌝ }
 {
-    let bytes = bytes16(n);
-    copy_at(out, at, &bytes);
+    store(out, at, 2, n as u64);
 }
 
 pub fn store32(out: &mut [u8], at: usize, n: u32)
     ensures { λ _. ⌜ now (out .exit) ≡ putAt (now (out .entry)) at (toBytes 4 n) ⌝ }
 {
-    let bytes = bytes32(n);
-    copy_at(out, at, &bytes);
+    store(out, at, 4, n as u64);
 }
 
 pub fn store64(out: &mut [u8], at: usize, n: u64)
     ensures { λ _. ⌜ now (out .exit) ≡ putAt (now (out .entry)) at (toBytes 8 n) ⌝ }
 {
-    let bytes = bytes64(n);
-    copy_at(out, at, &bytes);
+    store(out, at, 8, n);
 }
