@@ -1,7 +1,7 @@
 -- Reading a bundle that was written gives back its frames, whatever their number from 1 to 16. Assumes nothing.
 use mathlib.Core.Path.{_≡_, refl, sym, ap, ap₂, _∙_}
 use mathlib.Core.List.{List, [], _∷_, _++_, append-assoc, flatMap, flatten}
-use mathlib.Core.Bool.{true}
+use mathlib.Core.Bool.{true, _&&_}
 use Prim.Native.Nat.{ℕ, zero, suc, _+_, _*_, _-_, _^_, _≤_, _<_}
 use native.Mathlib.Nat.{add-zero, zero-add}
 use native.Mathlib.Omega.{arith}
@@ -10,22 +10,17 @@ use lib.Seq.{take-length, ext-getD}
 use lib.Dec.{ltb}
 use borrow.Author.Tests.{leb-true, ltb-true, le-leb, eq-eqb}
 use Rattle.bytes_be.specs.Part.{tabulate, holds, part, putAt}
-use Rattle.bytes_be.specs.Number.{toBytes, numberAt}
+use Rattle.bytes_be.specs.Number.{toBytes}
 use Rattle.bytes_be.proofs.Tests.{both-true}
 use Rattle.bytes_be.proofs.Parts.{length-tabulate, getD-tabulate, length-part, part-then, part-put, part-behind, part-inside, part-front}
 use Rattle.bytes_be.proofs.Numbers.{Bytes, length-toBytes, number-is, bytes-there}
-use Rattle.bundle.specs.Reading.{countOf, lengthOf, lengthsBefore, placeOf, good, sizeOf, frameOf, framesOf}
+use Rattle.bundle.specs.Reading.{countOf, counted, lengthOf, lengthsBefore, startOf, placeOf, good, sizeOf, frameOf, framesOf}
 use Rattle.bundle.specs.declared.Frame.the-variants.{At, Behind}
 use Rattle.bundle.proofs.Sums.{before-suc, before-grows, good-told, contents-inside, body-inside, frame-there, frame-behind}
-use Rattle.bundle.specs.Writing.{lengthBytes, bundleOf, short, writable, Written}
+use Rattle.bundle.proofs.Outputs.{length-lengths, contents, length-contents, length-bundle}
+use Rattle.bundle.specs.Writing.{lengthBytes, bundleOf, lengthsFit, writable, Written}
 
 -- the lengths, one behind the other
-
-length-lengths : (frames : List (List ℕ)) → length (flatMap lengthBytes frames) ≡ 4 * length frames
-unfolding flatMap
-length-lengths [] = refl
-length-lengths (f ∷ rest) =
-    length-append (lengthBytes f) (flatMap lengthBytes rest) ∙ omega (arith, length-toBytes 4 (length f), length-lengths rest)
 
 part-lengths : (frames : List (List ℕ)) (k : ℕ) → k < length frames → part (flatMap lengthBytes frames) (4 * k) 4 ≡ lengthBytes (getD frames k [])
 unfolding flatMap
@@ -58,42 +53,29 @@ part-bodies (f ∷ rest) (suc k) h =
     ∙ part-behind f (flatten rest) (length f) (length (flatten (take k rest))) (length (getD rest k [])) refl
     ∙ part-bodies rest k (omega arith)
 
-short-at : (frames : List (List ℕ)) (k : ℕ) → short frames ≡ true → k < length frames → length (getD frames k []) < 256 ^ 4
-unfolding short
-short-at [] k all h = absurd (omega arith)
-short-at (f ∷ rest) zero all h = ltb-true (length f) (256 ^ 4) (both-true (ltb (length f) (256 ^ 4)) (short rest) all .0)
-short-at (f ∷ rest) (suc k) all h = short-at rest k (both-true (ltb (length f) (256 ^ 4)) (short rest) all .1) (omega arith)
-
--- the contents of a bundle, in front of its bodies
-abbrev contents : List (List ℕ) → List ℕ
-contents frames = toBytes 2 (length frames) ++ flatMap lengthBytes frames
+fit-at : (frames : List (List ℕ)) (k : ℕ) → lengthsFit frames ≡ true → k < length frames → length (getD frames k []) < 256 ^ 4
+unfolding lengthsFit
+fit-at [] k all h = absurd (omega arith)
+fit-at (f ∷ rest) zero all h = ltb-true (length f) (256 ^ 4) (both-true (ltb (length f) (256 ^ 4)) (lengthsFit rest) all .0)
+fit-at (f ∷ rest) (suc k) all h = fit-at rest k (both-true (ltb (length f) (256 ^ 4)) (lengthsFit rest) all .1) (omega arith)
 
 module _ (frames : List (List ℕ)) where
-  length-contents : length (contents frames) ≡ 2 + 4 * length frames
-  length-contents =
-      length-append (toBytes 2 (length frames)) (flatMap lengthBytes frames)
-      ∙ omega (arith, length-toBytes 2 (length frames), length-lengths frames)
-
-  pub length-bundle : length (bundleOf frames) ≡ 2 + 4 * length frames + length (flatten frames)
-  unfolding bundleOf
-  length-bundle = length-append (contents frames) (flatten frames) ∙ omega (arith, length-contents)
-
   -- the count in front of the lengths
   count-first : bundleOf frames ≡ toBytes 2 (length frames) ++ (flatMap lengthBytes frames ++ flatten frames)
   unfolding bundleOf
   count-first = append-assoc (toBytes 2 (length frames)) (flatMap lengthBytes frames) (flatten frames)
 
-  module _ (few : length frames ≤ 16) (all : short frames ≡ true) where
+  module _ (few : length frames ≤ 16) (all : lengthsFit frames ≡ true) where
     pub count-back : countOf (bundleOf frames) ≡ length frames
     unfolding countOf
     count-back =
-        number-is 2 (bundleOf frames) 0 (length frames) (omega (arith, length-bundle)) (omega arith)
+        number-is 2 (bundleOf frames) 0 (length frames) (omega (arith, length-bundle frames)) (omega arith)
         (rw count-first (part-front (toBytes 2 (length frames)) _ 2 (length-toBytes 2 (length frames))))
 
     pub length-back : (k : ℕ) → k < length frames → lengthOf (bundleOf frames) k ≡ length (getD frames k [])
     unfolding lengthOf
     length-back k h =
-        number-is 4 (bundleOf frames) (2 + 4 * k) (length (getD frames k [])) (omega (arith, length-bundle)) (short-at frames k all h)
+        number-is 4 (bundleOf frames) (2 + 4 * k) (length (getD frames k [])) (omega (arith, length-bundle frames)) (fit-at frames k all h)
         (rw count-first
         (part-behind (toBytes 2 (length frames)) (flatMap lengthBytes frames ++ flatten frames) 2 (4 * k) 4 (length-toBytes 2 (length frames))
         ∙ part-inside (flatMap lengthBytes frames) (flatten frames) (4 * k) 4 (omega (arith, length-lengths frames))
@@ -104,8 +86,8 @@ module _ (frames : List (List ℕ)) where
     before-back zero h = refl
     before-back (suc k) h = omega (arith, before-back k (omega arith), length-back k h, bodies-more frames k h)
 
-    place-back : (k : ℕ) → k ≤ length frames → placeOf (bundleOf frames) k ≡ 2 + 4 * length frames + length (flatten (take k frames))
-    unfolding placeOf
+    place-back : (k : ℕ) → k ≤ length frames → startOf (bundleOf frames) k ≡ 2 + 4 * length frames + length (flatten (take k frames))
+    unfolding startOf
     place-back k h = omega (arith, count-back, before-back k h)
 
     -- the bundle's size is that of its frames
@@ -118,20 +100,20 @@ module _ (frames : List (List ℕ)) where
     unfolding good
     good-back some =
         let last = rw (take-length frames) at (place-back (length frames) (omega arith)) in
-        let ends : placeOf (bundleOf frames) (length frames) ≡ length (bundleOf frames) = last ∙ sym length-bundle in
+        let ends : startOf (bundleOf frames) (length frames) ≡ length (bundleOf frames) = last ∙ sym (length-bundle frames) in
         simp (count-back, le-leb 1 (length frames) some, le-leb (length frames) 16 few, eq-eqb _ _ ends)
 
-    pub frame-back : (k : ℕ) → k < length frames → part (bundleOf frames) (placeOf (bundleOf frames) k) (lengthOf (bundleOf frames) k) ≡ getD frames k []
+    pub frame-back : (k : ℕ) → k < length frames → part (bundleOf frames) (startOf (bundleOf frames) k) (lengthOf (bundleOf frames) k) ≡ getD frames k []
     unfolding bundleOf
     frame-back k h =
         let before : ℕ = length (flatten (take k frames)) in
         let size : ℕ = length (getD frames k []) in
         simp (place-back k (omega arith), length-back k h)
-        (part-behind (contents frames) (flatten frames) (2 + 4 * length frames) before size length-contents ∙ part-bodies frames k h)
+        (part-behind (contents frames) (flatten frames) (2 + 4 * length frames) before size (length-contents frames) ∙ part-bodies frames k h)
 
     -- the reader hands out each frame that was written, and none behind the last
 
-    pub handed-back : 1 ≤ length frames → (k : ℕ) → k < length frames → frameOf (bundleOf frames) k ≡ At (placeOf (bundleOf frames) k) (lengthOf (bundleOf frames) k)
+    pub handed-back : 1 ≤ length frames → (k : ℕ) → k < length frames → frameOf (bundleOf frames) k ≡ At (placeOf (bundleOf frames) k)
     handed-back some k h = frame-there (bundleOf frames) (good-back some) k (omega (arith, count-back))
 
     pub none-behind : 1 ≤ length frames → (k : ℕ) → length frames ≤ k → frameOf (bundleOf frames) k ≡ Behind
@@ -141,7 +123,7 @@ module _ (frames : List (List ℕ)) where
     pub frames-back : framesOf (bundleOf frames) ≡ frames
     unfolding framesOf
     frames-back =
-        let f : ℕ → List ℕ = λ k. part (bundleOf frames) (placeOf (bundleOf frames) k) (lengthOf (bundleOf frames) k) in
+        let f : ℕ → List ℕ = λ k. part (bundleOf frames) (startOf (bundleOf frames) k) (lengthOf (bundleOf frames) k) in
         let count : ℕ = countOf (bundleOf frames) in
         ext-getD [] _ frames (length-tabulate f 0 count ∙ count-back)
         (λ k h. let there : k < length frames = omega (arith, length-tabulate f 0 count, count-back) in
@@ -152,23 +134,23 @@ pub message-written : {frames : List (List ℕ)} {before after : List ℕ} {coun
     writable (length before) frames ≡ true → Written frames before count after → part after 0 count ≡ bundleOf frames
 unfolding writable
 message-written {frames} {before} {after} {count} can written =
-    let both = both-true (short frames) (holds (length before) 0 (length (bundleOf frames))) can in
-    let counted : count ≡ length (bundleOf frames) = simp can at (written .counted) in
+    let both = both-true (counted (length frames) && lengthsFit frames) (holds (length before) 0 (length (bundleOf frames))) can in
+    let answered : count ≡ length (bundleOf frames) = simp can at (written .answered) in
     let left : after ≡ putAt before 0 (bundleOf frames) = simp can at (written .left) in
-    ap₂ (λ (l : List ℕ) (n : ℕ). part l 0 n) left counted ∙ part-put before 0 (bundleOf frames) (leb-true _ _ (both .1))
+    ap₂ (λ (l : List ℕ) (n : ℕ). part l 0 n) left answered ∙ part-put before 0 (bundleOf frames) (leb-true _ _ (both .1))
 
 -- The other way: a good bundle is the bundle of its frames, so that each good bundle is written in one way alone.
 
 module _ (s : List ℕ) where
   abbrev frame-of : ℕ → List ℕ
-  frame-of k = part s (placeOf s k) (lengthOf s k)
+  frame-of k = part s (startOf s k) (lengthOf s k)
 
   module _ (bytes : Bytes s) (g : good s ≡ true) where
     lengths-there : (i k : ℕ) → i + k ≤ countOf s → flatMap lengthBytes (tabulate i k frame-of) ≡ part s (2 + 4 * i) (4 * k)
     unfolding flatMap lengthOf
     lengths-there i zero h = refl
     lengths-there i (suc k) h =
-        let long : length (frame-of i) ≡ lengthOf s i = length-part s (placeOf s i) (lengthOf s i) (body-inside s g i (omega arith)) in
+        let long : length (frame-of i) ≡ lengthOf s i = length-part s (startOf s i) (lengthOf s i) (body-inside s g i (omega arith)) in
         let all : 4 + 4 * k ≡ 4 * suc k = omega arith in
         let here : toBytes 4 (length (frame-of i)) ≡ part s (2 + 4 * i) 4 = ap (toBytes 4) long ∙ bytes-there 4 s (2 + 4 * i) bytes (contents-inside s g i (omega arith)) in
         ap₂ (λ (a b : List ℕ). a ++ b) here (lengths-there (suc i) k (omega arith))
@@ -176,8 +158,8 @@ module _ (s : List ℕ) where
         ∙ ap (part s (2 + 4 * i)) all
 
     bodies-there : (i k size : ℕ) → i + k ≤ countOf s →
-        lengthsBefore s i + size ≡ lengthsBefore s (i + k) → flatten (tabulate i k frame-of) ≡ part s (placeOf s i) size
-    unfolding flatten placeOf
+        lengthsBefore s i + size ≡ lengthsBefore s (i + k) → flatten (tabulate i k frame-of) ≡ part s (startOf s i) size
+    unfolding flatten startOf
     bodies-there i zero size h e =
         let none : size ≡ 0 = omega (arith, rw add-zero at e) in
         simp none
@@ -186,17 +168,17 @@ module _ (s : List ℕ) where
         let rest : lengthsBefore s (suc i) + (size - lengthOf s i) ≡ lengthsBefore s (suc i + k) = omega (arith, rw next at e, before-suc s i, before-grows s (suc i) k) in
         let all : lengthOf s i + (size - lengthOf s i) ≡ size = omega (arith, rw next at e, before-suc s i, before-grows s (suc i) k) in
         ap (λ (b : List ℕ). frame-of i ++ b) (bodies-there (suc i) k (size - lengthOf s i) (omega arith) rest)
-        ∙ part-then s (placeOf s i) (lengthOf s i) (size - lengthOf s i) (placeOf s (suc i)) (omega (arith, before-suc s i))
-        ∙ ap (part s (placeOf s i)) all
+        ∙ part-then s (startOf s i) (lengthOf s i) (size - lengthOf s i) (startOf s (suc i)) (omega (arith, before-suc s i))
+        ∙ ap (part s (startOf s i)) all
 
     -- what is read, written again, is the same bundle
     pub bundle-back : bundleOf (framesOf s) ≡ s
-    unfolding bundleOf framesOf countOf placeOf lengthsBefore
+    unfolding bundleOf framesOf countOf startOf lengthsBefore
     bundle-back =
         let size : ℕ = lengthsBefore s (countOf s) in
         let count : toBytes 2 (length (tabulate 0 (countOf s) frame-of)) ≡ part s 0 2 =
         ap (toBytes 2) (length-tabulate frame-of 0 (countOf s)) ∙ bytes-there 2 s 0 bytes (omega (arith, good-told s g .ends)) in
-        let place : placeOf s 0 ≡ 2 + 4 * countOf s = omega arith in
+        let place : startOf s 0 ≡ 2 + 4 * countOf s = omega arith in
         let bodies : flatten (tabulate 0 (countOf s) frame-of) ≡ part s (2 + 4 * countOf s) size =
         bodies-there 0 (countOf s) size (omega arith) (zero-add size ∙ ap (lengthsBefore s) (sym (zero-add (countOf s)))) ∙ ap (λ (k : ℕ). part s k size) place in
         let end : 2 + 4 * countOf s + size ≡ length s = good-told s g .ends in

@@ -4,25 +4,30 @@ ghost use mathlib.Core.List.{[], _∷_};
 ghost use Prim.Native.Nat.{_*_, _≤_};
 ghost use Rattle.bundle.specs.Reading.{countOf, lengthOf, lengthsBefore, contentsOf, frameOf};
 ghost use Rattle.bundle.specs.Writing.{Written};
+use bytes_be::Place;
 
 pub enum Contents {
-    // How many frames a good bundle has, and the sum of their lengths.
-    Frames { count: usize, size: u64 },
-    // 10: no good bundle.
-    Bad,
+    // How many frames a good bundle has, where its control frame stands, and the sum of all lengths.
+    Frames {
+        count: usize,
+        control: Place,
+        size: u64,
+    },
+    // 10.
+    BadBundle,
 }
 
 pub enum Frame {
     // Where the frame stands in the bundle.
-    At { place: usize, size: usize },
+    At(Place),
     // There is no such frame: the index is behind the last one.
     Behind,
-    // 10: no good bundle, and none of its frames is handed out.
-    Nowhere,
+    // 10, and no frame is handed out.
+    BadBundle,
 }
 
 // The frame count that the bundle says, be it good or not.
-pub fn count_of(s: &[u8]) -> u16
+fn count_of(s: &[u8]) -> u16
     ensures { λ r. ⌜ r ≡ countOf (now (s .entry)) ⌝ }
 {
     bytes_be::read16(s, 0)
@@ -50,22 +55,27 @@ fn lengths_before(s: &[u8], k: usize) -> u64
     sum
 }
 
-// How many frames the bundle has and the size of its message.
+// What the contents of the bundle say.
 pub fn contents_of(s: &[u8]) -> Contents
     ensures { λ r. ⌜ r ≡ contentsOf (now (s .entry)) ⌝ }
 {
     let count = count_of(s) as usize;
     let counted = (1 <= count) & (count <= 16);
     if !counted {
-        return Contents::Bad;
+        return Contents::BadBundle;
     }
     let size = lengths_before(s, count);
     let end = 2 + 4 * count as u64 + size;
     if end != s.len() as u64 {
-        return Contents::Bad;
+        return Contents::BadBundle;
     }
+    let control = Place {
+        at: 2 + 4 * count,
+        length: length_of(s, 0) as usize,
+    };
     Contents::Frames {
         count: count,
+        control: control,
         size: size,
     }
 }
@@ -74,17 +84,21 @@ pub fn contents_of(s: &[u8]) -> Contents
 pub fn frame_at(s: &[u8], index: usize) -> Frame
     ensures { λ r. ⌜ r ≡ frameOf (now (s .entry)) index ⌝ }
 {
-    let Contents::Frames { count, size: _ } = contents_of(s) else {
-        return Frame::Nowhere;
+    let Contents::Frames {
+        count,
+        control: _,
+        size: _,
+    } = contents_of(s)
+    else {
+        return Frame::BadBundle;
     };
     if count <= index {
         return Frame::Behind;
     }
-    let place = 2 + 4 * count + lengths_before(s, index) as usize;
-    Frame::At {
-        place: place,
-        size: length_of(s, index) as usize,
-    }
+    Frame::At(Place {
+        at: 2 + 4 * count + lengths_before(s, index) as usize,
+        length: length_of(s, index) as usize,
+    })
 }
 
 // Writes the bundle of one frame of 8 bytes, and answers its length.

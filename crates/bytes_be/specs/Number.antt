@@ -1,4 +1,4 @@
--- "All big-endian": the number that a list of bytes says, the bytes of a number at any width, and a number at a place.
+-- "Facts about big-endian numbers are proved once for any width": the number that bytes say, the bytes of a number, a number at a place.
 use Prim.Native.Nat.{ℕ, zero, suc, _+_, _*_, _/_, _%_}
 use mathlib.Core.List.{List, [], _∷_, _++_}
 use mathlib.Core.Bool.{cond}

@@ -4,6 +4,7 @@ use mathlib.Core.List.{List, [], _∷_, _++_}
 use mathlib.Core.Bool.{Bool, cond}
 use lib.ListN.{length, take, drop}
 use lib.Dec.{leb}
+use Rattle.bytes_be.specs.declared.Place.{Place}
 
 -- the values of f at `count` numbers, from `first` on
 abbrev pub tabulate : {A : Type 0} → ℕ → ℕ → (ℕ → A) → List A
@@ -17,6 +18,10 @@ holds n at size = leb (at + size) n
 -- the `size` elements of xs from place `at` on
 abbrev pub part : {A : Type 0} → List A → ℕ → ℕ → List A
 part xs at size = take size (drop at xs)
+
+-- the elements of xs at a place
+abbrev pub partAt : {A : Type 0} → List A → Place → List A
+partAt xs place = part xs (place .at) (place .length)
 
 -- out with ys written from place `at` on and nothing else changed; out itself where they do not all fit
 unfoldable pub putAt : {A : Type 0} → List A → ℕ → List A → List A

@@ -5,6 +5,12 @@ ghost use Rattle.bytes_be.specs.Part.{putAt};
 ghost use Rattle.bytes_be.specs.Part.{holds as Part·holds};
 ghost use Rattle.bytes_be.specs.Number.{numberAt, toBytes};
 
+// Where a part of a slice stands.
+pub struct Place {
+    pub at: usize,
+    pub length: usize,
+}
+
 // Whether n bytes hold `size` bytes from place `at` on.
 pub fn holds(n: usize, at: usize, size: usize) -> bool
     ensures { λ r. ⌜ r ≡ Part·holds n at size ⌝ }

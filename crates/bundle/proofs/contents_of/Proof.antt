@@ -1,10 +1,10 @@
 -- `bundle::contents_of` meets its contract: at each `return` the tests that led there say whether the bundle is good.
 -- Assumes nothing.
-use mathlib.Core.Bool.{_&&_}
+use native.Mathlib.Nat.{add-zero}
 use lib.Dec.{leb}
 use borrow.Author.Tests.{leb-true, eq-eqb, ne-eqb, not-true, not-false}
 use Rattle.bytes_be.proofs.Tests.{both-true}
-use Rattle.bundle.specs.Reading.{contentsOf, good, placeOf, sizeOf}
+use Rattle.bundle.specs.Reading.{counted, contentsOf, good, startOf, sizeOf, lengthsBefore}
 use borrow.Author.Needs.{needs}
 use Rattle.bundle.proofs.contents_of.Statement.{statement}
 use Rattle.bundle.proofs.contents_of.Tie as tie
@@ -19,7 +19,7 @@ returns : tie.Need-returns
 unfolding contentsOf good
 returns c =
     let count = c .before .count-of in
-    simp (← (count .ensures), not-true (leb 1 (count .result) && leb (count .result) 16) (c .if1 .taken))
+    simp (← (count .ensures), not-true (counted (count .result)) (c .if1 .taken))
 
 lengths-before-requires : tie.Need-lengths-before-requires
 lengths-before-requires c κs =
@@ -36,18 +36,35 @@ add-end-2 : tie.Need-add-end-2
 add-end-2 c = search needs
 
 returns-2 : tie.Need-returns-2
-unfolding contentsOf good placeOf
+unfolding contentsOf good startOf
 returns-2 c =
     let count = c .before .before .before .count-of in
-    let counted = not-false (leb 1 (count .result) && leb (count .result) 16) (c .before .before .if1 .left) in
-    simp (← (count .ensures), counted, ← (c .before .lengths-before .ensures .0), ne-eqb _ _ (c .if2 .taken))
+    simp (← (count .ensures), not-false (counted (count .result)) (c .before .before .if1 .left), ← (c .before .lengths-before .ensures .0), ne-eqb _ _ (c .if2 .taken))
+
+mul-t13 : tie.Need-mul-t13
+mul-t13 c = search needs
+
+add-t14 : tie.Need-add-t14
+add-t14 c = search needs
+
+length-of-requires : tie.Need-length-of-requires
+length-of-requires c κs = search needs
+
+cast-t16 : tie.Need-cast-t16
+cast-t16 c = search needs
 
 returns-3 : tie.Need-returns-3
-unfolding contentsOf good placeOf sizeOf
+unfolding contentsOf good startOf sizeOf lengthsBefore
 returns-3 c =
-    let count = c .before .before .before .count-of in
-    let counted = not-false (leb 1 (count .result) && leb (count .result) 16) (c .before .before .if1 .left) in
-    simp (← (count .ensures), counted, ← (c .before .lengths-before .ensures .0), eq-eqb _ _ (c .if2 .left))
+    let count = c .before .before .before .before .count-of in
+    simp (
+      ← (count .ensures),
+      not-false (counted (count .result)) (c .before .before .before .if1 .left),
+      ← (c .before .before .lengths-before .ensures .0),
+      eq-eqb _ _ (c .before .if2 .left),
+      add-zero,
+      c .length-of .ensures,
+    )
 
 pub contents-of-spec : {M : Type 1} → statement M
 contents-of-spec =
@@ -61,4 +78,8 @@ contents-of-spec =
     add-end
     add-end-2
     returns-2
+    mul-t13
+    add-t14
+    length-of-requires
+    cast-t16
     returns-3)
