@@ -4,74 +4,101 @@ use mathlib.Core.List.{List, [], _∷_, _++_}
 use mathlib.Core.Bool.{_&&_, cond}
 use lib.ListN.{length}
 use lib.Dec.{eqb}
-use Rattle.bytes_be.specs.Number.{numberAt, toBytes}
-use Rattle.control.specs.declared.Kind.{Kind}
-use Rattle.control.specs.declared.Kind.the-variants.{Open, Ready, Noop, Data, Close}
+use Rattle.bytes_be.specs.Number.{fromBytes, numberAt, toBytes}
+use Rattle.control.specs.declared.MessageType.{MessageType}
+use Rattle.control.specs.declared.MessageType.the-variants.{Open, Ready, Noop, Data, Close}
 use Rattle.control.specs.declared.Signed.{Signed}
 use Rattle.control.specs.declared.Signed.the-variants.{Frame, Unsigned}
 use Rattle.control.specs.declared.Version.{Version}
 use Rattle.control.specs.declared.Version.the-variants.{One, Other}
-use Rattle.control.specs.declared.Named.{Named}
-use Rattle.control.specs.declared.Named.the-variants.{Known, Unknown}
+use Rattle.control.specs.declared.KnownType.{KnownType}
+use Rattle.control.specs.declared.KnownType.the-variants.{Known, Unknown}
 use Rattle.control.specs.declared.Control.{Control}
-use Rattle.control.specs.declared.Control.the-variants.{Read, Refused}
+use Rattle.control.specs.declared.Control.the-variants.{Read, BadSignature, OtherVersion, UnknownType}
+
+-- "46 42 44 50"
+abbrev pub signature : List ℕ
+signature = 0x46 ∷ 0x42 ∷ 0x44 ∷ 0x50 ∷ []
+
+-- "Here the version is 1"
+abbrev pub version : ℕ
+version = 1
 
 -- "Types: OPEN 1, READY 2, NOOP 3, DATA 4, CLOSE 5."
-abbrev pub typeOf : Kind → ℕ
+abbrev pub typeOf : MessageType → ℕ
 typeOf Open = 1
 typeOf Ready = 2
 typeOf Noop = 3
 typeOf Data = 4
 typeOf Close = 5
 
+-- "Flags: ACK-REQUEST 1, ACK-REPLY 2."
+abbrev pub ackRequest : ℕ
+ackRequest = 1
+
+abbrev pub ackReply : ℕ
+ackReply = 2
+
+-- "control byte = 8 x type + version": the byte, and the type and the version that a byte says
+abbrev pub controlByte : ℕ → ℕ
+controlByte type = 8 * type + version
+
+abbrev pub typeIn : ℕ → ℕ
+typeIn byte = byte / 8
+
+abbrev pub versionIn : ℕ → ℕ
+versionIn byte = byte % 8
+
 -- 11: "control frame not 8 bytes, or wrong signature"
 unfoldable pub signedOf : List ℕ → Signed
 signedOf s =
-    cond (eqb (length s) 8 && eqb (numberAt 4 s 0) 0x46424450)
+    cond (eqb (length s) 8 && eqb (numberAt 4 s 0) (fromBytes signature))
     (Frame (numberAt 1 s 4) (numberAt 1 s 5) (numberAt 2 s 6))
     Unsigned
 
--- 12: "version not 1"; "control byte = 8 x type + version"
+-- 12: "version not 1"
 unfoldable pub versionOf : ℕ → Version
-versionOf control = cond (eqb (control % 8) 1) (One (control / 8)) Other
+versionOf byte = cond (eqb (versionIn byte) version) (One (typeIn byte)) Other
 
 -- 13: "type 0 or 6..31"
-unfoldable pub namedOf : ℕ → Named
-namedOf n =
-    cond (eqb n 1) (Known Open)
-    (cond (eqb n 2) (Known Ready)
-    (cond (eqb n 3) (Known Noop)
-    (cond (eqb n 4) (Known Data)
-    (cond (eqb n 5) (Known Close)
+unfoldable pub knownTypeOf : ℕ → KnownType
+knownTypeOf type =
+    cond (eqb type 1) (Known Open)
+    (cond (eqb type 2) (Known Ready)
+    (cond (eqb type 3) (Known Noop)
+    (cond (eqb type 4) (Known Data)
+    (cond (eqb type 5) (Known Close)
     Unknown))))
 
 -- what follows a stage that is passed, or the refusal of one that is not
 
 abbrev pub ifSigned : Signed → Control → (ℕ → ℕ → ℕ → Control) → Control
-ifSigned (Frame control flags type-data) refused next = next control flags type-data
+ifSigned (Frame byte flags type-data) refused next = next byte flags type-data
 ifSigned Unsigned refused next = refused
 
-abbrev pub ifOne : Version → Control → (ℕ → Control) → Control
-ifOne (One type) refused next = next type
-ifOne Other refused next = refused
+abbrev pub ifVersionOne : Version → Control → (ℕ → Control) → Control
+ifVersionOne (One type) refused next = next type
+ifVersionOne Other refused next = refused
 
-abbrev pub ifNamed : Named → Control → (Kind → Control) → Control
-ifNamed (Known kind) refused next = next kind
-ifNamed Unknown refused next = refused
+abbrev pub ifKnown : KnownType → Control → (MessageType → Control) → Control
+ifKnown (Known message) refused next = next message
+ifKnown Unknown refused next = refused
 
--- a control frame as it is read: the first of 11, 12 and 13 that applies, else its type, flags and type-data
+-- a control frame as it is read: the first of the three refusals that applies, else its type, flags and type-data
 unfoldable pub controlOf : List ℕ → Control
 controlOf s =
-    ifSigned (signedOf s) (Refused 11) (λ control flags type-data.
-    ifOne (versionOf control) (Refused 12) (λ type.
-    ifNamed (namedOf type) (Refused 13) (λ kind.
-    Read kind flags type-data)))
+    ifSigned (signedOf s) BadSignature (λ byte flags type-data.
+    ifVersionOne (versionOf byte) OtherVersion (λ type.
+    ifKnown (knownTypeOf type) UnknownType (λ message.
+    Read message flags type-data)))
 
 -- the number of the answer
 abbrev pub numberOf : Control → ℕ
-numberOf (Read kind flags type-data) = 0
-numberOf (Refused number) = number
+numberOf (Read message flags type-data) = 0
+numberOf BadSignature = 11
+numberOf OtherVersion = 12
+numberOf UnknownType = 13
 
 -- a control frame as it is written
-unfoldable pub bytesOf : Kind → ℕ → ℕ → List ℕ
-bytesOf kind flags type-data = (0x46 ∷ 0x42 ∷ 0x44 ∷ 0x50 ∷ (8 * typeOf kind + 1) ∷ flags ∷ []) ++ toBytes 2 type-data
+unfoldable pub bytesOf : MessageType → ℕ → ℕ → List ℕ
+bytesOf message flags type-data = signature ++ (controlByte (typeOf message) ∷ flags ∷ []) ++ toBytes 2 type-data

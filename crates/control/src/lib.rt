@@ -1,9 +1,9 @@
 // The 8-byte control frame: read in stages, one for each number that can refuse it, and written.
 ghost use mathlib.Core.Path.{_≡_};
-ghost use Rattle.control.specs.Frame.{typeOf, signedOf, versionOf, namedOf, controlOf, bytesOf};
+ghost use Rattle.control.specs.Frame.{typeOf, signedOf, versionOf, knownTypeOf, controlOf, numberOf, bytesOf};
 
 // The five types of message.
-pub enum Kind {
+pub enum MessageType {
     Open,
     Ready,
     Noop,
@@ -11,58 +11,63 @@ pub enum Kind {
     Close,
 }
 
-// A frame of 8 bytes with the signature.
+// A frame of 8 bytes with the signature, or one that is not: 11.
 pub enum Signed {
     Frame {
-        control: u8,
+        control_byte: u8,
         flags: u8,
         type_data: u16,
     },
     Unsigned,
 }
 
-// A control byte of version 1, with the type that it says.
+// A control byte of version 1, with the number of its type, or one of another version: 12.
 pub enum Version {
     One(u8),
     Other,
 }
 
-// A type that has a name.
-pub enum Named {
-    Known(Kind),
+// The type that a number stands for, or none: 13.
+pub enum KnownType {
+    Known(MessageType),
     Unknown,
 }
 
+// A control frame as it is read.
 pub enum Control {
     Read {
-        kind: Kind,
+        message: MessageType,
         flags: u8,
         type_data: u16,
     },
-    // The first of 11, 12 and 13 that applies.
-    Refused(u8),
+    // 11: not 8 bytes, or a wrong signature.
+    BadSignature,
+    // 12: the version is not 1.
+    OtherVersion,
+    // 13: type 0 or 6 to 31.
+    UnknownType,
 }
 
-// A type by its number.
-pub fn type_of(kind: Kind) -> u8
-    ensures { λ r. ⌜ r ≡ typeOf kind ⌝ }
+// The number of a type.
+pub fn type_of(message: MessageType) -> u8
+    ensures { λ r. ⌜ r ≡ typeOf message ⌝ }
 {
-    match kind {
-        Kind::Open => 1,
-        Kind::Ready => 2,
-        Kind::Noop => 3,
-        Kind::Data => 4,
-        Kind::Close => 5,
+    match message {
+        MessageType::Open => 1,
+        MessageType::Ready => 2,
+        MessageType::Noop => 3,
+        MessageType::Data => 4,
+        MessageType::Close => 5,
     }
 }
 
-fn signed_of(s: &[u8]) -> Signed
+pub fn signed_of(s: &[u8]) -> Signed
     ensures { λ r. ⌜ r ≡ signedOf (now (s .entry)) ⌝ }
 {
     let signed = (s.len() == 8) & (bytes_be::read32(s, 0) == 0x4642_4450);
     if signed {
         return Signed::Frame {
-            control: bytes_be::read8(s, 4),
+            control_byte: bytes_be::read8(s, 4),
             flags: bytes_be::read8(s, 5),
             type_data: bytes_be::read16(s, 6),
         };
@@ -70,26 +75,25 @@ fn signed_of(s: &[u8]) -> Signed
     Signed::Unsigned
 }
 
-fn version_of(control: u8) -> Version
-    ensures { λ r. ⌜ r ≡ versionOf control ⌝ }
+pub fn version_of(control_byte: u8) -> Version
+    ensures { λ r. ⌜ r ≡ versionOf «control_byte» ⌝ }
 {
-    if control % 8 == 1 {
-        return Version::One(control / 8);
+    if control_byte % 8 == 1 {
+        return Version::One(control_byte / 8);
     }
     Version::Other
 }
 
-// A number as one of the types.
-pub fn named_of(number: u8) -> Named
-    ensures { λ r. ⌜ r ≡ namedOf number ⌝ }
+pub fn known_type_of(number: u8) -> KnownType
+    ensures { λ r. ⌜ r ≡ knownTypeOf number ⌝ }
 {
     match number {
-        1 => Named::Known(Kind::Open),
-        2 => Named::Known(Kind::Ready),
-        3 => Named::Known(Kind::Noop),
-        4 => Named::Known(Kind::Data),
-        5 => Named::Known(Kind::Close),
-        _ => Named::Unknown,
+        1 => KnownType::Known(MessageType::Open),
+        2 => KnownType::Known(MessageType::Ready),
+        3 => KnownType::Known(MessageType::Noop),
+        4 => KnownType::Known(MessageType::Data),
+        5 => KnownType::Known(MessageType::Close),
+        _ => KnownType::Unknown,
     }
 }
 
@@ -98,29 +102,45 @@ pub fn read(s: &[u8]) -> Control
     ensures { λ r. ⌜ r ≡ controlOf (now (s .entry)) ⌝ }
 {
     let Signed::Frame {
-        control,
+        control_byte,
         flags,
         type_data,
     } = signed_of(s)
     else {
-        return Control::Refused(11);
+        return Control::BadSignature;
     };
-    let Version::One(number) = version_of(control) else {
-        return Control::Refused(12);
+    let Version::One(number) = version_of(control_byte) else {
+        return Control::OtherVersion;
     };
-    let Named::Known(kind) = named_of(number) else {
-        return Control::Refused(13);
+    let KnownType::Known(message) = known_type_of(number) else {
+        return Control::UnknownType;
     };
     Control::Read {
-        kind: kind,
+        message: message,
         flags: flags,
         type_data: type_data,
     }
 }
 
+// The number of 01 for what was read: 0, or the refusal.
+pub fn number_of(control: Control) -> u8
+    ensures { λ r. ⌜ r ≡ numberOf control ⌝ }
+{
+    match control {
+        Control::Read {
+            message: _,
+            flags: _,
+            type_data: _,
+        } => 0,
+        Control::BadSignature => 11,
+        Control::OtherVersion => 12,
+        Control::UnknownType => 13,
+    }
+}
+
 // The bytes of a control frame.
-pub fn bytes_of(kind: Kind, flags: u8, type_data: u16) -> [u8; 8]
-    ensures { λ r. ⌜ r ≡ bytesOf kind flags «type_data» ⌝ }
+pub fn bytes_of(message: MessageType, flags: u8, type_data: u16) -> [u8; 8]
+    ensures { λ r. ⌜ r ≡ bytesOf message flags «type_data» ⌝ }
 {
     let last = bytes_be::bytes16(type_data);
     [
@@ -128,7 +148,7 @@ pub fn bytes_of(kind: Kind, flags: u8, type_data: u16) -> [u8; 8]
         0x42,
         0x44,
         0x50,
-        8 * type_of(kind) + 1,
+        8 * type_of(message) + 1,
         flags,
         last[0],
         last[1],

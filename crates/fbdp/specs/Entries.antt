@@ -4,15 +4,15 @@ use mathlib.Core.Path.{_≡_}
 use mathlib.Core.List.{List, [], _∷_}
 use Rattle.bundle.specs.Reading.{frameOf, frameNumber}
 use Rattle.bundle.specs.declared.Frame.{Frame}
-use Rattle.bundle.specs.declared.Frame.the-variants.{At, Behind, Nowhere}
+use Rattle.bundle.specs.declared.Frame.the-variants.{At, Behind, BadBundle}
 
--- a frame's place: found (0 or 1), at, length
-abbrev pub placeSlots : Frame → List ℕ
-placeSlots (At place size) = 1 ∷ place ∷ size ∷ []
-placeSlots Behind = 0 ∷ 0 ∷ 0 ∷ []
-placeSlots Nowhere = 0 ∷ 0 ∷ 0 ∷ []
+-- found (0 or 1), at, length
+abbrev pub frameSlots : Frame → List ℕ
+frameSlots (At place) = 1 ∷ place .at ∷ place .length ∷ []
+frameSlots Behind = 0 ∷ 0 ∷ 0 ∷ []
+frameSlots BadBundle = 0 ∷ 0 ∷ 0 ∷ []
 
 -- `fbdp_frame`: "For a bad bundle it answers 10 and hands out none; behind the last frame it answers that there is none."
 pub record FrameAnswer (bundle : List ℕ) (index number : ℕ) (place : List ℕ) : Type 0 where
   pub numbered : number ≡ frameNumber (frameOf bundle index)
-  pub placed : place ≡ placeSlots (frameOf bundle index)
+  pub placed : place ≡ frameSlots (frameOf bundle index)

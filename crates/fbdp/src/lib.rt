@@ -1,26 +1,30 @@
 // The C interface: numbers and byte slices in, a number out.
 ghost use mathlib.Core.Path.{_≡_};
 ghost use Rattle.bundle.specs.Reading.{frameNumber};
-ghost use Rattle.fbdp.specs.Entries.{placeSlots, FrameAnswer};
+ghost use Rattle.fbdp.specs.Entries.{frameSlots, FrameAnswer};
 use bundle::Frame;
 
 fn frame_number(frame: Frame) -> u32
     ensures { λ r. ⌜ r ≡ frameNumber frame ⌝ }
 {
     match frame {
-        Frame::At { place: _, size: _ } => 0,
+        Frame::At(_) => 0,
         Frame::Behind => 0,
-        Frame::Nowhere => 10,
+        Frame::BadBundle => 10,
     }
 }
 
-fn place_slots(frame: Frame) -> [u64; 3]
-    ensures { λ r. ⌜ r ≡ placeSlots frame ⌝ }
+fn frame_slots(frame: Frame) -> [u64; 3]
+    ensures { λ r. ⌜ r ≡ frameSlots frame ⌝ }
 {
     match frame {
-        Frame::At { place, size } => [1, place as u64, size as u64],
+        Frame::At(place) => {
+            let at = place.at as u64;
+            let length = place.length as u64;
+            [1, at, length]
+        }
         Frame::Behind => [0, 0, 0],
-        Frame::Nowhere => [0, 0, 0],
+        Frame::BadBundle => [0, 0, 0],
     }
 }
 
@@ -30,6 +34,6 @@ pub extern "C" fn fbdp_frame(bundle: &[u8], index: u32, place: &mut [u64; 3]) ->
     ensures { λ r. ⌜ FrameAnswer (now (bundle .entry)) index r (now (place .exit)) ⌝ }
 {
     let frame = bundle::frame_at(bundle, index as usize);
-    *place = place_slots(frame);
+    *place = frame_slots(frame);
     frame_number(frame)
 }

@@ -1,6 +1,6 @@
 -- The fewest digits that hold a number are the number in decimal. Assumes nothing.
 use mathlib.Core.Path.{_≡_, refl}
-use mathlib.Core.List.{List, [], _∷_, _++_}
+use mathlib.Core.List.{[], _∷_, _++_}
 use mathlib.Core.Bool.{Bool, true, false, cond}
 use Prim.Native.Nat.{ℕ, zero, suc, _+_, _-_, _/_, _%_, _^_, _≤_, _<_}
 use native.Mathlib.Nat.{one-le-pow, pow-le-pow-right}
@@ -50,8 +50,3 @@ decimal-is n (suc more) small h =
     let last : suc more - 1 ≡ more = omega arith in
     let large : 0 < more → 10 ^ more ≤ n = λ some. rw last at (h .2 (omega arith)) in
     digits-are 20 more n (few-digits n more small large) (h .1) large
-
--- room for a text and a number
-pub field-short : (text : List ℕ) (n : ℕ) → length (text ++ decimal n) ≤ length text + 20
-unfolding decimal
-field-short text n = simp length-append (omega (arith, decimal-short 20 n))

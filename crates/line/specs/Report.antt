@@ -7,38 +7,40 @@ use mathlib.Core.List.{List, _++_}
 use mathlib.Core.Bool.{cond}
 use lib.ListN.{length, take}
 use lib.Dec.{ltb}
-use Rattle.bytes_be.specs.Part.{part, putAt}
-use Rattle.bundle.specs.Reading.{countOf, frameOf}
-use Rattle.bundle.specs.declared.Frame.{Frame}
-use Rattle.bundle.specs.declared.Frame.the-variants.{At, Behind, Nowhere}
-use Rattle.control.specs.Frame.{controlOf}
-use Rattle.control.specs.declared.Kind.{Kind}
-use Rattle.control.specs.declared.Kind.the-variants.{Open, Ready, Noop, Data, Close}
+use Rattle.bytes_be.specs.Part.{partAt, putAt}
+use Rattle.bytes_be.specs.declared.Place.{Place}
+use Rattle.bundle.specs.Reading.{contentsOf}
+use Rattle.bundle.specs.declared.Contents.{Contents}
+use Rattle.bundle.specs.declared.Contents.the-variants.{Frames, BadBundle}
+use Rattle.control.specs.Frame.{controlOf, numberOf}
+use Rattle.control.specs.declared.MessageType.{MessageType}
+use Rattle.control.specs.declared.MessageType.the-variants.{Open, Ready, Noop, Data, Close}
 use Rattle.control.specs.declared.Control.{Control}
-use Rattle.control.specs.declared.Control.the-variants.{Read, Refused}
+use Rattle.control.specs.declared.Control.the-variants.{Read, BadSignature, OtherVersion, UnknownType}
 use Rattle.line.specs.Text.{ascii, decimal}
 use Rattle.line.specs.declared.Report.{Report}
-use Rattle.line.specs.declared.Report.the-variants.{TooLong, Refusal, Message}
+use Rattle.line.specs.declared.Report.the-variants.{TooLong, Refused, Message}
 
--- what follows a frame that is there, or the refusal of a bad bundle
-abbrev pub ifAt : Frame → Report → (ℕ → ℕ → Report) → Report
-ifAt (At place size) refused next = next place size
-ifAt Behind refused next = refused
-ifAt Nowhere refused next = refused
+-- 10, or what follows the contents of a good bundle
+abbrev pub ifFrames : Contents → Report → (ℕ → Place → Report) → Report
+ifFrames (Frames count control size) refused next = next count control
+ifFrames BadBundle refused next = refused
 
--- a control frame that is read or refused, in a message of so many data frames
-abbrev pub told : Control → ℕ → Report
-told (Read kind flags type-data) frames = Message kind flags type-data frames
-told (Refused number) frames = Refusal number
+-- a control frame that is read or refused as 11, 12 or 13, in a message of so many data frames
+abbrev pub reportOfControl : Control → ℕ → Report
+reportOfControl (Read message flags type-data) frames = Message message flags type-data frames
+reportOfControl BadSignature frames = Refused (numberOf BadSignature)
+reportOfControl OtherVersion frames = Refused (numberOf OtherVersion)
+reportOfControl UnknownType frames = Refused (numberOf UnknownType)
 
 -- the answer for an input
 unfoldable pub reportOf : List ℕ → Report
 reportOf input =
     cond (ltb 65536 (length input)) TooLong
-    (ifAt (frameOf input 0) (Refusal 10) (λ place size.
-    told (controlOf (part input place size)) (countOf input - 1)))
+    (ifFrames (contentsOf input) (Refused 10) (λ count control.
+    reportOfControl (controlOf (partAt input control)) (count - 1)))
 
-abbrev pub nameOf : Kind → List ℕ
+abbrev pub nameOf : MessageType → List ℕ
 nameOf Open = ascii "OPEN"
 nameOf Ready = ascii "READY"
 nameOf Noop = ascii "NOOP"
@@ -52,24 +54,18 @@ field label number = ascii label ++ decimal number
 -- the answer as a line
 unfoldable pub lineOf : Report → List ℕ
 lineOf TooLong = ascii "too long\n"
-lineOf (Refusal number) = field "refused " number ++ ascii "\n"
-lineOf (Message kind flags type-data frames) =
-    nameOf kind ++ field " v1 flags=" flags ++ field " data=" type-data ++ field " frames=" frames ++ ascii "\n"
+lineOf (Refused number) = field "refused " number ++ ascii "\n"
+lineOf (Message message flags type-data frames) =
+    nameOf message ++ field " v1 flags=" flags ++ field " data=" type-data ++ field " frames=" frames ++ ascii "\n"
 
--- what writing a text at a place of a buffer answers, the place behind it, and what it leaves
+-- a text is written at a place of a buffer that has room for it: the answer is the place behind it, and all else is left as it was
 pub record Put (text before : List ℕ) (at next : ℕ) (after : List ℕ) : Type 0 where
   pub behind : next ≡ at + length text
+  pub room : next ≤ length before
   pub left : after ≡ putAt before at text
 
--- the first bytes of a text are the name of a type
-pub record Named (kind : Kind) (text : List ℕ) (count : ℕ) : Type 0 where
+-- the first `count` bytes of a text spell the name of a type
+pub record Spelled (message : MessageType) (text : List ℕ) (count : ℕ) : Type 0 where
   pub short : count ≤ 5
   pub held : count ≤ length text
-  pub spelled : take count text ≡ nameOf kind
-
--- what filling a buffer with a line answers, its length, and what it leaves: the line, for which there is room, from the buffer's start
--- and nothing behind it
-pub record Filled (line before : List ℕ) (count : ℕ) (after : List ℕ) : Type 0 where
-  pub counted : count ≡ length line
-  pub room : count ≤ length before
-  pub left : after ≡ putAt before 0 line
+  pub name : take count text ≡ nameOf message

@@ -1,7 +1,7 @@
 -- Text as bytes: ASCII, and a number in decimal.
 use Prim.Native.Nat.{ℕ, zero, suc, _+_, _/_, _%_}
 use Prim.Native.String.{String}
-use Prim.Native.Char.{Char, code}
+use Prim.Native.Char.{code}
 use mathlib.Core.List.{List, [], _∷_, _++_}
 use mathlib.Core.Bool.{cond}
 use lib.Dec.{ltb}
@@ -11,7 +11,7 @@ abbrev pub ascii : String → List ℕ
 ascii String.[] = []
 ascii (String._∷_ c rest) = code c ∷ ascii rest
 
--- the decimal digits of n, at most `most` of them, with no zero in front of others
+-- the decimal digits of n, where `most` of them suffice, with no zero in front of others
 unfoldable pub decimalWithin : ℕ → ℕ → List ℕ
 decimalWithin zero n = []
 decimalWithin (suc most) n = cond (ltb n 10) ((48 + n) ∷ []) (decimalWithin most (n / 10) ++ ((48 + n % 10) ∷ []))

@@ -4,23 +4,22 @@ ghost use Prim.Native.Nat.{_+_, _≤_};
 ghost use mathlib.Core.List.{_++_};
 ghost use lib.ListN.{length};
 ghost use Rattle.line.specs.Text.{decimal};
-ghost use Rattle.line.specs.Report.{told as Report·told};
-ghost use Rattle.line.specs.Report.{reportOf, nameOf, lineOf, Filled, Put, Named};
-use bundle::Frame;
+ghost use Rattle.line.specs.Report.{reportOfControl, reportOf, nameOf, lineOf, Put, Spelled};
+use bundle::Contents;
 use control::Control;
-use control::Kind;
+use control::MessageType;
 
 pub enum Report {
     // More than 65,536 bytes.
     TooLong,
     // The first of 10, 11, 12 and 13 that applies.
-    Refusal(u8),
+    Refused(u8),
     // What the control frame says, and how many data frames come with it.
     Message {
-        kind: Kind,
+        message: MessageType,
         flags: u8,
         type_data: u16,
-        frames: u16,
+        frames: usize,
     },
 }
 
@@ -30,21 +29,23 @@ struct Name {
     count: usize,
 }
 
-fn told(control: Control, frames: u16) -> Report
-    ensures { λ r. ⌜ r ≡ Report·told control frames ⌝ }
+fn report_of_control(control: Control, frames: usize) -> Report
+    ensures { λ r. ⌜ r ≡ reportOfControl control frames ⌝ }
 {
     match control {
         Control::Read {
-            kind,
+            message,
             flags,
             type_data,
         } => Report::Message {
-            kind: kind,
+            message: message,
             flags: flags,
             type_data: type_data,
             frames: frames,
         },
-        Control::Refused(number) => Report::Refusal(number),
+        Control::BadSignature => Report::Refused(11),
+        Control::OtherVersion => Report::Refused(12),
+        Control::UnknownType => Report::Refused(13),
     }
 }
 
@@ -55,16 +56,17 @@ pub fn report_of(input: &[u8]) -> Report
     if 65536 < input.len() {
         return Report::TooLong;
     }
-    match bundle::frame_at(input, 0) {
-        Frame::At { place, size } => {
-            let end = place + size;
-            let control = control::read(&input[place..end]);
-            let count = bundle::count_of(input);
-            told(control, count - 1)
-        }
-        Frame::Behind => Report::Refusal(10),
-        Frame::Nowhere => Report::Refusal(10),
-    }
+    let Contents::Frames {
+        count,
+        control,
+        size: _,
+    } = bundle::contents_of(input)
+    else {
+        return Report::Refused(10);
+    };
+    let at = control.at;
+    let end = at + control.length;
+    report_of_control(control::read(&input[at..end]), count - 1)
 }
 
 // Writes a text at a place of the buffer, and answers the place behind it.
@@ -88,57 +90,63 @@ fn put_field(out: &mut [u8], at: usize, label: &[u8], number: u64) -> usize
 }
 
 // The same of the name of a type.
-fn put_name(out: &mut [u8], at: usize, kind: Kind) -> usize
+fn put_name(out: &mut [u8], at: usize, message: MessageType) -> usize
     requires { ⌜ at + 5 ≤ length (now out) ⌝ }
-    ensures { λ r. ⌜ Put (nameOf kind) (now (out .entry)) at r (now (out .exit)) × (r ≤ at + 5) ⌝ }
+    ensures { λ r. ⌜ Put (nameOf message) (now (out .entry)) at r (now (out .exit)) × (r ≤ at + 5) ⌝ }
 {
-    let name = name_of(kind);
+    let name = name_of(message);
     let text = name.text;
     let count = name.count;
     put(out, at, &text[..count])
 }
 
-fn name_of(kind: Kind) -> Name
-    ensures { λ r. ⌜ Named kind (r .text) (r .count) ⌝ }
+fn name_of(message: MessageType) -> Name
+    ensures { λ r. ⌜ Spelled message (r .text) (r .count) ⌝ }
 {
-    match kind {
-        Kind::Open => Name {
+    match message {
+        MessageType::Open => Name {
             text: *b"OPEN ",
             count: 4,
         },
-        Kind::Ready => Name {
+        MessageType::Ready => Name {
             text: *b"READY",
             count: 5,
         },
-        Kind::Noop => Name {
+        MessageType::Noop => Name {
             text: *b"NOOP ",
             count: 4,
         },
-        Kind::Data => Name {
+        MessageType::Data => Name {
             text: *b"DATA ",
             count: 4,
         },
-        Kind::Close => Name {
+        MessageType::Close => Name {
             text: *b"CLOSE",
             count: 5,
         },
     }
 }
 
-fn fill_message(out: &mut [u8], kind: Kind, flags: u8, type_data: u16, frames: u16) -> usize
+fn fill_message(
+    out: &mut [u8],
+    message: MessageType,
+    flags: u8,
+    type_data: u16,
+    frames: usize,
+) -> usize
     requires { ⌜ 96 ≤ length (now out) ⌝ }
-    ensures { λ r. ⌜ Filled (lineOf (Report.Message kind flags «type_data» frames)) (now (out .entry)) r (now (out .exit)) ⌝ }
+    ensures { λ r. ⌜ Put (lineOf (Report.Message message flags «type_data» frames)) (now (out .entry)) 0 r (now (out .exit)) ⌝ }
 {
-    let named = put_name(out, 0, kind);
+    let named = put_name(out, 0, message);
     let flagged = put_field(out, named, b" v1 flags=", flags as u64);
     let said = put_field(out, flagged, b" data=", type_data as u64);
     let counted = put_field(out, said, b" frames=", frames as u64);
     put(out, counted, b"\n")
 }
 
-fn fill_refusal(out: &mut [u8], number: u8) -> usize
+fn fill_refused(out: &mut [u8], number: u8) -> usize
     requires { ⌜ 96 ≤ length (now out) ⌝ }
-    ensures { λ r. ⌜ Filled (lineOf (Report.Refusal number)) (now (out .entry)) r (now (out .exit)) ⌝ }
+    ensures { λ r. ⌜ Put (lineOf (Report.Refused number)) (now (out .entry)) 0 r (now (out .exit)) ⌝ }
 {
     let refused = put_field(out, 0, b"refused ", number as u64);
     put(out, refused, b"\n")
@@ -146,23 +154,23 @@ fn fill_refusal(out: &mut [u8], number: u8) -> usize
 
 fn fill_report(out: &mut [u8], report: Report) -> usize
     requires { ⌜ 96 ≤ length (now out) ⌝ }
-    ensures { λ r. ⌜ Filled (lineOf report) (now (out .entry)) r (now (out .exit)) ⌝ }
+    ensures { λ r. ⌜ Put (lineOf report) (now (out .entry)) 0 r (now (out .exit)) ⌝ }
 {
     match report {
         Report::TooLong => put(out, 0, b"too long\n"),
-        Report::Refusal(number) => fill_refusal(out, number),
+        Report::Refused(number) => fill_refused(out, number),
         Report::Message {
-            kind,
+            message,
             flags,
             type_data,
             frames,
-        } => fill_message(out, kind, flags, type_data, frames),
+        } => fill_message(out, message, flags, type_data, frames),
     }
 }
 
 // Fills a buffer from its start with the line for an input, and answers the line's length.
 pub fn fill(input: &[u8], out: &mut [u8; 96]) -> usize
-    ensures { λ r. ⌜ Filled (lineOf (reportOf (now (input .entry)))) (now (out .entry)) r (now (out .exit)) ⌝ }
+    ensures { λ r. ⌜ Put (lineOf (reportOf (now (input .entry)))) (now (out .entry)) 0 r (now (out .exit)) ⌝ }
 {
     fill_report(out, report_of(input))
 }

@@ -4,12 +4,12 @@ ghost use mathlib.Core.List.{[], _∷_};
 ghost use Rattle.bytes_be.specs.Part.{putAt};
 ghost use Rattle.bytes_be.specs.Number.{numberAt, toBytes};
 ghost use Rattle.bundle.specs.Reading.{contentsNumber};
-ghost use Rattle.control.specs.Frame.{namedOf, numberOf};
-ghost use Rattle.line.specs.Report.{reportOf, lineOf, Filled};
+ghost use Rattle.control.specs.Frame.{knownTypeOf};
+ghost use Rattle.line.specs.Report.{reportOf, lineOf, Put};
 ghost use Rattle.probe.specs.Entries.{contentsSlots, ContentsAnswer, controlSlots, ControlAnswer, Wrote};
 use bundle::Contents;
 use control::Control;
-use control::Named;
+use control::KnownType;
 
 #[no_mangle]
 pub extern "C" fn probe_read16(bytes: &[u8], at: usize) -> u16
@@ -64,8 +64,12 @@ fn contents_number(contents: Contents) -> u32
     ensures { λ r. ⌜ r ≡ contentsNumber contents ⌝ }
 {
     match contents {
-        Contents::Frames { count: _, size: _ } => 0,
-        Contents::Bad => 10,
+        Contents::Frames {
+            count: _,
+            control: _,
+            size: _,
+        } => 0,
+        Contents::BadBundle => 10,
     }
 }
 
@@ -73,8 +77,12 @@ fn contents_slots(contents: Contents) -> [u64; 2]
     ensures { λ r. ⌜ r ≡ contentsSlots contents ⌝ }
 {
     match contents {
-        Contents::Frames { count, size } => [count as u64, size],
-        Contents::Bad => [0, 0],
+        Contents::Frames {
+            count,
+            control: _,
+            size,
+        } => [count as u64, size],
+        Contents::BadBundle => [0, 0],
     }
 }
 
@@ -87,33 +95,22 @@ pub extern "C" fn probe_contents(bundle: &[u8], slots: &mut [u64; 2]) -> u32
     contents_number(contents)
 }
 
-fn control_number(control: Control) -> u32
-    ensures { λ r. ⌜ r ≡ numberOf control ⌝ }
-{
-    match control {
-        Control::Read {
-            kind: _,
-            flags: _,
-            type_data: _,
-        } => 0,
-        Control::Refused(number) => number as u32,
-    }
-}
-
 fn control_slots(control: Control) -> [u64; 3]
     ensures { λ r. ⌜ r ≡ controlSlots control ⌝ }
 {
     match control {
         Control::Read {
-            kind,
+            message,
             flags,
             type_data,
         } => [
-            control::type_of(kind) as u64,
+            control::type_of(message) as u64,
             flags as u64,
             type_data as u64,
         ],
-        Control::Refused(_) => [0, 0, 0],
+        Control::BadSignature => [0, 0, 0],
+        Control::OtherVersion => [0, 0, 0],
+        Control::UnknownType => [0, 0, 0],
     }
 }
 
@@ -123,17 +120,17 @@ pub extern "C" fn probe_control(frame: &[u8], slots: &mut [u64; 3]) -> u32
 {
     let control = control::read(frame);
     *slots = control_slots(control);
-    control_number(control)
+    control::number_of(control) as u32
 }
 
 #[no_mangle]
 pub extern "C" fn probe_write_one(out: &mut [u8], number: u8, flags: u8, type_data: u16) -> u64
-    ensures { λ r. ⌜ Wrote (namedOf number) flags «type_data» [] (now (out .entry)) r (now (out .exit)) ⌝ }
+    ensures { λ r. ⌜ Wrote (knownTypeOf number) flags «type_data» [] (now (out .entry)) r (now (out .exit)) ⌝ }
 {
-    let Named::Known(kind) = control::named_of(number) else {
+    let KnownType::Known(message) = control::known_type_of(number) else {
         return 0;
     };
-    let frame = control::bytes_of(kind, flags, type_data);
+    let frame = control::bytes_of(message, flags, type_data);
     bundle::write_one(out, frame) as u64
 }
 
@@ -145,18 +142,18 @@ pub extern "C" fn probe_write_two(
     type_data: u16,
     body: &[u8],
 ) -> u64
-    ensures { λ r. ⌜ Wrote (namedOf number) flags «type_data» (now (body .entry) ∷ []) (now (out .entry)) r (now (out .exit)) ⌝ }
+    ensures { λ r. ⌜ Wrote (knownTypeOf number) flags «type_data» (now (body .entry) ∷ []) (now (out .entry)) r (now (out .exit)) ⌝ }
 {
-    let Named::Known(kind) = control::named_of(number) else {
+    let KnownType::Known(message) = control::known_type_of(number) else {
         return 0;
     };
-    let frame = control::bytes_of(kind, flags, type_data);
+    let frame = control::bytes_of(message, flags, type_data);
     bundle::write_two(out, frame, body) as u64
 }
 
 #[no_mangle]
 pub extern "C" fn probe_line(input: &[u8], text: &mut [u8; 96]) -> u64
-    ensures { λ r. ⌜ Filled (lineOf (reportOf (now (input .entry)))) (now (text .entry)) r (now (text .exit)) ⌝ }
+    ensures { λ r. ⌜ Put (lineOf (reportOf (now (input .entry)))) (now (text .entry)) 0 r (now (text .exit)) ⌝ }
 {
     line::fill(input, text) as u64
 }

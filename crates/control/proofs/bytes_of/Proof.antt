@@ -15,10 +15,10 @@ type-of-requires : tie.Need-type-of-requires
 type-of-requires c κs = search needs
 
 mul-t7 : tie.Need-mul-t7
-mul-t7 c = omega (arith, c .type-of .ensures, type-few (c .before .before .args .kind))
+mul-t7 c = omega (arith, c .type-of .ensures, type-few (c .before .before .args .message))
 
 add-t8 : tie.Need-add-t8
-add-t8 c = omega (arith, c .type-of .ensures, type-few (c .before .before .args .kind))
+add-t8 c = omega (arith, c .type-of .ensures, type-few (c .before .before .args .message))
 
 array-read-t11 : tie.Need-array-read-t11
 array-read-t11 c = search needs

@@ -9,8 +9,8 @@ use Rattle.control.proofs.read.Tie as tie
 signed-of-requires : tie.Need-signed-of-requires
 signed-of-requires c κs = search needs
 
-enum-known-control : tie.Need-enum-known-control
-enum-known-control c = search needs
+enum-known-control-byte : tie.Need-enum-known-control-byte
+enum-known-control-byte c = search needs
 
 enum-told : tie.Need-enum-told
 enum-told c = search needs
@@ -32,13 +32,13 @@ returns-2 : tie.Need-returns-2
 unfolding controlOf
 returns-2 c =
     let signed = c .before .before .before .before in
-    simp (sym (signed .before .before .signed-of .ensures) ∙ signed .control .given .1, sym (c .before .before .version-of .ensures) ∙ c .enum-told2 .given .1)
+    simp (sym (signed .before .before .signed-of .ensures) ∙ signed .control-byte .given .1, sym (c .before .before .version-of .ensures) ∙ c .enum-told2 .given .1)
 
-named-of-requires : tie.Need-named-of-requires
-named-of-requires c κs = search needs
+known-type-of-requires : tie.Need-known-type-of-requires
+known-type-of-requires c κs = search needs
 
-enum-known-kind : tie.Need-enum-known-kind
-enum-known-kind c = search needs
+enum-known-message : tie.Need-enum-known-message
+enum-known-message c = search needs
 
 enum-told-3 : tie.Need-enum-told-3
 enum-told-3 c = search needs
@@ -49,21 +49,21 @@ returns-3 c =
     let versioned = c .before .before .before .before in
     let signed = versioned .before .before .before .before in
     simp (
-      sym (signed .before .before .signed-of .ensures) ∙ signed .control .given .1,
+      sym (signed .before .before .signed-of .ensures) ∙ signed .control-byte .given .1,
       sym (versioned .before .before .version-of .ensures) ∙ versioned .number .given .1,
-      sym (c .before .before .named-of .ensures) ∙ c .enum-told3 .given .1,
+      sym (c .before .before .known-type-of .ensures) ∙ c .enum-told3 .given .1,
     )
 
 returns-4 : tie.Need-returns-4
 unfolding controlOf
 returns-4 c =
-    let named = c .before in
-    let versioned = named .before .before .before .before in
+    let known = c .before in
+    let versioned = known .before .before .before .before in
     let signed = versioned .before .before .before .before in
     simp (
-      sym (signed .before .before .signed-of .ensures) ∙ signed .control .given .1,
+      sym (signed .before .before .signed-of .ensures) ∙ signed .control-byte .given .1,
       sym (versioned .before .before .version-of .ensures) ∙ versioned .number .given .1,
-      sym (named .before .before .named-of .ensures) ∙ named .kind .given .1,
+      sym (known .before .before .known-type-of .ensures) ∙ known .message .given .1,
     )
 
 pub read-spec : {M : Type 1} → statement M
@@ -71,15 +71,15 @@ read-spec =
     tie.close
     (tie.spec
     signed-of-requires
-    enum-known-control
+    enum-known-control-byte
     enum-told
     returns
     version-of-requires
     enum-known-number
     enum-told-2
     returns-2
-    named-of-requires
-    enum-known-kind
+    known-type-of-requires
+    enum-known-message
     enum-told-3
     returns-3
     returns-4)

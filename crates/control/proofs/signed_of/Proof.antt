@@ -1,5 +1,6 @@
 -- `control::signed_of` meets its contract: the test and the fields read are those of `signedOf`.
 -- Assumes nothing.
+use Rattle.bytes_be.specs.Number.{fromBytes, fromBytesBehind}
 use Rattle.control.specs.Frame.{signedOf}
 use borrow.Author.Needs.{needs}
 use Rattle.control.proofs.signed_of.Statement.{statement}
@@ -18,11 +19,11 @@ read16-requires : tie.Need-read16-requires
 read16-requires c κs = search needs
 
 returns : tie.Need-returns
-unfolding signedOf
+unfolding signedOf fromBytes fromBytesBehind
 returns c = simp (← (c .before .before .before .before .read32 .ensures), c .before .before .before .if1 .taken, ← (c .before .before .read8 .ensures), ← (c .before .read82 .ensures), ← (c .read16 .ensures))
 
 returns-2 : tie.Need-returns-2
-unfolding signedOf
+unfolding signedOf fromBytes fromBytesBehind
 returns-2 c = simp (← (c .before .read32 .ensures), c .if1 .left)
 
 pub signed-of-spec : {M : Type 1} → statement M

@@ -7,15 +7,17 @@ use Rattle.fbdp.proofs.fbdp_frame.Tie as tie
 frame-at-requires : tie.Need-frame-at-requires
 frame-at-requires c κs = search needs
 
-place-slots-requires : tie.Need-place-slots-requires
-place-slots-requires c κs = search needs
+frame-slots-requires : tie.Need-frame-slots-requires
+frame-slots-requires c κs = search needs
 
 frame-number-requires : tie.Need-frame-number-requires
 frame-number-requires c κs = search needs
 
 returns : tie.Need-returns
-returns c = record { numbered = rw (c .before .before .frame-at .ensures) at (c .frame-number .ensures); placed = rw (c .before .before .frame-at .ensures) at (c .before .place-slots .ensures) }
+returns c =
+    let frame = c .before .before .frame-at .ensures in
+    record { numbered = rw frame at (c .frame-number .ensures); placed = rw frame at (c .before .frame-slots .ensures) }
 
 pub fbdp-frame-spec : {M : Type 1} → statement M
 fbdp-frame-spec =
-    tie.close (tie.spec frame-at-requires place-slots-requires frame-number-requires returns)
+    tie.close (tie.spec frame-at-requires frame-slots-requires frame-number-requires returns)

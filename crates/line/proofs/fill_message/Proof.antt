@@ -1,9 +1,7 @@
 -- `line::fill_message` meets its contract: its five texts, one behind the other, are the line, and 96 bytes have room for them.
 -- Assumes nothing.
-use Prim.Native.Nat.{_≤_}
-use native.Mathlib.Omega.{arith}
 use Rattle.line.specs.Report.{lineOf}
-use Rattle.line.proofs.Puts.{put-more, put-filled}
+use Rattle.line.proofs.Puts.{put-more}
 use borrow.Author.Needs.{needs}
 use Rattle.line.proofs.fill_message.Statement.{statement}
 use Rattle.line.proofs.fill_message.Tie as tie
@@ -46,16 +44,7 @@ returns c =
     let said = counted .before .before .before .before .before in
     let flagged = said .before .before .before .before .before in
     let named = flagged .before .before .before .before .before in
-    let first = named .put-name .ensures in
-    let second = flagged .put-field .ensures in
-    let third = said .put-field2 .ensures in
-    let fourth = counted .put-field3 .ensures in
-    let last = ended .put .ensures in
-    let room : ended .put .result ≤ 96 = omega (arith, first .1, second .1, third .1, fourth .1, last .behind) in
-    let one = put-more (first .0) (second .0) (omega (arith, first .1, second .1)) in
-    let two = put-more one (third .0) (omega (arith, first .1, second .1, third .1)) in
-    let three = put-more two (fourth .0) (omega (arith, first .1, second .1, third .1, fourth .1)) in
-    put-filled (put-more three last (omega arith)) (omega arith)
+    put-more (put-more (put-more (put-more (named .put-name .ensures .0) (flagged .put-field .ensures .0)) (said .put-field2 .ensures .0)) (counted .put-field3 .ensures .0)) (ended .put .ensures)
 
 pub fill-message-spec : {M : Type 1} → statement M
 fill-message-spec =

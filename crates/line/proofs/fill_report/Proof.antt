@@ -1,8 +1,6 @@
 -- `line::fill_report` meets its contract: each arm fills in the line of its own report.
 -- Assumes nothing.
-use native.Mathlib.Omega.{arith}
 use Rattle.line.specs.Report.{lineOf}
-use Rattle.line.proofs.Puts.{put-filled}
 use borrow.Author.Needs.{needs}
 use Rattle.line.proofs.fill_report.Statement.{statement}
 use Rattle.line.proofs.fill_report.Tie as tie
@@ -19,8 +17,8 @@ put-requires c κs = search needs
 enum-known-report : tie.Need-enum-known-report
 enum-known-report c = search needs
 
-fill-refusal-requires : tie.Need-fill-refusal-requires
-fill-refusal-requires c κs = search needs
+fill-refused-requires : tie.Need-fill-refused-requires
+fill-refused-requires c κs = search needs
 
 enum-known-report-2 : tie.Need-enum-known-report-2
 enum-known-report-2 c = search needs
@@ -33,13 +31,13 @@ same-length c = search needs
 
 returns : tie.Need-returns
 unfolding lineOf
-returns c = rw (c .before .before .before .before .before .enum-told .given .1) (put-filled (c .before .before .put .ensures) (omega (arith, c .before .before .put .ensures .behind)))
+returns c = rw (c .before .before .before .before .before .enum-told .given .1) (c .before .before .put .ensures)
 
 same-length-2 : tie.Need-same-length-2
 same-length-2 c = search needs
 
 returns-2 : tie.Need-returns-2
-returns-2 c = rw (c .before .before .before .before .before .report .given .1) (c .before .before .fill-refusal .ensures)
+returns-2 c = rw (c .before .before .before .before .before .report .given .1) (c .before .before .fill-refused .ensures)
 
 same-length-3 : tie.Need-same-length-3
 same-length-3 c = search needs
@@ -55,7 +53,7 @@ fill-report-spec =
     slice-aggregate-put
     put-requires
     enum-known-report
-    fill-refusal-requires
+    fill-refused-requires
     enum-known-report-2
     fill-message-requires
     same-length

@@ -20,19 +20,19 @@ enum-told-5 : tie.Need-enum-told-5
 enum-told-5 c = search needs
 
 returns : tie.Need-returns
-returns c = record { short = search needs; held = search needs; spelled = simp (c .before .before .enum-told .given .1) }
+returns c = record { short = search needs; held = search needs; name = simp (c .before .before .enum-told .given .1) }
 
 returns-2 : tie.Need-returns-2
-returns-2 c = record { short = search needs; held = search needs; spelled = simp (c .before .before .enum-told2 .given .1) }
+returns-2 c = record { short = search needs; held = search needs; name = simp (c .before .before .enum-told2 .given .1) }
 
 returns-3 : tie.Need-returns-3
-returns-3 c = record { short = search needs; held = search needs; spelled = simp (c .before .before .enum-told3 .given .1) }
+returns-3 c = record { short = search needs; held = search needs; name = simp (c .before .before .enum-told3 .given .1) }
 
 returns-4 : tie.Need-returns-4
-returns-4 c = record { short = search needs; held = search needs; spelled = simp (c .before .before .enum-told4 .given .1) }
+returns-4 c = record { short = search needs; held = search needs; name = simp (c .before .before .enum-told4 .given .1) }
 
 returns-5 : tie.Need-returns-5
-returns-5 c = record { short = search needs; held = search needs; spelled = simp (c .before .before .enum-told5 .given .1) }
+returns-5 c = record { short = search needs; held = search needs; name = simp (c .before .before .enum-told5 .given .1) }
 
 pub name-of-spec : {M : Type 1} → statement M
 name-of-spec =

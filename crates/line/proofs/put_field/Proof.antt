@@ -43,8 +43,7 @@ returns c =
     let spelled = said .ensures .1 .1 ∙ decimal-is number (said .result) (start .fits .number .fits) (said .ensures .1 .0) in
     let label = c .before .before .before .before .before .before .before .put .ensures in
     let digits = rw spelled at (c .before .before .put2 .ensures) in
-    let near = decimal-short 20 number in
-    (put-more label digits (omega (arith, label .behind, digits .behind)), omega (arith, label .behind, digits .behind))
+    (put-more label digits, omega (arith, label .behind, digits .behind, decimal-short 20 number))
 
 pub put-field-spec : {M : Type 1} → statement M
 put-field-spec =

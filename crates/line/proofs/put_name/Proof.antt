@@ -18,17 +18,18 @@ slice-aggregate-put c = sym (length-take-le _ _ (c .before .before .before .name
 
 put-requires : tie.Need-put-requires
 put-requires c κs =
-    let name = c .before .before .before .name-of .result in
-    omega (arith, length-take-le (name .count) (name .text) (c .before .before .before .name-of .ensures .held), c .before .before .before .name-of .ensures .short)
+    let name = c .before .before .before .name-of in
+    omega (arith, length-take-le (name .result .count) (name .result .text) (name .ensures .held), name .ensures .short)
 
 same-length : tie.Need-same-length
 same-length c = search needs
 
 returns : tie.Need-returns
 returns c =
-    let name = c .before .before .before .before .before .before .name-of .result in
-    let named = c .before .before .before .before .before .before .name-of .ensures in
-    (rw (named .spelled) at (c .before .before .put .ensures), omega (arith, c .before .before .put .ensures .behind, length-take-le (name .count) (name .text) (named .held), named .short))
+    let name = c .before .before .before .before .before .before .name-of in
+    let long = length-take-le (name .result .count) (name .result .text) (name .ensures .held) in
+    let put = c .before .before .put .ensures in
+    (rw (name .ensures .name) at put, omega (arith, put .behind, long, name .ensures .short))
 
 pub put-name-spec : {M : Type 1} → statement M
 put-name-spec =

@@ -2,7 +2,7 @@
 -- Assumes nothing.
 use mathlib.Core.Path.{sym}
 use lib.Seq.{length-take-le}
-use Rattle.line.proofs.Puts.{filled-held}
+use Rattle.line.proofs.Puts.{put-held}
 use borrow.Author.Needs.{needs}
 use Rattle.peek.proofs.main.Statement.{statement}
 use Rattle.peek.proofs.main.Tie as tie
@@ -23,10 +23,10 @@ fill-requires : tie.Need-fill-requires
 fill-requires c κs = search needs
 
 array-share-prefix-text : tie.Need-array-share-prefix-text
-array-share-prefix-text c = filled-held (c .fill .ensures)
+array-share-prefix-text c = put-held (c .fill .ensures)
 
 slice-aggregate-write-all : tie.Need-slice-aggregate-write-all
-slice-aggregate-write-all c = sym (length-take-le _ _ (filled-held (c .before .fill .ensures)))
+slice-aggregate-write-all c = sym (length-take-le _ _ (put-held (c .before .fill .ensures)))
 
 write-all-requires : tie.Need-write-all-requires
 write-all-requires c κs = search needs

@@ -22,11 +22,23 @@ cast-t9 c = search needs
 enum-told : tie.Need-enum-told
 enum-told c = search needs
 
+enum-told-2 : tie.Need-enum-told-2
+enum-told-2 c = search needs
+
+enum-told-3 : tie.Need-enum-told-3
+enum-told-3 c = search needs
+
 returns : tie.Need-returns
 returns c = simp (c .before .before .control .given .1, c .type-of .ensures)
 
 returns-2 : tie.Need-returns-2
 returns-2 c = search needs
+
+returns-3 : tie.Need-returns-3
+returns-3 c = search needs
+
+returns-4 : tie.Need-returns-4
+returns-4 c = search needs
 
 pub control-slots-spec : {M : Type 1} → statement M
 control-slots-spec =
@@ -38,5 +50,9 @@ control-slots-spec =
     cast-t8
     cast-t9
     enum-told
+    enum-told-2
+    enum-told-3
     returns
-    returns-2)
+    returns-2
+    returns-3
+    returns-4)

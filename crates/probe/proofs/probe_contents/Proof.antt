@@ -14,7 +14,9 @@ contents-number-requires : tie.Need-contents-number-requires
 contents-number-requires c κs = search needs
 
 returns : tie.Need-returns
-returns c = record { numbered = rw (c .before .before .contents-of .ensures) at (c .contents-number .ensures); told = rw (c .before .before .contents-of .ensures) at (c .before .contents-slots .ensures) }
+returns c =
+    let contents = c .before .before .contents-of .ensures in
+    record { numbered = rw contents at (c .contents-number .ensures); told = rw contents at (c .before .contents-slots .ensures) }
 
 pub probe-contents-spec : {M : Type 1} → statement M
 probe-contents-spec =

@@ -10,12 +10,18 @@ read-requires c κs = search needs
 control-slots-requires : tie.Need-control-slots-requires
 control-slots-requires c κs = search needs
 
-control-number-requires : tie.Need-control-number-requires
-control-number-requires c κs = search needs
+number-of-requires : tie.Need-number-of-requires
+number-of-requires c κs = search needs
+
+cast-result : tie.Need-cast-result
+cast-result c = search needs
 
 returns : tie.Need-returns
-returns c = record { numbered = rw (c .before .before .read .ensures) at (c .control-number .ensures); told = rw (c .before .before .read .ensures) at (c .before .control-slots .ensures) }
+returns c =
+    let control = c .before .before .read .ensures in
+    record { numbered = rw control at (c .number-of .ensures); told = rw control at (c .before .control-slots .ensures) }
 
 pub probe-control-spec : {M : Type 1} → statement M
 probe-control-spec =
-    tie.close (tie.spec read-requires control-slots-requires control-number-requires returns)
+    tie.close
+    (tie.spec read-requires control-slots-requires number-of-requires cast-result returns)

@@ -1,21 +1,21 @@
--- `probe::probe_write_two` meets its contract: a named type is written, and nothing of another.
+-- `probe::probe_write_two` meets its contract: a known type is written, and nothing of another.
 -- Assumes nothing.
 use mathlib.Core.Path.{refl, sym, _∙_}
 use borrow.Author.Needs.{needs}
 use Rattle.probe.proofs.probe_write_two.Statement.{statement}
 use Rattle.probe.proofs.probe_write_two.Tie as tie
 
-named-of-requires : tie.Need-named-of-requires
-named-of-requires c κs = search needs
+known-type-of-requires : tie.Need-known-type-of-requires
+known-type-of-requires c κs = search needs
 
-enum-known-kind : tie.Need-enum-known-kind
-enum-known-kind c = search needs
+enum-known-message : tie.Need-enum-known-message
+enum-known-message c = search needs
 
 enum-told : tie.Need-enum-told
 enum-told c = search needs
 
 returns : tie.Need-returns
-returns c = rw (sym (c .before .before .named-of .ensures) ∙ c .enum-told .given .1) (refl, refl)
+returns c = rw (sym (c .before .before .known-type-of .ensures) ∙ c .enum-told .given .1) (refl, refl)
 
 bytes-of-requires : tie.Need-bytes-of-requires
 bytes-of-requires c κs = search needs
@@ -30,14 +30,14 @@ returns-2 : tie.Need-returns-2
 returns-2 c =
     let written = c .before .before in
     let known = written .before .before .before .before in
-    rw (sym (known .before .before .named-of .ensures) ∙ known .kind .given .1, sym (written .before .before .bytes-of .ensures)) (written .write-two .ensures)
+    rw (sym (known .before .before .known-type-of .ensures) ∙ known .message .given .1, sym (written .before .before .bytes-of .ensures)) (written .write-two .ensures)
 
 pub probe-write-two-spec : {M : Type 1} → statement M
 probe-write-two-spec =
     tie.close
     (tie.spec
-    named-of-requires
-    enum-known-kind
+    known-type-of-requires
+    enum-known-message
     enum-told
     returns
     bytes-of-requires

@@ -1,8 +1,8 @@
--- `fbdp::place_slots` meets its contract: a frame's place is the one that it carries.
+-- `fbdp::frame_slots` meets its contract: the slots are the place that the frame carries.
 -- Assumes nothing.
 use borrow.Author.Needs.{needs}
-use Rattle.fbdp.proofs.place_slots.Statement.{statement}
-use Rattle.fbdp.proofs.place_slots.Tie as tie
+use Rattle.fbdp.proofs.frame_slots.Statement.{statement}
+use Rattle.fbdp.proofs.frame_slots.Tie as tie
 
 enum-known-frame : tie.Need-enum-known-frame
 enum-known-frame c = search needs
@@ -22,6 +22,6 @@ returns-2 c = search needs
 returns-3 : tie.Need-returns-3
 returns-3 c = search needs
 
-pub place-slots-spec : {M : Type 1} → statement M
-place-slots-spec =
+pub frame-slots-spec : {M : Type 1} → statement M
+frame-slots-spec =
     tie.close (tie.spec enum-known-frame enum-told enum-told-2 returns returns-2 returns-3)
