@@ -2,8 +2,8 @@
  *
  * Every function returns a number: FBDP_ACCEPTED, or the refusal that applies first. No function keeps a pointer,
  * allocates, or calls anything. A slice is a pointer and a length; an empty one may come with a null pointer. The
- * slices of one call lie apart. Outputs that are numbers are written by every call, with zeros where there is
- * nothing to say. */
+ * slices of one call lie apart. Outputs that are numbers are never null; every call writes all their slots, with
+ * zeros where there is nothing to say. */
 #ifndef FBDP_H
 #define FBDP_H
 
@@ -20,18 +20,18 @@ enum {
     FBDP_BAD_BUNDLE = 10 /* not a frame count of 1 to 16, its lengths and its bodies, ending exactly */
 };
 
-/* The slots of a place that is looked for by its index. */
+/* The slots that say where a frame stands. */
 enum {
-    FBDP_PLACE_FOUND = 0,  /* 1, or 0 where there is none */
-    FBDP_PLACE_AT = 1,     /* offset into the slice that was lent */
-    FBDP_PLACE_LENGTH = 2, /* in bytes */
-    FBDP_PLACE_SLOTS = 3
+    FBDP_FRAME_FOUND = 0,  /* 1, or 0 where there is no such frame */
+    FBDP_FRAME_AT = 1,     /* offset into the bundle that was lent */
+    FBDP_FRAME_LENGTH = 2, /* in bytes */
+    FBDP_FRAME_SLOTS = 3
 };
 
 /* Hands out the place of one frame of a bundle; index 0 is the control frame.
- * Behind the last frame it accepts, and says in `place` that there is none.
- * Refuses FBDP_BAD_BUNDLE, with zeros in `place`. Reads the contents only, never a body. */
-uint32_t fbdp_frame(const uint8_t *bundle, size_t bundle_length, uint32_t index, uint64_t place[FBDP_PLACE_SLOTS]);
+ * Behind the last frame it accepts, and says with three zeros that there is none.
+ * Refuses FBDP_BAD_BUNDLE, with three zeros. Reads the frame count and the lengths, never a body. */
+uint32_t fbdp_frame(const uint8_t *bundle, size_t bundle_length, uint32_t index, uint64_t frame[FBDP_FRAME_SLOTS]);
 
 #ifdef __cplusplus
 }

@@ -155,7 +155,11 @@ static struct lent *lend(struct call *call, size_t length)
     return lent;
 }
 
-/* An empty slice is lent as a null pointer. */
+/* An empty slice is lent as a null pointer, or as one to no byte, by turns. */
+static uint8_t *first_byte(const struct call *call, const struct lent *lent, size_t length)
+{
+    return length == 0 && call->pattern % 2 == 0 ? NULL : lent->area + GUARD;
+}
 
 static struct input lend_input(struct call *call)
 {
@@ -167,13 +171,13 @@ static struct input lend_input(struct call *call)
     }
     lent->kept = allocate(lent->area_length);
     memcpy(lent->kept, lent->area, lent->area_length);
-    return (struct input){length == 0 ? NULL : lent->area + GUARD, length};
+    return (struct input){first_byte(call, lent, length), length};
 }
 
 static struct room lend_room_of(struct call *call, size_t length)
 {
     struct lent *lent = lend(call, length);
-    return (struct room){length == 0 ? NULL : lent->area + GUARD, length};
+    return (struct room){first_byte(call, lent, length), length};
 }
 
 static struct room lend_room(struct call *call)
@@ -197,7 +201,7 @@ static uint64_t call_frame(struct call *call)
 {
     const struct input bundle = lend_input(call);
     const uint32_t index = (uint32_t)number(call);
-    uint64_t *place = lend_numbers(call, FBDP_PLACE_SLOTS);
+    uint64_t *place = lend_numbers(call, FBDP_FRAME_SLOTS);
     return fbdp_frame(bundle.bytes, bundle.length, index, place);
 }
 
@@ -358,7 +362,7 @@ typedef uint32_t timed(const struct input *bundle);
 
 static uint32_t timed_frame(const struct input *bundle)
 {
-    uint64_t place[FBDP_PLACE_SLOTS];
+    uint64_t place[FBDP_FRAME_SLOTS];
     return fbdp_frame(bundle->bytes, bundle->length, 1, place);
 }
 

@@ -104,6 +104,12 @@ impl Tally {
         self.functions.iter().sum()
     }
 
+    /// A function or a kind of input that no call was made for.
+    fn unasked(&self) -> Option<&'static str> {
+        let functions = FUNCTION_NAMES.iter().copied().zip(self.functions);
+        functions.chain(self.kinds.iter().copied()).find(|(_, calls)| *calls == 0).map(|(name, _)| name)
+    }
+
     fn print(&self) {
         for (name, calls) in FUNCTION_NAMES.iter().zip(self.functions) {
             println!("{name}: {calls} calls agree");
@@ -214,6 +220,10 @@ pub fn compare(seed: u64, calls: u64, command: &[String]) -> Result<bool, String
     let outcome = comparison.run(calls);
     let tally = comparison.tally;
     let outcome = outcome.and_then(|()| comparison.host.finish());
+    let outcome = outcome.and_then(|()| match tally.unasked() {
+        Some(name) => Err(format!("no call was made for: {name}")),
+        None => Ok(()),
+    });
     match outcome {
         Ok(()) => {
             tally.print();

@@ -32,7 +32,7 @@ impl Random {
 
     /// True once in so many times.
     pub fn one_in(&mut self, times: u64) -> bool {
-        self.number().is_multiple_of(times)
+        self.number() % times == 0
     }
 
     pub fn choose<T: Copy>(&mut self, from: &[T]) -> T {

@@ -34,9 +34,9 @@ pub fn around_the_longest_input(random: &mut Random) -> Calls {
                 add_bundle(&mut calls, random, bundle_of_length(first, count, length).bytes());
             }
         }
-        for difference in [-1, 1] {
+        for difference in [u32::MAX, 1] {
             let mut parts = bundle_of_length(control::good(random), 2, length);
-            parts.lengths[1] = parts.lengths[1].wrapping_add_signed(difference);
+            parts.lengths[1] = parts.lengths[1].wrapping_add(difference);
             add_bundle(&mut calls, random, parts.bytes());
         }
         let one_frame = Parts::of_frames(vec![random.bytes(length - 6)]);
