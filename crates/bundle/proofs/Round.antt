@@ -7,7 +7,7 @@ use native.Mathlib.Nat.{add-zero, zero-add}
 use native.Mathlib.Omega.{arith}
 use lib.ListN.{length, getD, take, length-append}
 use lib.Seq.{take-length, ext-getD}
-use lib.Dec.{ltb}
+use lib.Dec.{leb, ltb}
 use borrow.Author.Tests.{leb-true, ltb-true, le-leb, eq-eqb}
 use Rattle.bytes_be.specs.Part.{tabulate, holds, part, putAt}
 use Rattle.bytes_be.specs.Number.{toBytes}
@@ -86,9 +86,9 @@ module _ (frames : List (List ℕ)) where
     before-back zero h = refl
     before-back (suc k) h = omega (arith, before-back k (omega arith), length-back k h, bodies-more frames k h)
 
-    place-back : (k : ℕ) → k ≤ length frames → startOf (bundleOf frames) k ≡ 2 + 4 * length frames + length (flatten (take k frames))
+    start-back : (k : ℕ) → k ≤ length frames → startOf (bundleOf frames) k ≡ 2 + 4 * length frames + length (flatten (take k frames))
     unfolding startOf
-    place-back k h = omega (arith, count-back, before-back k h)
+    start-back k h = omega (arith, count-back, before-back k h)
 
     -- the bundle's size is that of its frames
     pub size-back : sizeOf (bundleOf frames) ≡ length (flatten frames)
@@ -99,7 +99,7 @@ module _ (frames : List (List ℕ)) where
     pub good-back : 1 ≤ length frames → good (bundleOf frames) ≡ true
     unfolding good
     good-back some =
-        let last = rw (take-length frames) at (place-back (length frames) (omega arith)) in
+        let last = rw (take-length frames) at (start-back (length frames) (omega arith)) in
         let ends : startOf (bundleOf frames) (length frames) ≡ length (bundleOf frames) = last ∙ sym (length-bundle frames) in
         simp (count-back, le-leb 1 (length frames) some, le-leb (length frames) 16 few, eq-eqb _ _ ends)
 
@@ -108,7 +108,7 @@ module _ (frames : List (List ℕ)) where
     frame-back k h =
         let before : ℕ = length (flatten (take k frames)) in
         let size : ℕ = length (getD frames k []) in
-        simp (place-back k (omega arith), length-back k h)
+        simp (start-back k (omega arith), length-back k h)
         (part-behind (contents frames) (flatten frames) (2 + 4 * length frames) before size (length-contents frames) ∙ part-bodies frames k h)
 
     -- the reader hands out each frame that was written, and none behind the last
@@ -138,6 +138,16 @@ message-written {frames} {before} {after} {count} can written =
     let answered : count ≡ length (bundleOf frames) = simp can at (written .answered) in
     let left : after ≡ putAt before 0 (bundleOf frames) = simp can at (written .left) in
     ap₂ (λ (l : List ℕ) (n : ℕ). part l 0 n) left answered ∙ part-put before 0 (bundleOf frames) (leb-true _ _ (both .1))
+
+-- so that reading what a writer counted gives back the frames that it wrote
+pub written-read : {frames : List (List ℕ)} {before after : List ℕ} {count : ℕ} →
+    writable (length before) frames ≡ true → Written frames before count after → framesOf (part after 0 count) ≡ frames
+unfolding writable
+written-read {frames} {before} can written =
+    let both = both-true (counted (length frames) && lengthsFit frames) (holds (length before) 0 (length (bundleOf frames))) can in
+    let made = both-true (counted (length frames)) (lengthsFit frames) (both .0) in
+    let range = both-true (leb 1 (length frames)) (leb (length frames) 16) (made .0) in
+    ap framesOf (message-written can written) ∙ frames-back frames (leb-true _ _ (range .1)) (made .1)
 
 -- The other way: a good bundle is the bundle of its frames, so that each good bundle is written in one way alone.
 

@@ -101,7 +101,7 @@ pub fn frame_at(s: &[u8], index: usize) -> Frame
     })
 }
 
-// Writes the bundle of one frame of 8 bytes, and answers its length.
+// Writes the bundle of one frame of 8 bytes, and answers its length, or 0 where there is no room for it.
 pub fn write_one(out: &mut [u8], frame: [u8; 8]) -> usize
     ensures { λ r. ⌜ Written (frame ∷ []) (now (out .entry)) r (now (out .exit)) ⌝ }
 {
@@ -113,21 +113,22 @@ pub fn write_one(out: &mut [u8], frame: [u8; 8]) -> usize
     14
 }
 
-// Writes the bundle of a frame of 8 bytes and another, and answers its length.
+// Writes the bundle of a frame of 8 bytes and another, and answers its length, or 0 where it cannot be written.
 pub fn write_two(out: &mut [u8], first: [u8; 8], second: &[u8]) -> usize
     ensures { λ r. ⌜ Written (first ∷ now (second .entry) ∷ []) (now (out .entry)) r (now (out .exit)) ⌝ }
 {
-    let n = second.len();
-    if 4294967295 < n {
+    let length = second.len();
+    // A longer frame has no room in the 4 bytes of its length.
+    if 4294967295 < length {
         return 0;
     }
-    let room = bytes_be::holds(out.len(), 18, n);
+    let room = bytes_be::holds(out.len(), 18, length);
     if !room {
         return 0;
     }
     bytes_be::copy_at(out, 0, &[0, 2, 0, 0, 0, 8]);
-    bytes_be::store32(out, 6, n as u32);
+    bytes_be::store32(out, 6, length as u32);
     bytes_be::copy_at(out, 10, &first);
     bytes_be::copy_at(out, 18, second);
-    18 + n
+    18 + length
 }

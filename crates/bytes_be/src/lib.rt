@@ -59,6 +59,7 @@ fn read(s: &[u8], at: usize, width: usize) -> u64
     n
 }
 
+// The same at one width, which the type of the answer always holds.
 pub fn read8(s: &[u8], at: usize) -> u8
     ensures { λ r. ⌜ r ≡ numberAt 1 (now (s .entry)) at ⌝ }
 {
@@ -87,13 +88,14 @@ pub fn read64(s: &[u8], at: usize) -> u64
 pub fn bytes16(n: u16) -> [u8; 2]
     ensures { λ r. ⌜ r ≡ toBytes 2 n ⌝ }
 {
-    let a = n / 256;
-    [(a % 256) as u8, (n % 256) as u8]
+    let high = n / 256;
+    [(high % 256) as u8, (n % 256) as u8]
 }
 
 pub fn bytes64(n: u64) -> [u8; 8]
     ensures { λ r. ⌜ r ≡ toBytes 8 n ⌝ }
 {
+    // From g back to a: n without its last byte, without its last two, and so on.
     let g = n / 256;
     let f = g / 256;
     let e = f / 256;
@@ -123,6 +125,7 @@ fn store(out: &mut [u8], at: usize, width: usize, n: u64)
     copy_at(out, at, &bytes[first..]);
 }
 
+// The same at one width, that of the number's type.
 pub fn store16(out: &mut [u8], at: usize, n: u16)
     ensures { λ _. ⌜ now (out .exit) ≡ putAt (now (out .entry)) at (toBytes 2 n) ⌝ }
 {
