@@ -279,7 +279,7 @@ static uint64_t call_write_one(struct call *call)
     const uint8_t type = (uint8_t)number(call);
     const uint8_t flags = (uint8_t)number(call);
     const uint16_t type_data = (uint16_t)number(call);
-    return probe_write_one(out.bytes, out.length, type, flags, type_data);
+    return probe_write(out.bytes, out.length, type, flags, type_data, false, NULL, 0);
 }
 
 static uint64_t call_write_two(struct call *call)
@@ -289,7 +289,7 @@ static uint64_t call_write_two(struct call *call)
     const uint8_t flags = (uint8_t)number(call);
     const uint16_t type_data = (uint16_t)number(call);
     const struct input body = lend_input(call);
-    return probe_write_two(out.bytes, out.length, type, flags, type_data, body.bytes, body.length);
+    return probe_write(out.bytes, out.length, type, flags, type_data, true, body.bytes, body.length);
 }
 
 static uint64_t call_line(struct call *call)

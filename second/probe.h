@@ -3,6 +3,7 @@
 #ifndef PROBE_H
 #define PROBE_H
 
+#include <stdbool.h>
 #include <stddef.h>
 #include <stdint.h>
 
@@ -25,11 +26,10 @@ uint32_t probe_contents(const uint8_t *bundle, size_t length, uint64_t contents[
 /* control = type, flags, type-data of a control frame; 11, 12 or 13 and zeros where it is refused. */
 uint32_t probe_control(const uint8_t *frame, size_t length, uint64_t control[3]);
 
-/* Writes the bundle of a control frame alone, and of a control frame and one body; returns the bytes written.
- * Returns 0 and changes no byte where the type is none of 1 to 5 or the bundle does not fit. */
-uint64_t probe_write_one(uint8_t *out, size_t out_length, uint8_t type, uint8_t flags, uint16_t type_data);
-uint64_t probe_write_two(uint8_t *out, size_t out_length, uint8_t type, uint8_t flags, uint16_t type_data,
-                         const uint8_t *body, size_t body_length);
+/* Writes the bundle of a control frame alone, or with `with_body` of a control frame and one body; returns the bytes
+ * written. Returns 0 and changes no byte where the type is none of 1 to 5 or the bundle does not fit. */
+uint64_t probe_write(uint8_t *out, size_t out_length, uint8_t type, uint8_t flags, uint16_t type_data, bool with_body,
+                     const uint8_t *body, size_t body_length);
 
 /* Fills `line` from its start with what peek writes for this input, newline included; returns its length.
  * The bytes behind it are left as they were. */

@@ -34,8 +34,8 @@ pub const FUNCTION_NAMES: [&str; 13] = [
     "probe_copy",
     "probe_contents",
     "probe_control",
-    "probe_write_one",
-    "probe_write_two",
+    "probe_write without a body",
+    "probe_write with a body",
     "probe_line",
 ];
 

@@ -70,6 +70,20 @@ knownTypeOf type =
     (cond (eqb type 5) (Known Close)
     Unknown))))
 
+-- the number of each stage's answer
+
+abbrev pub signedNumber : Signed → ℕ
+signedNumber (Frame byte flags type-data) = 0
+signedNumber Unsigned = 11
+
+abbrev pub versionNumber : Version → ℕ
+versionNumber (One type) = 0
+versionNumber Other = 12
+
+abbrev pub knownTypeNumber : KnownType → ℕ
+knownTypeNumber (Known message) = 0
+knownTypeNumber Unknown = 13
+
 -- what follows a stage that is passed, or the refusal of one that is not
 
 abbrev pub ifSigned : Signed → Control → (ℕ → ℕ → ℕ → Control) → Control
@@ -95,9 +109,9 @@ controlOf s =
 -- the number of the answer
 abbrev pub numberOf : Control → ℕ
 numberOf (Read message flags type-data) = 0
-numberOf BadSignature = 11
-numberOf OtherVersion = 12
-numberOf UnknownType = 13
+numberOf BadSignature = signedNumber Unsigned
+numberOf OtherVersion = versionNumber Other
+numberOf UnknownType = knownTypeNumber Unknown
 
 -- a control frame as it is written
 unfoldable pub bytesOf : MessageType → ℕ → ℕ → List ℕ

@@ -2,6 +2,7 @@
 use Prim.Native.Nat.{ℕ}
 use mathlib.Core.Path.{_≡_}
 use mathlib.Core.List.{List, [], _∷_}
+use mathlib.Core.Bool.{Bool, true, false}
 use Rattle.bundle.specs.Reading.{contentsOf, contentsNumber}
 use Rattle.bundle.specs.Writing.{Written}
 use Rattle.bundle.specs.declared.Contents.{Contents}
@@ -31,6 +32,11 @@ controlSlots UnknownType = 0 ∷ 0 ∷ 0 ∷ []
 pub record ControlAnswer (frame : List ℕ) (number : ℕ) (slots : List ℕ) : Type 0 where
   pub numbered : number ≡ numberOf (controlOf frame)
   pub told : slots ≡ controlSlots (controlOf frame)
+
+-- one body, or none
+abbrev pub bodies : Bool → List ℕ → List (List ℕ)
+bodies true body = body ∷ []
+bodies false body = []
 
 -- a message of a known type is written, and nothing of another
 abbrev pub Wrote : KnownType → ℕ → ℕ → List (List ℕ) → List ℕ → ℕ → List ℕ → Type 0

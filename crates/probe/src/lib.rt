@@ -6,7 +6,7 @@ ghost use Rattle.bytes_be.specs.Number.{numberAt, toBytes};
 ghost use Rattle.bundle.specs.Reading.{contentsNumber};
 ghost use Rattle.control.specs.Frame.{knownTypeOf};
 ghost use Rattle.line.specs.Report.{reportOf, lineOf, Put};
-ghost use Rattle.probe.specs.Entries.{contentsSlots, ContentsAnswer, controlSlots, ControlAnswer, Wrote};
+ghost use Rattle.probe.specs.Entries.{contentsSlots, ContentsAnswer, controlSlots, ControlAnswer, bodies, Wrote};
 use bundle::Contents;
 use control::Control;
 use control::KnownType;
@@ -124,31 +124,24 @@ pub extern "C" fn probe_control(frame: &[u8], slots: &mut [u64; 3]) -> u32
 }
 
 #[no_mangle]
-pub extern "C" fn probe_write_one(out: &mut [u8], number: u8, flags: u8, type_data: u16) -> u64
-    ensures { λ r. ⌜ Wrote (knownTypeOf number) flags «type_data» [] (now (out .entry)) r (now (out .exit)) ⌝ }
-{
-    let KnownType::Known(message) = control::known_type_of(number) else {
-        return 0;
-    };
-    let frame = control::bytes_of(message, flags, type_data);
-    bundle::write_one(out, frame) as u64
-}
-
-#[no_mangle]
-pub extern "C" fn probe_write_two(
+pub extern "C" fn probe_write(
     out: &mut [u8],
     number: u8,
     flags: u8,
     type_data: u16,
+    with_body: bool,
     body: &[u8],
 ) -> u64
-    ensures { λ r. ⌜ Wrote (knownTypeOf number) flags «type_data» (now (body .entry) ∷ []) (now (out .entry)) r (now (out .exit)) ⌝ }
+    ensures { λ r. ⌜ Wrote (knownTypeOf number) flags «type_data» (bodies «with_body» (now (body .entry))) (now (out .entry)) r (now (out .exit)) ⌝ }
 {
     let KnownType::Known(message) = control::known_type_of(number) else {
         return 0;
     };
     let frame = control::bytes_of(message, flags, type_data);
-    bundle::write_two(out, frame, body) as u64
+    if with_body {
+        return bundle::write_two(out, frame, body) as u64;
+    }
+    bundle::write_one(out, frame) as u64
 }
 
 #[no_mangle]
