@@ -2,7 +2,7 @@
 ghost use mathlib.Core.Path.{_≡_};
 ghost use mathlib.Core.List.{[], _∷_};
 ghost use Prim.Native.Nat.{_*_, _≤_};
-ghost use Rattle.bundle.specs.Reading.{countOf, lengthOf, lengthsBefore, contentsOf, frameOf};
+ghost use Rattle.bundle.specs.Reading.{countOf, lengthOf, lengthsBefore, contentsOf, contentsNumber, frameOf, frameNumber};
 ghost use Rattle.bundle.specs.Writing.{Written};
 use bytes_be::Place;
 
@@ -61,22 +61,35 @@ pub fn contents_of(s: &[u8]) -> Contents
 {
     let count = count_of(s) as usize;
     let counted = (1 <= count) & (count <= 16);
-    if !counted {
-        return Contents::BadBundle;
+    if counted {
+        let size = lengths_before(s, count);
+        let end = 2 + 4 * count as u64 + size;
+        if end == s.len() as u64 {
+            let control = Place {
+                at: 2 + 4 * count,
+                length: length_of(s, 0) as usize,
+            };
+            return Contents::Frames {
+                count: count,
+                control: control,
+                size: size,
+            };
+        }
     }
-    let size = lengths_before(s, count);
-    let end = 2 + 4 * count as u64 + size;
-    if end != s.len() as u64 {
-        return Contents::BadBundle;
-    }
-    let control = Place {
-        at: 2 + 4 * count,
-        length: length_of(s, 0) as usize,
-    };
-    Contents::Frames {
-        count: count,
-        control: control,
-        size: size,
+    Contents::BadBundle
+}
+
+// The number of 01 for what the contents say: 0, or 10.
+pub fn contents_number(contents: Contents) -> u8
+    ensures { λ r. ⌜ r ≡ contentsNumber contents ⌝ }
+{
+    match contents {
+        Contents::Frames {
+            count: _,
+            control: _,
+            size: _,
+        } => 0,
+        Contents::BadBundle => 10,
     }
 }
 
@@ -99,6 +112,17 @@ pub fn frame_at(s: &[u8], index: usize) -> Frame
         at: 2 + 4 * count + lengths_before(s, index) as usize,
         length: length_of(s, index) as usize,
     })
+}
+
+// The number of 01 for a frame that was asked for: 0, or 10.
+pub fn frame_number(frame: Frame) -> u8
+    ensures { λ r. ⌜ r ≡ frameNumber frame ⌝ }
+{
+    match frame {
+        Frame::At(_) => 0,
+        Frame::Behind => 0,
+        Frame::BadBundle => 10,
+    }
 }
 
 // Writes the bundle of one frame of 8 bytes, and answers its length, or 0 where there is no room for it.

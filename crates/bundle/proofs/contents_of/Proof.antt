@@ -2,9 +2,9 @@
 -- Assumes nothing.
 use native.Mathlib.Nat.{add-zero}
 use lib.Dec.{leb}
-use borrow.Author.Tests.{leb-true, eq-eqb, ne-eqb, not-true, not-false}
+use borrow.Author.Tests.{leb-true, eq-eqb, ne-eqb}
 use Rattle.bytes_be.proofs.Tests.{both-true}
-use Rattle.bundle.specs.Reading.{counted, contentsOf, good, startOf, sizeOf, lengthsBefore}
+use Rattle.bundle.specs.Reading.{contentsOf, good, startOf, sizeOf, lengthsBefore}
 use borrow.Author.Needs.{needs}
 use Rattle.bundle.proofs.contents_of.Statement.{statement}
 use Rattle.bundle.proofs.contents_of.Tie as tie
@@ -15,16 +15,10 @@ count-of-requires c κs = search needs
 cast-count : tie.Need-cast-count
 cast-count c = search needs
 
-returns : tie.Need-returns
-unfolding contentsOf good
-returns c =
-    let count = c .before .count-of in
-    simp (← (count .ensures), not-true (counted (count .result)) (c .if1 .taken))
-
 lengths-before-requires : tie.Need-lengths-before-requires
 lengths-before-requires c κs =
     let count = c .before .count-of .result in
-    leb-true _ _ (both-true (leb 1 count) (leb count 16) (not-false _ (c .if1 .left)) .1)
+    leb-true _ _ (both-true (leb 1 count) (leb count 16) (c .if1 .taken) .1)
 
 mul-end : tie.Need-mul-end
 mul-end c = search needs
@@ -35,36 +29,37 @@ add-end c = search needs
 add-end-2 : tie.Need-add-end-2
 add-end-2 c = search needs
 
-returns-2 : tie.Need-returns-2
-unfolding contentsOf good startOf
-returns-2 c =
-    let count = c .before .before .before .count-of in
-    simp (← (count .ensures), not-false (counted (count .result)) (c .before .before .if1 .left), ← (c .before .lengths-before .ensures .0), ne-eqb _ _ (c .if2 .taken))
+mul-t15 : tie.Need-mul-t15
+mul-t15 c = search needs
 
-mul-t13 : tie.Need-mul-t13
-mul-t13 c = search needs
-
-add-t14 : tie.Need-add-t14
-add-t14 c = search needs
+add-t16 : tie.Need-add-t16
+add-t16 c = search needs
 
 length-of-requires : tie.Need-length-of-requires
 length-of-requires c κs = search needs
 
-cast-t16 : tie.Need-cast-t16
-cast-t16 c = search needs
+cast-t18 : tie.Need-cast-t18
+cast-t18 c = search needs
 
-returns-3 : tie.Need-returns-3
+returns : tie.Need-returns
 unfolding contentsOf good startOf sizeOf lengthsBefore
-returns-3 c =
-    let count = c .before .before .before .before .count-of in
+returns c =
     simp (
-      ← (count .ensures),
-      not-false (counted (count .result)) (c .before .before .before .if1 .left),
+      ← (c .before .before .before .before .count-of .ensures),
+      c .before .before .before .if1 .taken,
       ← (c .before .before .lengths-before .ensures .0),
-      eq-eqb _ _ (c .before .if2 .left),
+      eq-eqb _ _ (c .before .if2 .taken),
       add-zero,
       c .length-of .ensures,
     )
+
+returns-2 : tie.Need-returns-2
+unfolding contentsOf good startOf
+returns-2 c = simp (← (c .before .before .before .count-of .ensures), c .before .before .if1 .taken, ← (c .before .lengths-before .ensures .0), ne-eqb _ _ (c .if2 .left))
+
+returns-3 : tie.Need-returns-3
+unfolding contentsOf good
+returns-3 c = simp (← (c .before .count-of .ensures), c .if1 .left)
 
 pub contents-of-spec : {M : Type 1} → statement M
 contents-of-spec =
@@ -72,14 +67,14 @@ contents-of-spec =
     (tie.spec
     count-of-requires
     cast-count
-    returns
     lengths-before-requires
     mul-end
     add-end
     add-end-2
-    returns-2
-    mul-t13
-    add-t14
+    mul-t15
+    add-t16
     length-of-requires
-    cast-t16
+    cast-t18
+    returns
+    returns-2
     returns-3)
