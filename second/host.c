@@ -205,6 +205,13 @@ static uint64_t call_frame(struct call *call)
     return fbdp_frame(bundle.bytes, bundle.length, index, place);
 }
 
+static uint64_t call_read8(struct call *call)
+{
+    const struct input bytes = lend_input(call);
+    const size_t at = (size_t)number(call);
+    return probe_read8(bytes.bytes, bytes.length, at);
+}
+
 static uint64_t call_read16(struct call *call)
 {
     const struct input bytes = lend_input(call);
@@ -262,7 +269,7 @@ static uint64_t call_copy(struct call *call)
 static uint64_t call_contents(struct call *call)
 {
     const struct input bundle = lend_input(call);
-    uint64_t *contents = lend_numbers(call, 2);
+    uint64_t *contents = lend_numbers(call, 4);
     return probe_contents(bundle.bytes, bundle.length, contents);
 }
 
@@ -302,6 +309,7 @@ static uint64_t call_line(struct call *call)
 /* A function's code is its place in this table, as in the second program's own. */
 static uint64_t (*const calls[])(struct call *call) = {
     call_frame,
+    call_read8,
     call_read16,
     call_read32,
     call_read64,
@@ -368,7 +376,7 @@ static uint32_t timed_frame(const struct input *bundle)
 
 static uint32_t timed_contents(const struct input *bundle)
 {
-    uint64_t contents[2];
+    uint64_t contents[4];
     return probe_contents(bundle->bytes, bundle->length, contents);
 }
 

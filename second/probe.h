@@ -7,7 +7,8 @@
 #include <stddef.h>
 #include <stdint.h>
 
-/* The number that the 2, 4 or 8 bytes at `at` say, most significant first; 0 where they do not all lie in the slice. */
+/* The number that the 1, 2, 4 or 8 bytes at `at` say, most significant first; 0 where they do not all lie in the slice. */
+uint8_t probe_read8(const uint8_t *bytes, size_t length, size_t at);
 uint16_t probe_read16(const uint8_t *bytes, size_t length, size_t at);
 uint32_t probe_read32(const uint8_t *bytes, size_t length, size_t at);
 uint64_t probe_read64(const uint8_t *bytes, size_t length, size_t at);
@@ -20,8 +21,9 @@ void probe_store64(uint8_t *out, size_t out_length, size_t at, uint64_t number);
 /* Copies `bytes` into `out` from `at` on; changes no byte where they do not all fit. */
 void probe_copy(uint8_t *out, size_t out_length, size_t at, const uint8_t *bytes, size_t length);
 
-/* contents = frame count, size of the message (the sum of its frame lengths); 10 and zeros for a bad bundle. */
-uint32_t probe_contents(const uint8_t *bundle, size_t length, uint64_t contents[2]);
+/* contents = frame count, place and length of the control frame, size of the message (the sum of its frame lengths);
+ * 10 and zeros for a bad bundle. */
+uint32_t probe_contents(const uint8_t *bundle, size_t length, uint64_t contents[4]);
 
 /* control = type, flags, type-data of a control frame; 11, 12 or 13 and zeros where it is refused. */
 uint32_t probe_control(const uint8_t *frame, size_t length, uint64_t control[3]);

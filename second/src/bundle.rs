@@ -52,13 +52,15 @@ pub fn frame(bundle: &[u8], index: u32) -> (u64, [u64; 3]) {
     }
 }
 
-/// The number answered for a bundle, and its contents: frame count, size of the message.
-pub fn contents(bundle: &[u8]) -> (u64, [u64; 2]) {
+/// The number answered for a bundle, and its contents: frame count, place and length of the control frame, size of the
+/// message.
+pub fn contents(bundle: &[u8]) -> (u64, [u64; 4]) {
     let Some(frames) = frames(bundle) else {
-        return (BAD_BUNDLE, [0, 0]);
+        return (BAD_BUNDLE, [0; 4]);
     };
+    let control = &frames[0];
     let size = frames.iter().map(|frame| frame.length).sum();
-    (0, [frames.len() as u64, size])
+    (0, [frames.len() as u64, control.at, control.length, size])
 }
 
 /// The bundle of these frames.
@@ -103,7 +105,7 @@ mod tests {
         assert_eq!(frames(&K2), Some(vec![Place { at: 6, length: 8 }]));
         assert_eq!(frame(&K2, 0), (0, [1, 6, 8]));
         assert_eq!(frame(&K2, 1), (0, [0, 0, 0]));
-        assert_eq!(contents(&K2), (0, [1, 8]));
+        assert_eq!(contents(&K2), (0, [1, 6, 8, 8]));
     }
 
     #[test]
@@ -119,7 +121,7 @@ mod tests {
         let mut bundle = K2;
         bundle[1] = 0;
         assert_eq!(frame(&bundle, 0), (10, [0, 0, 0]));
-        assert_eq!(contents(&bundle), (10, [0, 0]));
+        assert_eq!(contents(&bundle), (10, [0; 4]));
     }
 
     #[test]
@@ -134,7 +136,7 @@ mod tests {
     #[test]
     fn bundles_have_1_to_16_frames_and_end_exactly() {
         let empty: &[u8] = &[];
-        assert_eq!(contents(&of_frames(&[empty; 16])), (0, [16, 0]));
+        assert_eq!(contents(&of_frames(&[empty; 16])), (0, [16, 66, 0, 0]));
         assert_eq!(contents(&of_frames(&[empty; 17])).0, 10);
         assert_eq!(contents(&K2[..13]).0, 10);
         assert_eq!(contents(&[]).0, 10);

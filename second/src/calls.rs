@@ -9,6 +9,7 @@ use crate::line;
 #[derive(Clone, Copy)]
 pub enum Function {
     Frame,
+    Read8,
     Read16,
     Read32,
     Read64,
@@ -23,8 +24,9 @@ pub enum Function {
     Line,
 }
 
-pub const FUNCTION_NAMES: [&str; 13] = [
+pub const FUNCTION_NAMES: [&str; 14] = [
     "fbdp_frame",
+    "probe_read8",
     "probe_read16",
     "probe_read32",
     "probe_read64",
@@ -98,16 +100,20 @@ pub trait Call {
 /// The width of a big-endian number.
 #[derive(Clone, Copy)]
 pub enum Width {
+    One,
     Two,
     Four,
     Eight,
 }
 
 impl Width {
-    pub const ALL: [Width; 3] = [Width::Two, Width::Four, Width::Eight];
+    /// The widths of numbers that are read, and of those that are stored.
+    pub const READ: [Width; 4] = [Width::One, Width::Two, Width::Four, Width::Eight];
+    pub const STORED: [Width; 3] = [Width::Two, Width::Four, Width::Eight];
 
     pub fn bytes(self) -> usize {
         match self {
+            Width::One => 1,
             Width::Two => 2,
             Width::Four => 4,
             Width::Eight => 8,
@@ -129,6 +135,7 @@ pub struct Read {
 impl Call for Read {
     fn function(&self) -> Function {
         match self.width {
+            Width::One => Function::Read8,
             Width::Two => Function::Read16,
             Width::Four => Function::Read32,
             Width::Eight => Function::Read64,
@@ -154,6 +161,7 @@ pub struct Store {
 impl Call for Store {
     fn function(&self) -> Function {
         match self.width {
+            Width::One => unreachable!("no number of one byte is stored"),
             Width::Two => Function::Store16,
             Width::Four => Function::Store32,
             Width::Eight => Function::Store64,
@@ -230,7 +238,7 @@ impl Call for Contents {
     }
 
     fn arguments(&self) -> Vec<(&'static str, Argument<'_>)> {
-        vec![("bundle", Argument::Input(&self.bundle)), ("contents", Argument::Numbers(2))]
+        vec![("bundle", Argument::Input(&self.bundle)), ("contents", Argument::Numbers(4))]
     }
 
     fn answer(&self, _: &[Vec<u8>]) -> Answer {

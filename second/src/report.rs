@@ -111,12 +111,12 @@ mod tests {
         library[2] = 0;
         assert_eq!(
             answers(&contents, &model, &library),
-            "model:     no input changed, returned = 10, contents = 0 0\n\
-             library:   input bundle changed, returned = 0, contents = 0 0\n"
+            "model:     no input changed, returned = 10, contents = 0 0 0 0\n\
+             library:   input bundle changed, returned = 0, contents = 0 0 0 0\n"
         );
         assert_eq!(
             call("some", &contents),
-            "function:  probe_contents\ngenerator: some\nbundle:    2 bytes: 00 00\ncontents:  2 numbers\n"
+            "function:  probe_contents\ngenerator: some\nbundle:    2 bytes: 00 00\ncontents:  4 numbers\n"
         );
     }
 }

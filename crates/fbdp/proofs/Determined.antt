@@ -4,5 +4,6 @@ use mathlib.Core.List.{List}
 use Prim.Native.Nat.{ℕ}
 use Rattle.fbdp.specs.Entries.{FrameAnswer}
 
-pub frame-determined : {bundle : List ℕ} {index number number′ : ℕ} {place place′ : List ℕ} → FrameAnswer bundle index number place → FrameAnswer bundle index number′ place′ → (number ≡ number′) × (place ≡ place′)
-frame-determined one other = (one .numbered ∙ sym (other .numbered), one .placed ∙ sym (other .placed))
+pub frame-determined : {bundle : List ℕ} {index number number′ : ℕ} {slots slots′ : List ℕ} → FrameAnswer bundle index number slots →
+    FrameAnswer bundle index number′ slots′ → (number ≡ number′) × (slots ≡ slots′)
+frame-determined one other = (one .numbered ∙ sym (other .numbered), one .told ∙ sym (other .told))

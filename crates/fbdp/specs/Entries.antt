@@ -13,6 +13,6 @@ frameSlots Behind = 0 ∷ 0 ∷ 0 ∷ []
 frameSlots BadBundle = 0 ∷ 0 ∷ 0 ∷ []
 
 -- `fbdp_frame`: "For a bad bundle it answers 10 and hands out none; behind the last frame it answers that there is none."
-pub record FrameAnswer (bundle : List ℕ) (index number : ℕ) (place : List ℕ) : Type 0 where
+pub record FrameAnswer (bundle : List ℕ) (index number : ℕ) (slots : List ℕ) : Type 0 where
   pub numbered : number ≡ frameNumber (frameOf bundle index)
-  pub placed : place ≡ frameSlots (frameOf bundle index)
+  pub told : slots ≡ frameSlots (frameOf bundle index)

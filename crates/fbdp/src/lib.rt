@@ -1,18 +1,7 @@
 // The C interface: numbers and byte slices in, a number out.
 ghost use mathlib.Core.Path.{_≡_};
-ghost use Rattle.bundle.specs.Reading.{frameNumber};
 ghost use Rattle.fbdp.specs.Entries.{frameSlots, FrameAnswer};
 use bundle::Frame;
-
-fn frame_number(frame: Frame) -> u32
-    ensures { λ r. ⌜ r ≡ frameNumber frame ⌝ }
-{
-    match frame {
-        Frame::At(_) => 0,
-        Frame::Behind => 0,
-        Frame::BadBundle => 10,
-    }
-}
 
 fn frame_slots(frame: Frame) -> [u64; 3]
     ensures { λ r. ⌜ r ≡ frameSlots frame ⌝ }
@@ -30,10 +19,10 @@ fn frame_slots(frame: Frame) -> [u64; 3]
 
 // The place of the frame at `index` of a bundle, counted from 0.
 #[no_mangle]
-pub extern "C" fn fbdp_frame(bundle: &[u8], index: u32, place: &mut [u64; 3]) -> u32
-    ensures { λ r. ⌜ FrameAnswer (now (bundle .entry)) index r (now (place .exit)) ⌝ }
+pub extern "C" fn fbdp_frame(bundle: &[u8], index: u32, slots: &mut [u64; 3]) -> u32
+    ensures { λ r. ⌜ FrameAnswer (now (bundle .entry)) index r (now (slots .exit)) ⌝ }
 {
     let frame = bundle::frame_at(bundle, index as usize);
-    *place = frame_slots(frame);
-    frame_number(frame)
+    *slots = frame_slots(frame);
+    bundle::frame_number(frame) as u32
 }

@@ -32,6 +32,7 @@ struct Name {
 fn report_of_control(control: Control, frames: usize) -> Report
     ensures { λ r. ⌜ r ≡ reportOfControl control frames ⌝ }
 {
+    let number = control::number_of(control);
     match control {
         Control::Read {
             message,
@@ -43,9 +44,9 @@ fn report_of_control(control: Control, frames: usize) -> Report
             type_data: type_data,
             frames: frames,
         },
-        Control::BadSignature => Report::Refused(11),
-        Control::OtherVersion => Report::Refused(12),
-        Control::UnknownType => Report::Refused(13),
+        Control::BadSignature => Report::Refused(number),
+        Control::OtherVersion => Report::Refused(number),
+        Control::UnknownType => Report::Refused(number),
     }
 }
 

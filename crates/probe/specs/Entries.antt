@@ -13,10 +13,10 @@ use Rattle.control.specs.declared.KnownType.the-variants.{Known, Unknown}
 use Rattle.control.specs.declared.Control.{Control}
 use Rattle.control.specs.declared.Control.the-variants.{Read, BadSignature, OtherVersion, UnknownType}
 
--- count and size
+-- frame count, the control frame's place and length, the message's size
 abbrev pub contentsSlots : Contents → List ℕ
-contentsSlots (Frames count control size) = count ∷ size ∷ []
-contentsSlots BadBundle = 0 ∷ 0 ∷ []
+contentsSlots (Frames count control size) = count ∷ control .at ∷ control .length ∷ size ∷ []
+contentsSlots BadBundle = 0 ∷ 0 ∷ 0 ∷ 0 ∷ []
 
 pub record ContentsAnswer (bundle : List ℕ) (number : ℕ) (slots : List ℕ) : Type 0 where
   pub numbered : number ≡ contentsNumber (contentsOf bundle)

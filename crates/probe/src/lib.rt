@@ -3,13 +3,19 @@ ghost use mathlib.Core.Path.{_≡_};
 ghost use mathlib.Core.List.{[], _∷_};
 ghost use Rattle.bytes_be.specs.Part.{putAt};
 ghost use Rattle.bytes_be.specs.Number.{numberAt, toBytes};
-ghost use Rattle.bundle.specs.Reading.{contentsNumber};
 ghost use Rattle.control.specs.Frame.{knownTypeOf};
 ghost use Rattle.line.specs.Report.{reportOf, lineOf, Put};
 ghost use Rattle.probe.specs.Entries.{contentsSlots, ContentsAnswer, controlSlots, ControlAnswer, bodies, Wrote};
 use bundle::Contents;
 use control::Control;
 use control::KnownType;
+
+#[no_mangle]
+pub extern "C" fn probe_read8(bytes: &[u8], at: usize) -> u8
+    ensures { λ r. ⌜ r ≡ numberAt 1 (now (bytes .entry)) at ⌝ }
+{
+    bytes_be::read8(bytes, at)
+}
 
 #[no_mangle]
 pub extern "C" fn probe_read16(bytes: &[u8], at: usize) -> u16
@@ -60,39 +66,30 @@ pub extern "C" fn probe_copy(out: &mut [u8], at: usize, bytes: &[u8])
     bytes_be::copy_at(out, at, bytes)
 }
 
-fn contents_number(contents: Contents) -> u32
-    ensures { λ r. ⌜ r ≡ contentsNumber contents ⌝ }
-{
-    match contents {
-        Contents::Frames {
-            count: _,
-            control: _,
-            size: _,
-        } => 0,
-        Contents::BadBundle => 10,
-    }
-}
-
-fn contents_slots(contents: Contents) -> [u64; 2]
+fn contents_slots(contents: Contents) -> [u64; 4]
     ensures { λ r. ⌜ r ≡ contentsSlots contents ⌝ }
 {
     match contents {
         Contents::Frames {
             count,
-            control: _,
+            control,
             size,
-        } => [count as u64, size],
-        Contents::BadBundle => [0, 0],
+        } => {
+            let at = control.at as u64;
+            let length = control.length as u64;
+            [count as u64, at, length, size]
+        }
+        Contents::BadBundle => [0, 0, 0, 0],
     }
 }
 
 #[no_mangle]
-pub extern "C" fn probe_contents(bundle: &[u8], slots: &mut [u64; 2]) -> u32
+pub extern "C" fn probe_contents(bundle: &[u8], slots: &mut [u64; 4]) -> u32
     ensures { λ r. ⌜ ContentsAnswer (now (bundle .entry)) r (now (slots .exit)) ⌝ }
 {
     let contents = bundle::contents_of(bundle);
     *slots = contents_slots(contents);
-    contents_number(contents)
+    bundle::contents_number(contents) as u32
 }
 
 fn control_slots(control: Control) -> [u64; 3]

@@ -29,7 +29,7 @@ fn place(random: &mut Random, length: usize) -> u64 {
 
 pub fn every_read(random: &mut Random) -> Calls {
     let mut calls = Calls::new();
-    for width in Width::ALL {
+    for width in Width::READ {
         for length in 0..=MOST_LENGTH {
             for at in places() {
                 add(&mut calls, Read { width, bytes: random.bytes(length), at });
@@ -41,7 +41,7 @@ pub fn every_read(random: &mut Random) -> Calls {
 
 pub fn every_store(random: &mut Random) -> Calls {
     let mut calls = Calls::new();
-    for width in Width::ALL {
+    for width in Width::STORED {
         for room in 0..=MOST_LENGTH {
             for at in places() {
                 for number in [0, u64::MAX, 0x0102_0304_0506_0708, random.number()] {
@@ -70,7 +70,7 @@ pub fn random_reads(random: &mut Random) -> Calls {
     for _ in 0..300 {
         let length = random.between(0, 60);
         let at = place(random, length);
-        add(&mut calls, Read { width: random.choose(&Width::ALL), bytes: random.bytes(length), at });
+        add(&mut calls, Read { width: random.choose(&Width::READ), bytes: random.bytes(length), at });
     }
     calls
 }
@@ -78,7 +78,7 @@ pub fn random_reads(random: &mut Random) -> Calls {
 pub fn random_stores(random: &mut Random) -> Calls {
     let mut calls = Calls::new();
     for _ in 0..300 {
-        let width = random.choose(&Width::ALL);
+        let width = random.choose(&Width::STORED);
         let room = random.between(0, 60);
         let number = random.number() & width.most();
         add(&mut calls, Store { width, room, at: place(random, room), number });

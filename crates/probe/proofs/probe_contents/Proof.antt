@@ -13,6 +13,9 @@ contents-slots-requires c κs = search needs
 contents-number-requires : tie.Need-contents-number-requires
 contents-number-requires c κs = search needs
 
+cast-result : tie.Need-cast-result
+cast-result c = search needs
+
 returns : tie.Need-returns
 returns c =
     let contents = c .before .before .contents-of .ensures in
@@ -21,4 +24,9 @@ returns c =
 pub probe-contents-spec : {M : Type 1} → statement M
 probe-contents-spec =
     tie.close
-    (tie.spec contents-of-requires contents-slots-requires contents-number-requires returns)
+    (tie.spec
+    contents-of-requires
+    contents-slots-requires
+    contents-number-requires
+    cast-result
+    returns)
