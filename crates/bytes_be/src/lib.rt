@@ -2,7 +2,7 @@
 ghost use mathlib.Core.Path.{_≡_};
 ghost use Prim.Native.Nat.{_≤_, _<_, _^_};
 ghost use Rattle.bytes_be.specs.Part.{putAt};
-ghost use Rattle.bytes_be.specs.Part.{holds as Part·holds};
+ghost use Rattle.bytes_be.specs.Part.{holds as Part·holds, same as Part·same};
 ghost use Rattle.bytes_be.specs.Number.{numberAt, toBytes};
 
 // Where a part of a slice stands.
@@ -19,6 +19,23 @@ pub fn holds(n: usize, at: usize, size: usize) -> bool
         return false;
     }
     at <= n - size
+}
+
+// Whether two slices have the same bytes.
+pub fn same(a: &[u8], b: &[u8]) -> bool
+    ensures { λ r. ⌜ r ≡ Part·same (now (a .entry)) (now (b .entry)) ⌝ }
+{
+    if a.len() != b.len() {
+        return false;
+    }
+    let mut i = 0;
+    while i < a.len() {
+        if a[i] != b[i] {
+            return false;
+        }
+        i += 1;
+    }
+    true
 }
 
 // Copies `bytes` into `out` from place `at` on. Where they do not all fit, `out` stays as it is.

@@ -1,0 +1,5 @@
+-- `Varints` has the cases of a varint that is read, `Shortest` its writing and that reading undoes it, `Readings` the cases of a field and
+-- the fields of a message one after the other.
+pub mod Varints
+pub mod Shortest
+pub mod Readings
