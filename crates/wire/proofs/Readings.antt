@@ -173,3 +173,10 @@ module _ (s : List ℕ) (at end : ℕ) (inside : at < end) (r : Reading) (is : r
 
   pub first-fault : (why : Fault) → r ≡ Refused why → fieldsOf s at end ≡ Refused why ∷ []
   first-fault why e = some-fields ∙ ap (andBehind (λ next. fieldsWithin (end - at - 1) s end next)) e
+
+-- behind a field that was read less of its message is left
+pub less-left : (s : List ℕ) (at end : ℕ) (r : Reading) (field : Field) → r ≡ fieldAt s at end → r ≡ Read field → at < end → end - field .next < end - at
+less-left s at end r field is e more =
+    let w = field-within s at end field (sym is ∙ e) in
+    let b = w .behind in let l = w .ends in let i = w .inside in
+    omega arith

@@ -1,0 +1,84 @@
+use borrow.Author.Needs.{needs}
+use Rattle.params.proofs.key_rule.Statement.{statement}
+use Rattle.params.proofs.key_rule.Tie as tie
+use Rattle.params.proofs.key_rule.Reads as reads
+use Rattle.params.proofs.key_rule.Lts as lts
+use Rattle.params.proofs.fault_of.Reads as fault-of-reads
+use Rattle.params.proofs.find.Reads as find-reads
+use Rattle.params.proofs.is_found.Reads as is-found-reads
+use Rattle.utf8.proofs.well_formed.Reads as well-formed-reads
+
+-- src/lib.rt:231:36
+sub-find : tie.Need-sub-find
+sub-find c = search needs
+
+-- src/lib.rt:231:36
+part-find-start : tie.Need-part-find-start
+part-find-start c = search needs
+
+-- src/lib.rt:231:36
+part-find-end : tie.Need-part-find-end
+part-find-end c = search needs
+
+-- src/lib.rt:231:17
+find-requires : tie.Need-find-requires
+find-requires c κs = search needs
+
+-- src/lib.rt:231:8
+is-found-requires : tie.Need-is-found-requires
+is-found-requires c κs = search needs
+
+-- src/lib.rt:232:9
+fault-of-requires : tie.Need-fault-of-requires
+fault-of-requires c κs = search needs
+
+-- src/lib.rt:232:9
+returns : tie.Need-returns
+returns c = ?
+
+-- src/lib.rt:234:26
+sub-well-formed : tie.Need-sub-well-formed
+sub-well-formed c = search needs
+
+-- src/lib.rt:234:26
+part-well-formed-start : tie.Need-part-well-formed-start
+part-well-formed-start c = search needs
+
+-- src/lib.rt:234:26
+part-well-formed-end : tie.Need-part-well-formed-end
+part-well-formed-end c = search needs
+
+-- src/lib.rt:234:8
+well-formed-requires : tie.Need-well-formed-requires
+well-formed-requires c κs = search needs
+
+-- src/lib.rt:235:9
+returns-2 : tie.Need-returns-2
+returns-2 c = ?
+
+-- src/lib.rt:237:5
+fault-of-requires-2 : tie.Need-fault-of-requires-2
+fault-of-requires-2 c κs = search needs
+
+-- src/lib.rt:225:1
+returns-3 : tie.Need-returns-3
+returns-3 c = ?
+
+pub key-rule-spec : {M : Type 1} → statement M
+key-rule-spec =
+    tie.close
+    (tie.spec
+    sub-find
+    part-find-start
+    part-find-end
+    find-requires
+    is-found-requires
+    fault-of-requires
+    returns
+    sub-well-formed
+    part-well-formed-start
+    part-well-formed-end
+    well-formed-requires
+    returns-2
+    fault-of-requires-2
+    returns-3)
