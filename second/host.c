@@ -25,9 +25,10 @@ enum { VERB_CALLS = 1, VERB_SPEED = 2 };
 
 enum {
     HEADER_BYTES = 12,
-    GUARD = 32,     /* bytes before and behind whatever is lent */
-    MOST_LENT = 8,  /* slices and arrays of numbers in one call */
-    LINE_BYTES = 96 /* the room that probe_line is given */
+    GUARD = 32,      /* bytes before and behind whatever is lent */
+    MOST_LENT = 8,   /* slices and arrays of numbers in one call */
+    LINE_BYTES = 96, /* the room that probe_line is given */
+    DOUBLE_BYTES = 8 /* the room that probe_limit_bytes is given */
 };
 
 static void fail(const char *why)
@@ -306,6 +307,67 @@ static uint64_t call_line(struct call *call)
     return probe_line(input.bytes, input.length, line.bytes);
 }
 
+static uint64_t call_value(struct call *call)
+{
+    const struct input bytes = lend_input(call);
+    uint64_t *value = lend_numbers(call, 3);
+    return fbdp_value(bytes.bytes, bytes.length, value);
+}
+
+static uint64_t call_lookup(struct call *call)
+{
+    const struct input client = lend_input(call);
+    const struct input defaults = lend_input(call);
+    const struct input key = lend_input(call);
+    uint64_t *place = lend_numbers(call, 3);
+    return fbdp_lookup(client.bytes, client.length, defaults.bytes, defaults.length, key.bytes, key.length, place);
+}
+
+static uint64_t call_text(struct call *call)
+{
+    const struct input bytes = lend_input(call);
+    return probe_text(bytes.bytes, bytes.length);
+}
+
+static uint64_t call_field(struct call *call)
+{
+    const struct input bytes = lend_input(call);
+    const size_t at = (size_t)number(call);
+    const size_t end = (size_t)number(call);
+    uint64_t *field = lend_numbers(call, 5);
+    return probe_field(bytes.bytes, bytes.length, at, end, field);
+}
+
+static uint64_t call_varint(struct call *call)
+{
+    const struct room out = lend_room(call);
+    const size_t at = (size_t)number(call);
+    return probe_varint(out.bytes, out.length, at, number(call));
+}
+
+static uint64_t call_check(struct call *call)
+{
+    const struct input bytes = lend_input(call);
+    const bool value = number(call) != 0;
+    uint64_t *fault = lend_numbers(call, 2);
+    return probe_check(bytes.bytes, bytes.length, value, fault);
+}
+
+static uint64_t call_limit_bytes(struct call *call)
+{
+    const uint32_t limit = (uint32_t)number(call);
+    const struct room bytes = lend_room_of(call, DOUBLE_BYTES);
+    probe_limit_bytes(limit, bytes.bytes);
+    return 0;
+}
+
+static uint64_t call_limit(struct call *call)
+{
+    const struct input parameters = lend_input(call);
+    uint64_t *limit = lend_numbers(call, 2);
+    return probe_limit(parameters.bytes, parameters.length, limit);
+}
+
 /* A function's code is its place in this table, as in the second program's own. */
 static uint64_t (*const calls[])(struct call *call) = {
     call_frame,
@@ -322,6 +384,14 @@ static uint64_t (*const calls[])(struct call *call) = {
     call_write_one,
     call_write_two,
     call_line,
+    call_value,
+    call_lookup,
+    call_text,
+    call_field,
+    call_varint,
+    call_check,
+    call_limit_bytes,
+    call_limit,
 };
 
 /* The first lent argument, counted from 1, that is an input and is no longer what it was; 0 for none. */

@@ -37,4 +37,29 @@ uint64_t probe_write(uint8_t *out, size_t out_length, uint8_t type, uint8_t flag
  * The bytes behind it are left as they were. */
 uint64_t probe_line(const uint8_t *input, size_t length, uint8_t line[96]);
 
+/* Whether the bytes are well-formed UTF-8. */
+bool probe_text(const uint8_t *bytes, size_t length);
+
+/* field = number, wire type, value, payload place, position behind it, of the field whose tag is at `at` in a message
+ * that ends at `end`. The value is what a varint says, or how long a length-delimited payload is, else 0; the payload
+ * is the varint, the fixed bytes, or what stands behind the length. Returns 0, or with zeros the kind of its fault:
+ * 1 cut short (an `end` behind the slice and an `at` at or behind the `end` too), 2 bad varint or tag, 3 wire type. */
+uint32_t probe_field(const uint8_t *bytes, size_t length, size_t at, size_t end, uint64_t field[5]);
+
+/* Stores the shortest varint of the number from `at` on; changes no byte where it does not all fit. Returns the
+ * varint's length in either case. */
+uint64_t probe_varint(uint8_t *out, size_t out_length, size_t at, uint64_t number);
+
+/* Whether a Struct, or with `value` a Value, is readable: 0 and zeros, or 18 and fault = kind, offset of the first
+ * field that breaks a rule or of the end of the message that lacks something. Kinds: 1 cut short, 2 bad varint or tag,
+ * 3 wire type, 4 repeated field or key, 5 bad UTF-8, 6 any other, 7 too deep. */
+uint32_t probe_check(const uint8_t *bytes, size_t length, bool value, uint64_t fault[2]);
+
+/* Fills `bytes` with the double of this number, low byte first. */
+void probe_limit_bytes(uint32_t number, uint8_t bytes[8]);
+
+/* limit = 0, 0 where the parameters (a Struct) have no outermost key max_message_bytes; 1 and the limit where that is
+ * a good one; 2, 0 where it is anything else. 18 and zeros where the parameters are unreadable. */
+uint32_t probe_limit(const uint8_t *parameters, size_t length, uint64_t limit[2]);
+
 #endif

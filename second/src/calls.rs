@@ -1,5 +1,9 @@
 //! The calls that are compared: what each lends to the library, and what the model answers to it.
 
+mod parameters;
+
+pub use parameters::{Check, FieldAt, Limit, LimitBytes, Lookup, ReadValue, StoreVarint, Text};
+
 use crate::bundle;
 use crate::bytes;
 use crate::control::{self, Control};
@@ -22,9 +26,17 @@ pub enum Function {
     WriteOne,
     WriteTwo,
     Line,
+    Value,
+    Lookup,
+    Text,
+    Field,
+    Varint,
+    Check,
+    LimitBytes,
+    Limit,
 }
 
-pub const FUNCTION_NAMES: [&str; 14] = [
+pub const FUNCTION_NAMES: [&str; 22] = [
     "fbdp_frame",
     "probe_read8",
     "probe_read16",
@@ -39,6 +51,14 @@ pub const FUNCTION_NAMES: [&str; 14] = [
     "probe_write without a body",
     "probe_write with a body",
     "probe_line",
+    "fbdp_value",
+    "fbdp_lookup",
+    "probe_text",
+    "probe_field",
+    "probe_varint",
+    "probe_check",
+    "probe_limit_bytes",
+    "probe_limit",
 ];
 
 impl Function {

@@ -1,10 +1,20 @@
 //! The calls that are compared, in sets: the exhaustive ones are made once, the generated ones again and again.
 
+mod broken;
 mod bundles;
 mod bytes;
 mod control;
+mod fields;
 mod indexes;
+mod limits;
 mod lines;
+mod lookups;
+mod messages;
+mod small;
+mod stored;
+mod structs;
+mod texts;
+mod trees;
 mod writers;
 
 use crate::calls::{Call, Contents, FrameAt, Line, ReadControl};
@@ -32,6 +42,24 @@ pub const EXHAUSTIVE: &[Set] = &[
     Set { kind: "every room for a control frame and a long body", make: writers::every_room_for_long_bodies },
     Set { kind: "bodies with lengths around powers of two", make: writers::bodies_around_powers },
     Set { kind: "inputs around the longest", make: lines::around_the_longest_input },
+    Set { kind: "vectors serialized by Google's protobuf", make: stored::every_vector },
+    Set { kind: "every text of up to two bytes", make: texts::up_to_two_bytes },
+    Set { kind: "texts of three boundary bytes", make: texts::three_boundary_bytes },
+    Set { kind: "texts of four boundary bytes", make: texts::four_boundary_bytes },
+    Set { kind: "every form of a tag", make: fields::every_tag },
+    Set { kind: "tags around the least and the largest", make: fields::tags_around_the_ends },
+    Set { kind: "every form of a varint or length", make: fields::every_payload },
+    Set { kind: "lengths around the end of the message", make: fields::lengths_around_the_end },
+    Set { kind: "every place and end of a field", make: fields::every_place },
+    Set { kind: "every place to store a varint at", make: fields::every_store },
+    Set { kind: "every Value of up to two bytes", make: small::up_to_two_bytes },
+    Set { kind: "every Value of a few fields", make: small::every_few_fields },
+    Set { kind: "every Struct of a few entries", make: small::every_few_entries },
+    Set { kind: "Structs of hundreds of keys", make: structs::hundreds_of_keys },
+    Set { kind: "long lists and texts", make: structs::long_lists },
+    Set { kind: "every pair of small Structs", make: lookups::every_small_pair },
+    Set { kind: "limits around every boundary", make: limits::every_limit },
+    Set { kind: "doubles around powers of two", make: limits::bytes_around_powers },
 ];
 
 pub const GENERATED: &[Set] = &[
@@ -56,6 +84,26 @@ pub const GENERATED: &[Set] = &[
     Set { kind: "random places to store at", make: bytes::random_stores },
     Set { kind: "random places to copy to", make: bytes::random_copies },
     Set { kind: "random messages to write", make: writers::random_writes },
+    Set { kind: "well-formed texts, cut at every byte", make: texts::good_and_cut },
+    Set { kind: "damaged texts", make: texts::damaged },
+    Set { kind: "random texts", make: texts::random_texts },
+    Set { kind: "random fields", make: fields::random_fields },
+    Set { kind: "random bytes read as a field", make: fields::random_bytes },
+    Set { kind: "random varints to store", make: fields::random_stores },
+    Set { kind: "Structs and Values of every level", make: structs::every_level },
+    Set { kind: "Structs and Values with one rule broken", make: structs::one_rule_broken },
+    Set { kind: "Structs and Values with some rules broken", make: structs::some_rules_broken },
+    Set { kind: "Structs and Values damaged at every byte", make: structs::damaged },
+    Set { kind: "Structs and Values with a byte moved", make: structs::shifted },
+    Set { kind: "Structs and Values cut at every byte", make: structs::cut },
+    Set { kind: "random bytes read as a Struct or Value", make: structs::random_bytes },
+    Set { kind: "random fields read as a Struct or Value", make: structs::plausible_fields },
+    Set { kind: "Structs of many keys", make: structs::many_keys },
+    Set { kind: "lookups in readable Structs", make: lookups::readable },
+    Set { kind: "lookups in unreadable Structs", make: lookups::unreadable_structs },
+    Set { kind: "limits among other parameters", make: limits::random_limits },
+    Set { kind: "parameters without a good limit", make: limits::no_limits },
+    Set { kind: "random doubles", make: limits::random_limit_bytes },
 ];
 
 /// Adds a call.

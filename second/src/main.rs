@@ -12,10 +12,16 @@ mod control;
 mod framing;
 mod generate;
 mod host;
+mod limit;
 mod line;
+mod lookup;
 mod random;
 mod report;
 mod speed;
+mod structs;
+mod text;
+mod vectors;
+mod wire;
 
 use std::env;
 use std::process::ExitCode;

@@ -1,7 +1,10 @@
 -- A message that is judged field by field, from any of its fields on. Assumes nothing.
-use Prim.Native.Nat.{ℕ, _≤_, _<_}
+use Prim.Native.Nat.{ℕ, zero, suc, _-_, _≤_, _<_}
 use mathlib.Core.Path.{_≡_, refl, sym, ap, _∙_}
 use mathlib.Core.List.{List}
+use lib.Dec.{eqb}
+use native.Mathlib.Numerals.{sub-one}
+use Rattle.wire.specs.declared.Kind.the-variants.{TooDeep}
 use Rattle.wire.specs.declared.Fault.{Fault}
 use Rattle.wire.specs.declared.Field.{Field}
 use Rattle.wire.specs.declared.Reading.{Reading}
@@ -10,7 +13,8 @@ use Rattle.wire.specs.Fields.{fieldAt, fieldsOf}
 use Rattle.wire.proofs.Readings.{no-fields, first-field, first-fault}
 use Rattle.params.specs.declared.Check.{Check}
 use Rattle.params.specs.declared.Check.the-variants.{Good, Refused}
-use Rattle.params.specs.Message.{andThen, walk}
+use Rattle.params.specs.Message.{fault, andThen, walk}
+use Rattle.params.specs.Rules.{manyCheck, inside}
 
 -- `whole` is what the message comes to, and is known to be what its fields from `at` on come to, after what was seen
 module _ {Seen : Type 0} (judge : Seen → Field → Check) (move : Seen → Field → Seen) (done : Seen → Check) (s : List ℕ) (to at : ℕ) (seen : Seen) (whole : Check)
@@ -38,3 +42,28 @@ module _ {Seen : Type 0} (judge : Seen → Field → Check) (move : Seen → Fie
       walk-on e =
           let good : judge seen field ≡ Good = sym judged ∙ e in
           step ∙ rw good
+
+-- ---- a level further in
+
+pub inside-none : (levels : ℕ) (s : List ℕ) (field : Field) → levels ≡ 0 → fault TooDeep (field .tag) ≡ inside levels s field
+unfolding inside
+inside-none levels s field h = rw h
+
+pub inside-more : (levels : ℕ) (s : List ℕ) (field : Field) → (levels ≡ 0 → ⊥)
+    → manyCheck (inside (levels - 1) s) s (eqb (field .number) 6) (field .at) (field .next) ≡ inside levels s field
+unfolding inside
+inside-more zero s field n = absurd (n refl)
+inside-more (suc levels) s field n = rw sub-one
+
+-- ---- one check behind another
+
+module _ (r check behind : Check) (is : r ≡ check) where
+  pub stopped : (why : Fault) → r ≡ Refused why → r ≡ andThen check behind
+  stopped why e =
+      let stops : check ≡ Refused why = sym is ∙ e in
+      e ∙ sym (rw stops)
+
+  pub passed : r ≡ Good → {result : Check} → result ≡ behind → result ≡ andThen check behind
+  passed e h =
+      let good : check ≡ Good = sym is ∙ e in
+      rw good h

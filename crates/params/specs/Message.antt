@@ -1,10 +1,11 @@
 -- A message is judged field by field, from left to right, and its first fault is the answer. "Every breach .. is refused as 18."
 use Prim.Native.Nat.{ℕ, _-_}
 use mathlib.Core.List.{List, [], _∷_}
-use mathlib.Core.Bool.{Bool, cond}
+use mathlib.Core.Bool.{Bool, cond, not}
 use lib.Dec.{eqb}
 use Rattle.bytes_be.specs.declared.Place.{Place}
 use Rattle.wire.specs.declared.Kind.{Kind}
+use Rattle.wire.specs.declared.Kind.the-variants.{Other}
 use Rattle.wire.specs.declared.Field.{Field}
 use Rattle.wire.specs.declared.Reading.{Reading}
 use Rattle.wire.specs.declared.Reading.the-variants.{Read, Refused as Reading·Refused}
@@ -22,6 +23,10 @@ fault kind at = Refused (record { kind = kind; at = at })
 -- the fault where the test holds, and else what comes of the tests behind it
 abbrev pub refuseIf : Bool → Kind → ℕ → Check → Check
 refuseIf test kind at behind = cond test (fault kind at) behind
+
+-- a message that ends at `to` without what it must have is at fault there
+abbrev pub lackingOf : ℕ → Bool → Check
+lackingOf to there = refuseIf (not there) Other to Good
 
 -- what comes behind, where what stands before it is good
 abbrev pub andThen : Check → Check → Check

@@ -11,7 +11,7 @@ use Rattle.wire.specs.declared.Field.{Field}
 use Rattle.wire.specs.Fields.{fieldsOf}
 use Rattle.params.specs.declared.Check.{Check}
 use Rattle.params.specs.declared.Check.the-variants.{Good}
-use Rattle.params.specs.Message.{fault, refuseIf, andThen, walk}
+use Rattle.params.specs.Message.{fault, refuseIf, lackingOf, andThen, walk}
 use Rattle.params.specs.Keys.{findIn, isFound}
 
 -- ---- "A Value holds exactly one of 1 null (0), 2 number (8 bytes, little-endian double), 3 string, 4 bool (0 or 1), 5 Struct, 6 list"
@@ -52,7 +52,7 @@ abbrev pub valueMove : ℕ → Field → ℕ
 valueMove held field = field .number
 
 abbrev pub valueDone : ℕ → ℕ → Check
-valueDone to held = refuseIf (eqb held 0) Other to Good
+valueDone to held = lackingOf to (not (eqb held 0))
 
 -- the Value from `from` to `to`
 unfoldable pub valueCheck : (Field → Check) → List ℕ → ℕ → ℕ → Check
@@ -96,8 +96,7 @@ entryMove seen field =
 unfoldable pub entryDone : List ℕ → ℕ → ℕ → ℕ → Seen → Check
 entryDone s from tag to seen =
     refuseIf (not (seen .key) && isFound (findIn s from tag [])) Repeated to
-    (refuseIf (not (seen .value)) Other to
-    Good)
+    (lackingOf to (seen .value))
 
 -- the entry from `start` to `to`
 unfoldable pub entryCheck : (Field → Check) → List ℕ → ℕ → ℕ → ℕ → ℕ → Check

@@ -3,7 +3,7 @@ ghost use mathlib.Core.Path.{_≡_};
 ghost use Prim.Native.Nat.{_≤_};
 ghost use lib.ListN.{length};
 ghost use Rattle.wire.specs.Fields.{fieldsOf};
-ghost use Rattle.params.specs.Message.{fault, checkNumber, placeIn};
+ghost use Rattle.params.specs.Message.{fault, lackingOf, checkNumber, placeIn};
 ghost use Rattle.params.specs.Keys.{keyIn, findIn, isFound};
 ghost use Rattle.params.specs.Rules.{valueWire, valueText, valueAllowed, valueRule, valueField, valueCheck, bytesRule, Seen, seenOf, keyRule, entryField, entryDone, entryCheck, manyField, manyCheck, inside, structCheck, aloneCheck};
 use bytes_be::Place;
@@ -38,6 +38,16 @@ fn fault_of(kind: Kind, at: usize) -> Check
     ensures { λ r. ⌜ r ≡ fault kind at ⌝ }
 {
     Check::Refused(Fault { kind: kind, at: at })
+}
+
+// What a message that ends at `to` comes to, by whether it has what it must have.
+fn lacking(to: usize, there: bool) -> Check
+    ensures { λ r. ⌜ r ≡ lackingOf to there ⌝ }
+{
+    if there {
+        return Check::Good;
+    }
+    fault_of(Kind::Other, to)
 }
 
 // The place of the first field of this number in the message from `from` to `to`, or the empty place at 0.
@@ -199,10 +209,7 @@ fn check_value(s: &[u8], from: usize, to: usize, levels: u8) -> Check
             }
         }
     }
-    if held == 0 {
-        return fault_of(Kind::Other, to);
-    }
-    Check::Good
+    lacking(to, held != 0)
 }
 
 // What a field that holds bytes comes to, in a message that has these in fields 1 to `most` and nothing else.
@@ -275,15 +282,13 @@ fn entry_field(
 fn entry_done(s: &[u8], from: usize, tag: usize, to: usize, key: bool, value: bool) -> Check
     ensures { λ r. ⌜ r ≡ entryDone (now (s .entry)) from tag to (record { key = key; value = value }) ⌝ }
 {
-    if !key {
-        if is_found(find(s, from, tag, &s[..0])) {
-            return fault_of(Kind::Repeated, to);
-        }
+    if key {
+        return lacking(to, value);
     }
-    if value {
-        return Check::Good;
+    if is_found(find(s, from, tag, &s[..0])) {
+        return fault_of(Kind::Repeated, to);
     }
-    fault_of(Kind::Other, to)
+    lacking(to, value)
 }
 
 // The entry from `start` to `to`, in a Struct that begins at `from` and has the entry's tag at `tag`.

@@ -1,4 +1,16 @@
-use Prim.Native.Nat.{ℕ, _<_}
+-- The check of a Value, an entry, a Struct and a list meets its contract: siblings by a loop, nesting by calls with fewer levels left.
+-- Assumes nothing.
+use Prim.Native.Nat.{ℕ, _+_, _-_, _*_, _<_}
+use mathlib.Core.Path.{_≡_, refl, sym, ap, _∙_}
+use denote.Ref.{now}
+use native.Mathlib.Omega.{arith}
+use borrow.Author.Needs.{needs}
+use borrow.Author.Tests.{lt-ltb, le-ltb, eq-eqb, ne-eqb}
+use Rattle.wire.specs.Fields.{fieldsOf}
+use Rattle.wire.proofs.Readings.{field-within, less-left}
+use Rattle.params.specs.Message.{walk}
+use Rattle.params.specs.Rules.{valueField, valueMove, valueDone, valueCheck, entryField, entryMove, entryDone, entryCheck, manyField, manyJudge, manyMove, manyDone, manyCheck, inside}
+use Rattle.params.proofs.Walks.{walk-done, walk-refused, walk-stopped, walk-on, inside-none, inside-more, stopped, passed}
 use borrow.Fn.Kinds.{In}
 use borrow.Fn.PlainCycle.{Measures, is, falls, and}
 use Rattle.params.proofs.check_entry.Reads as check-entry
@@ -23,6 +35,7 @@ use Rattle.params.proofs.bytes_rule.Reads as bytes-rule-reads
 use Rattle.params.proofs.entry_done.Reads as entry-done-reads
 use Rattle.params.proofs.fault_of.Reads as fault-of-reads
 use Rattle.params.proofs.key_rule.Reads as key-rule-reads
+use Rattle.params.proofs.lacking.Reads as lacking-reads
 use Rattle.params.proofs.seen_of.Reads as seen-of-reads
 use Rattle.params.proofs.value_rule.Reads as value-rule-reads
 use Rattle.wire.proofs.field_at.Reads as field-at-reads
@@ -34,22 +47,22 @@ use Rattle.params.proofs.+check_entry+check_many+check_value+entry_fiel
 }
 
 abbrev μ-check-entry : Measures 1 check-entry-kinds.ps ℕ
-μ-check-entry κs a = ?
+μ-check-entry κs a = 8 * (a .1 .1 .1 .1 .1 .0) + 3
 
 abbrev μ-check-many : Measures 1 check-many-kinds.ps ℕ
-μ-check-many κs a = ?
+μ-check-many κs a = 8 * (a .1 .1 .1 .0) + 5
 
 abbrev μ-check-value : Measures 1 check-value-kinds.ps ℕ
-μ-check-value κs a = ?
+μ-check-value κs a = 8 * (a .1 .1 .1 .0) + 1
 
 abbrev μ-entry-field : Measures 1 entry-field-kinds.ps ℕ
-μ-entry-field κs a = ?
+μ-entry-field κs a = 8 * (a .1 .1 .1 .1 .1 .1 .0) + 2
 
 abbrev μ-many-field : Measures 1 many-field-kinds.ps ℕ
-μ-many-field κs a = ?
+μ-many-field κs a = 8 * (a .1 .1 .1 .0) + 4
 
 abbrev μ-value-field : Measures 1 value-field-kinds.ps ℕ
-μ-value-field κs a = ?
+μ-value-field κs a = 8 * (a .1 .1 .1 .0)
 
 abbrev check-entry-at : ℕ → In 1 check-entry-kinds.ps
 check-entry-at t =
@@ -99,737 +112,259 @@ abbrev value-field-below : ℕ → In 1 value-field-kinds.ps
 value-field-below t =
     and 1 value-field-kinds.ps (falls 1 value-field-kinds.ps _<_ μ-value-field t) value-field.Pre
 
+abbrev calls-value-field : ℕ → value-field-lts.Claims
+calls-value-field t = (value-rule-reads.Asked, value-rule-reads.Learnt, fault-of-reads.Asked, fault-of-reads.Learnt, check-many-below t, check-many.Post)
+
+abbrev calls-many-field : ℕ → many-field-lts.Claims
+calls-many-field t = (bytes-rule-reads.Asked, bytes-rule-reads.Learnt, check-value-below t, check-value.Post, check-entry-below t, check-entry.Post)
+
+abbrev calls-entry-field : ℕ → entry-field-lts.Claims
+calls-entry-field t = (seen-of-reads.Asked, seen-of-reads.Learnt, bytes-rule-reads.Asked, bytes-rule-reads.Learnt, key-rule-reads.Asked, key-rule-reads.Learnt, check-value-below t, check-value.Post)
+
+abbrev calls-check-value : ℕ → check-value-lts.Claims
+calls-check-value t = (field-at-reads.Asked, field-at-reads.Learnt, value-field-below t, value-field.Post, lacking-reads.Asked, lacking-reads.Learnt)
+
+abbrev calls-check-many : ℕ → check-many-lts.Claims
+calls-check-many t = (field-at-reads.Asked, field-at-reads.Learnt, many-field-below t, many-field.Post)
+
+abbrev calls-check-entry : ℕ → check-entry-lts.Claims
+calls-check-entry t = (field-at-reads.Asked, field-at-reads.Learnt, entry-field-below t, entry-field.Post, entry-done-reads.Asked, entry-done-reads.Learnt)
+
 abbrev check-entry-Inv-loop : check-entry-lts.InvT-loop
-check-entry-Inv-loop s from tag start to levels at₀ key₀ value₀ at key value = ?
+check-entry-Inv-loop s from tag start to levels at₀ key₀ value₀ at key value =
+    entryCheck (inside levels s) s from tag start to
+    ≡ walk (entryField (inside levels s) s from tag) entryMove (entryDone s from tag to) (fieldsOf s at to) (record { key = key; value = value })
 
 abbrev check-entry-μ-loop : check-entry-lts.MeasureT-loop
-check-entry-μ-loop s from tag start to levels at₀ key₀ value₀ at key value = ?
+check-entry-μ-loop s from tag start to levels at₀ key₀ value₀ at key value = to - at
 
--- src/lib.rt:296:5
-check-entry-loop-holds : (t : ℕ) → check-entry-lts.Need-loop-holds (
-  field-at-reads.Asked,
-  field-at-reads.Learnt,
-  entry-field-below t,
-  entry-field.Post,
-  entry-done-reads.Asked,
-  entry-done-reads.Learnt,
-) (check-entry-at t) check-entry.Post check-entry-Inv-loop check-entry-μ-loop
-check-entry-loop-holds t c = ?
+check-entry-loop-holds : (t : ℕ) → check-entry-lts.Need-loop-holds (calls-check-entry t) (check-entry-at t) check-entry.Post check-entry-Inv-loop check-entry-μ-loop
+unfolding entryCheck
+check-entry-loop-holds t c = refl
 
--- src/lib.rt:297:15
-check-entry-field-at-requires : (t : ℕ) → check-entry-lts.Need-field-at-requires (
-  field-at-reads.Asked,
-  field-at-reads.Learnt,
-  entry-field-below t,
-  entry-field.Post,
-  entry-done-reads.Asked,
-  entry-done-reads.Learnt,
-) (check-entry-at t) check-entry.Post check-entry-Inv-loop check-entry-μ-loop
-check-entry-field-at-requires t c κs = ?
+check-entry-field-at-requires : (t : ℕ) → check-entry-lts.Need-field-at-requires (calls-check-entry t) (check-entry-at t) check-entry.Post check-entry-Inv-loop check-entry-μ-loop
+check-entry-field-at-requires t c κs = search needs
 
--- src/lib.rt:298:30
-check-entry-enum-known-why : (t : ℕ) → check-entry-lts.Need-enum-known-why (
-  field-at-reads.Asked,
-  field-at-reads.Learnt,
-  entry-field-below t,
-  entry-field.Post,
-  entry-done-reads.Asked,
-  entry-done-reads.Learnt,
-) (check-entry-at t) check-entry.Post check-entry-Inv-loop check-entry-μ-loop
-check-entry-enum-known-why t c = ?
+check-entry-enum-known-why : (t : ℕ) → check-entry-lts.Need-enum-known-why (calls-check-entry t) (check-entry-at t) check-entry.Post check-entry-Inv-loop check-entry-μ-loop
+check-entry-enum-known-why t c = search needs
 
--- src/lib.rt:299:17
-check-entry-returns : (t : ℕ) → check-entry-lts.Need-returns (
-  field-at-reads.Asked,
-  field-at-reads.Learnt,
-  entry-field-below t,
-  entry-field.Post,
-  entry-done-reads.Asked,
-  entry-done-reads.Learnt,
-) (check-entry-at t) check-entry.Post check-entry-Inv-loop check-entry-μ-loop
-check-entry-returns t c = ?
+check-entry-returns : (t : ℕ) → check-entry-lts.Need-returns (calls-check-entry t) (check-entry-at t) check-entry.Post check-entry-Inv-loop check-entry-μ-loop
+check-entry-returns t c = walk-refused _ _ _ _ _ _ _ _ (c .before .before .before .before .before .loop .inv) (c .before .before .before .before .loop-test .taken) _ (c .before .before .before .field-at .ensures) _ (c .before .why .given .1)
 
--- src/lib.rt:301:27
-check-entry-enum-known-field : (t : ℕ) → check-entry-lts.Need-enum-known-field (
-  field-at-reads.Asked,
-  field-at-reads.Learnt,
-  entry-field-below t,
-  entry-field.Post,
-  entry-done-reads.Asked,
-  entry-done-reads.Learnt,
-) (check-entry-at t) check-entry.Post check-entry-Inv-loop check-entry-μ-loop
-check-entry-enum-known-field t c = ?
+check-entry-enum-known-field : (t : ℕ) → check-entry-lts.Need-enum-known-field (calls-check-entry t) (check-entry-at t) check-entry.Post check-entry-Inv-loop check-entry-μ-loop
+check-entry-enum-known-field t c = search needs
 
--- src/lib.rt:302:21
-check-entry-entry-field-requires : (t : ℕ) → check-entry-lts.Need-entry-field-requires (
-  field-at-reads.Asked,
-  field-at-reads.Learnt,
-  entry-field-below t,
-  entry-field.Post,
-  entry-done-reads.Asked,
-  entry-done-reads.Learnt,
-) (check-entry-at t) check-entry.Post check-entry-Inv-loop check-entry-μ-loop
-check-entry-entry-field-requires t c κs = ?
+check-entry-entry-field-requires : (t : ℕ) → check-entry-lts.Need-entry-field-requires (calls-check-entry t) (check-entry-at t) check-entry.Post check-entry-Inv-loop check-entry-μ-loop
+check-entry-entry-field-requires t c κs =
+    let w = field-within _ _ _ _ (sym (c .before .before .before .field-at .ensures) ∙ c .before .field .given .1) in
+    let i = w .inside in let l = w .there in
+    (search needs, (w .ends, omega arith))
 
-check-entry-enum-told : (t : ℕ) → check-entry-lts.Need-enum-told (
-  field-at-reads.Asked,
-  field-at-reads.Learnt,
-  entry-field-below t,
-  entry-field.Post,
-  entry-done-reads.Asked,
-  entry-done-reads.Learnt,
-) (check-entry-at t) check-entry.Post check-entry-Inv-loop check-entry-μ-loop
-check-entry-enum-told t c = ?
+check-entry-enum-told : (t : ℕ) → check-entry-lts.Need-enum-told (calls-check-entry t) (check-entry-at t) check-entry.Post check-entry-Inv-loop check-entry-μ-loop
+check-entry-enum-told t c = search needs
 
--- src/lib.rt:304:21
-check-entry-enum-told-2 : (t : ℕ) → check-entry-lts.Need-enum-told-2 (
-  field-at-reads.Asked,
-  field-at-reads.Learnt,
-  entry-field-below t,
-  entry-field.Post,
-  entry-done-reads.Asked,
-  entry-done-reads.Learnt,
-) (check-entry-at t) check-entry.Post check-entry-Inv-loop check-entry-μ-loop
-check-entry-enum-told-2 t c = ?
+check-entry-enum-told-2 : (t : ℕ) → check-entry-lts.Need-enum-told-2 (calls-check-entry t) (check-entry-at t) check-entry.Post check-entry-Inv-loop check-entry-μ-loop
+check-entry-enum-told-2 t c = search needs
 
--- src/lib.rt:304:21
-check-entry-returns-2 : (t : ℕ) → check-entry-lts.Need-returns-2 (
-  field-at-reads.Asked,
-  field-at-reads.Learnt,
-  entry-field-below t,
-  entry-field.Post,
-  entry-done-reads.Asked,
-  entry-done-reads.Learnt,
-) (check-entry-at t) check-entry.Post check-entry-Inv-loop check-entry-μ-loop
-check-entry-returns-2 t c = ?
+check-entry-returns-2 : (t : ℕ) → check-entry-lts.Need-returns-2 (calls-check-entry t) (check-entry-at t) check-entry.Post check-entry-Inv-loop check-entry-μ-loop
+check-entry-returns-2 t c = walk-stopped _ _ _ _ _ _ _ _ (c .before .before .before .before .before .before .before .before .loop .inv) (c .before .before .before .before .before .before .before .loop-test .taken) _ (c .before .before .before .before .before .before .field-at .ensures) _ (c .before .before .before .before .field .given .1) _ (c .before .before .entry-field .ensures) _ (c .enum-told2 .given .1)
 
--- src/lib.rt:296:5
-check-entry-loop-less : (t : ℕ) → check-entry-lts.Need-loop-less (
-  field-at-reads.Asked,
-  field-at-reads.Learnt,
-  entry-field-below t,
-  entry-field.Post,
-  entry-done-reads.Asked,
-  entry-done-reads.Learnt,
-) (check-entry-at t) check-entry.Post check-entry-Inv-loop check-entry-μ-loop
-check-entry-loop-less t c = ?
+check-entry-loop-less : (t : ℕ) → check-entry-lts.Need-loop-less (calls-check-entry t) (check-entry-at t) check-entry.Post check-entry-Inv-loop check-entry-μ-loop
+check-entry-loop-less t c = less-left _ _ _ _ _ (c .before .before .before .before .before .before .before .before .field-at .ensures) (c .before .before .before .before .before .before .field .given .1) (c .before .before .before .before .before .before .before .before .before .loop-test .taken)
 
--- src/lib.rt:296:5
-check-entry-loop-again : (t : ℕ) → check-entry-lts.Need-loop-again (
-  field-at-reads.Asked,
-  field-at-reads.Learnt,
-  entry-field-below t,
-  entry-field.Post,
-  entry-done-reads.Asked,
-  entry-done-reads.Learnt,
-) (check-entry-at t) check-entry.Post check-entry-Inv-loop check-entry-μ-loop
-check-entry-loop-again t c = ?
+check-entry-loop-again : (t : ℕ) → check-entry-lts.Need-loop-again (calls-check-entry t) (check-entry-at t) check-entry.Post check-entry-Inv-loop check-entry-μ-loop
+check-entry-loop-again t c = walk-on _ _ _ _ _ _ _ _ (c .before .before .before .before .before .before .before .before .before .before .loop .inv) (c .before .before .before .before .before .before .before .before .before .loop-test .taken) _ (c .before .before .before .before .before .before .before .before .field-at .ensures) _ (c .before .before .before .before .before .before .field .given .1) _ (c .before .before .before .before .entry-field .ensures) (c .before .before .enum-told .given .1)
 
--- src/lib.rt:312:5
-check-entry-entry-done-requires : (t : ℕ) → check-entry-lts.Need-entry-done-requires (
-  field-at-reads.Asked,
-  field-at-reads.Learnt,
-  entry-field-below t,
-  entry-field.Post,
-  entry-done-reads.Asked,
-  entry-done-reads.Learnt,
-) (check-entry-at t) check-entry.Post check-entry-Inv-loop check-entry-μ-loop
-check-entry-entry-done-requires t c κs = ?
+check-entry-entry-done-requires : (t : ℕ) → check-entry-lts.Need-entry-done-requires (calls-check-entry t) (check-entry-at t) check-entry.Post check-entry-Inv-loop check-entry-μ-loop
+check-entry-entry-done-requires t c κs = search needs
 
--- src/lib.rt:290:1
-check-entry-returns-3 : (t : ℕ) → check-entry-lts.Need-returns-3 (
-  field-at-reads.Asked,
-  field-at-reads.Learnt,
-  entry-field-below t,
-  entry-field.Post,
-  entry-done-reads.Asked,
-  entry-done-reads.Learnt,
-) (check-entry-at t) check-entry.Post check-entry-Inv-loop check-entry-μ-loop
-check-entry-returns-3 t c = ?
+check-entry-returns-3 : (t : ℕ) → check-entry-lts.Need-returns-3 (calls-check-entry t) (check-entry-at t) check-entry.Post check-entry-Inv-loop check-entry-μ-loop
+check-entry-returns-3 t c = c .entry-done .ensures ∙ walk-done _ _ _ _ _ _ _ _ (c .before .before .loop .inv) (c .before .loop-test .left)
 
 abbrev check-many-Inv-loop : check-many-lts.InvT-loop
-check-many-Inv-loop s from to levels list at₀ at = ?
+check-many-Inv-loop s from to levels list at₀ at =
+    manyCheck (inside levels s) s list from to ≡ walk (manyJudge (inside levels s) s list from) manyMove manyDone (fieldsOf s at to) tt
 
 abbrev check-many-μ-loop : check-many-lts.MeasureT-loop
-check-many-μ-loop s from to levels list at₀ at = ?
+check-many-μ-loop s from to levels list at₀ at = to - at
 
--- src/lib.rt:334:5
-check-many-loop-holds : (t : ℕ) → check-many-lts.Need-loop-holds (
-  field-at-reads.Asked,
-  field-at-reads.Learnt,
-  many-field-below t,
-  many-field.Post,
-) (check-many-at t) check-many.Post check-many-Inv-loop check-many-μ-loop
-check-many-loop-holds t c = ?
+check-many-loop-holds : (t : ℕ) → check-many-lts.Need-loop-holds (calls-check-many t) (check-many-at t) check-many.Post check-many-Inv-loop check-many-μ-loop
+unfolding manyCheck
+check-many-loop-holds t c = refl
 
--- src/lib.rt:335:15
-check-many-field-at-requires : (t : ℕ) → check-many-lts.Need-field-at-requires (
-  field-at-reads.Asked,
-  field-at-reads.Learnt,
-  many-field-below t,
-  many-field.Post,
-) (check-many-at t) check-many.Post check-many-Inv-loop check-many-μ-loop
-check-many-field-at-requires t c κs = ?
+check-many-field-at-requires : (t : ℕ) → check-many-lts.Need-field-at-requires (calls-check-many t) (check-many-at t) check-many.Post check-many-Inv-loop check-many-μ-loop
+check-many-field-at-requires t c κs = search needs
 
--- src/lib.rt:336:30
-check-many-enum-known-why : (t : ℕ) → check-many-lts.Need-enum-known-why (
-  field-at-reads.Asked,
-  field-at-reads.Learnt,
-  many-field-below t,
-  many-field.Post,
-) (check-many-at t) check-many.Post check-many-Inv-loop check-many-μ-loop
-check-many-enum-known-why t c = ?
+check-many-enum-known-why : (t : ℕ) → check-many-lts.Need-enum-known-why (calls-check-many t) (check-many-at t) check-many.Post check-many-Inv-loop check-many-μ-loop
+check-many-enum-known-why t c = search needs
 
--- src/lib.rt:337:17
-check-many-returns : (t : ℕ) → check-many-lts.Need-returns (
-  field-at-reads.Asked,
-  field-at-reads.Learnt,
-  many-field-below t,
-  many-field.Post,
-) (check-many-at t) check-many.Post check-many-Inv-loop check-many-μ-loop
-check-many-returns t c = ?
+check-many-returns : (t : ℕ) → check-many-lts.Need-returns (calls-check-many t) (check-many-at t) check-many.Post check-many-Inv-loop check-many-μ-loop
+check-many-returns t c = walk-refused _ _ _ _ _ _ _ _ (c .before .before .before .before .before .loop .inv) (c .before .before .before .before .loop-test .taken) _ (c .before .before .before .field-at .ensures) _ (c .before .why .given .1)
 
--- src/lib.rt:339:27
-check-many-enum-known-field : (t : ℕ) → check-many-lts.Need-enum-known-field (
-  field-at-reads.Asked,
-  field-at-reads.Learnt,
-  many-field-below t,
-  many-field.Post,
-) (check-many-at t) check-many.Post check-many-Inv-loop check-many-μ-loop
-check-many-enum-known-field t c = ?
+check-many-enum-known-field : (t : ℕ) → check-many-lts.Need-enum-known-field (calls-check-many t) (check-many-at t) check-many.Post check-many-Inv-loop check-many-μ-loop
+check-many-enum-known-field t c = search needs
 
--- src/lib.rt:340:21
-check-many-many-field-requires : (t : ℕ) → check-many-lts.Need-many-field-requires (
-  field-at-reads.Asked,
-  field-at-reads.Learnt,
-  many-field-below t,
-  many-field.Post,
-) (check-many-at t) check-many.Post check-many-Inv-loop check-many-μ-loop
-check-many-many-field-requires t c κs = ?
+check-many-many-field-requires : (t : ℕ) → check-many-lts.Need-many-field-requires (calls-check-many t) (check-many-at t) check-many.Post check-many-Inv-loop check-many-μ-loop
+check-many-many-field-requires t c κs = search needs
 
-check-many-enum-told : (t : ℕ) → check-many-lts.Need-enum-told (
-  field-at-reads.Asked,
-  field-at-reads.Learnt,
-  many-field-below t,
-  many-field.Post,
-) (check-many-at t) check-many.Post check-many-Inv-loop check-many-μ-loop
-check-many-enum-told t c = ?
+check-many-enum-told : (t : ℕ) → check-many-lts.Need-enum-told (calls-check-many t) (check-many-at t) check-many.Post check-many-Inv-loop check-many-μ-loop
+check-many-enum-told t c = search needs
 
--- src/lib.rt:342:21
-check-many-enum-told-2 : (t : ℕ) → check-many-lts.Need-enum-told-2 (
-  field-at-reads.Asked,
-  field-at-reads.Learnt,
-  many-field-below t,
-  many-field.Post,
-) (check-many-at t) check-many.Post check-many-Inv-loop check-many-μ-loop
-check-many-enum-told-2 t c = ?
+check-many-enum-told-2 : (t : ℕ) → check-many-lts.Need-enum-told-2 (calls-check-many t) (check-many-at t) check-many.Post check-many-Inv-loop check-many-μ-loop
+check-many-enum-told-2 t c = search needs
 
--- src/lib.rt:342:21
-check-many-returns-2 : (t : ℕ) → check-many-lts.Need-returns-2 (
-  field-at-reads.Asked,
-  field-at-reads.Learnt,
-  many-field-below t,
-  many-field.Post,
-) (check-many-at t) check-many.Post check-many-Inv-loop check-many-μ-loop
-check-many-returns-2 t c = ?
+check-many-returns-2 : (t : ℕ) → check-many-lts.Need-returns-2 (calls-check-many t) (check-many-at t) check-many.Post check-many-Inv-loop check-many-μ-loop
+check-many-returns-2 t c = walk-stopped _ _ _ _ _ _ _ _ (c .before .before .before .before .before .before .before .before .loop .inv) (c .before .before .before .before .before .before .before .loop-test .taken) _ (c .before .before .before .before .before .before .field-at .ensures) _ (c .before .before .before .before .field .given .1) _ (c .before .before .many-field .ensures) _ (c .enum-told2 .given .1)
 
--- src/lib.rt:334:5
-check-many-loop-less : (t : ℕ) → check-many-lts.Need-loop-less (
-  field-at-reads.Asked,
-  field-at-reads.Learnt,
-  many-field-below t,
-  many-field.Post,
-) (check-many-at t) check-many.Post check-many-Inv-loop check-many-μ-loop
-check-many-loop-less t c = ?
+check-many-loop-less : (t : ℕ) → check-many-lts.Need-loop-less (calls-check-many t) (check-many-at t) check-many.Post check-many-Inv-loop check-many-μ-loop
+check-many-loop-less t c = less-left _ _ _ _ _ (c .before .before .before .before .before .before .field-at .ensures) (c .before .before .before .before .field .given .1) (c .before .before .before .before .before .before .before .loop-test .taken)
 
--- src/lib.rt:334:5
-check-many-loop-again : (t : ℕ) → check-many-lts.Need-loop-again (
-  field-at-reads.Asked,
-  field-at-reads.Learnt,
-  many-field-below t,
-  many-field.Post,
-) (check-many-at t) check-many.Post check-many-Inv-loop check-many-μ-loop
-check-many-loop-again t c = ?
+check-many-loop-again : (t : ℕ) → check-many-lts.Need-loop-again (calls-check-many t) (check-many-at t) check-many.Post check-many-Inv-loop check-many-μ-loop
+check-many-loop-again t c = walk-on _ _ _ _ _ _ _ _ (c .before .before .before .before .before .before .before .before .loop .inv) (c .before .before .before .before .before .before .before .loop-test .taken) _ (c .before .before .before .before .before .before .field-at .ensures) _ (c .before .before .before .before .field .given .1) _ (c .before .before .many-field .ensures) (c .enum-told .given .1)
 
--- src/lib.rt:330:1
-check-many-returns-3 : (t : ℕ) → check-many-lts.Need-returns-3 (
-  field-at-reads.Asked,
-  field-at-reads.Learnt,
-  many-field-below t,
-  many-field.Post,
-) (check-many-at t) check-many.Post check-many-Inv-loop check-many-μ-loop
-check-many-returns-3 t c = ?
+check-many-returns-3 : (t : ℕ) → check-many-lts.Need-returns-3 (calls-check-many t) (check-many-at t) check-many.Post check-many-Inv-loop check-many-μ-loop
+check-many-returns-3 t c = walk-done _ _ _ _ _ _ _ _ (c .before .loop .inv) (c .loop-test .left)
 
 abbrev check-value-Inv-loop : check-value-lts.InvT-loop
-check-value-Inv-loop s from to levels at₀ held₀ at held = ?
+check-value-Inv-loop s from to levels at₀ held₀ at held =
+    valueCheck (inside levels s) s from to ≡ walk (valueField (inside levels s) s) valueMove (valueDone to) (fieldsOf s at to) held
 
 abbrev check-value-μ-loop : check-value-lts.MeasureT-loop
-check-value-μ-loop s from to levels at₀ held₀ at held = ?
+check-value-μ-loop s from to levels at₀ held₀ at held = to - at
 
--- src/lib.rt:187:5
-check-value-loop-holds : (t : ℕ) → check-value-lts.Need-loop-holds (
-  field-at-reads.Asked,
-  field-at-reads.Learnt,
-  value-field-below t,
-  value-field.Post,
-  fault-of-reads.Asked,
-  fault-of-reads.Learnt,
-) (check-value-at t) check-value.Post check-value-Inv-loop check-value-μ-loop
-check-value-loop-holds t c = ?
+check-value-loop-holds : (t : ℕ) → check-value-lts.Need-loop-holds (calls-check-value t) (check-value-at t) check-value.Post check-value-Inv-loop check-value-μ-loop
+unfolding valueCheck
+check-value-loop-holds t c = refl
 
--- src/lib.rt:188:15
-check-value-field-at-requires : (t : ℕ) → check-value-lts.Need-field-at-requires (
-  field-at-reads.Asked,
-  field-at-reads.Learnt,
-  value-field-below t,
-  value-field.Post,
-  fault-of-reads.Asked,
-  fault-of-reads.Learnt,
-) (check-value-at t) check-value.Post check-value-Inv-loop check-value-μ-loop
-check-value-field-at-requires t c κs = ?
+check-value-field-at-requires : (t : ℕ) → check-value-lts.Need-field-at-requires (calls-check-value t) (check-value-at t) check-value.Post check-value-Inv-loop check-value-μ-loop
+check-value-field-at-requires t c κs = search needs
 
--- src/lib.rt:189:30
-check-value-enum-known-why : (t : ℕ) → check-value-lts.Need-enum-known-why (
-  field-at-reads.Asked,
-  field-at-reads.Learnt,
-  value-field-below t,
-  value-field.Post,
-  fault-of-reads.Asked,
-  fault-of-reads.Learnt,
-) (check-value-at t) check-value.Post check-value-Inv-loop check-value-μ-loop
-check-value-enum-known-why t c = ?
+check-value-enum-known-why : (t : ℕ) → check-value-lts.Need-enum-known-why (calls-check-value t) (check-value-at t) check-value.Post check-value-Inv-loop check-value-μ-loop
+check-value-enum-known-why t c = search needs
 
--- src/lib.rt:190:17
-check-value-returns : (t : ℕ) → check-value-lts.Need-returns (
-  field-at-reads.Asked,
-  field-at-reads.Learnt,
-  value-field-below t,
-  value-field.Post,
-  fault-of-reads.Asked,
-  fault-of-reads.Learnt,
-) (check-value-at t) check-value.Post check-value-Inv-loop check-value-μ-loop
-check-value-returns t c = ?
+check-value-returns : (t : ℕ) → check-value-lts.Need-returns (calls-check-value t) (check-value-at t) check-value.Post check-value-Inv-loop check-value-μ-loop
+check-value-returns t c = walk-refused _ _ _ _ _ _ _ _ (c .before .before .before .before .before .loop .inv) (c .before .before .before .before .loop-test .taken) _ (c .before .before .before .field-at .ensures) _ (c .before .why .given .1)
 
--- src/lib.rt:192:27
-check-value-enum-known-field : (t : ℕ) → check-value-lts.Need-enum-known-field (
-  field-at-reads.Asked,
-  field-at-reads.Learnt,
-  value-field-below t,
-  value-field.Post,
-  fault-of-reads.Asked,
-  fault-of-reads.Learnt,
-) (check-value-at t) check-value.Post check-value-Inv-loop check-value-μ-loop
-check-value-enum-known-field t c = ?
+check-value-enum-known-field : (t : ℕ) → check-value-lts.Need-enum-known-field (calls-check-value t) (check-value-at t) check-value.Post check-value-Inv-loop check-value-μ-loop
+check-value-enum-known-field t c = search needs
 
--- src/lib.rt:193:21
-check-value-value-field-requires : (t : ℕ) → check-value-lts.Need-value-field-requires (
-  field-at-reads.Asked,
-  field-at-reads.Learnt,
-  value-field-below t,
-  value-field.Post,
-  fault-of-reads.Asked,
-  fault-of-reads.Learnt,
-) (check-value-at t) check-value.Post check-value-Inv-loop check-value-μ-loop
-check-value-value-field-requires t c κs = ?
+check-value-value-field-requires : (t : ℕ) → check-value-lts.Need-value-field-requires (calls-check-value t) (check-value-at t) check-value.Post check-value-Inv-loop check-value-μ-loop
+check-value-value-field-requires t c κs =
+    let w = field-within _ _ _ _ (sym (c .before .before .before .field-at .ensures) ∙ c .before .field .given .1) in
+    let i = w .inside in let l = w .there in
+    (search needs, (w .ends, omega arith))
 
-check-value-enum-told : (t : ℕ) → check-value-lts.Need-enum-told (
-  field-at-reads.Asked,
-  field-at-reads.Learnt,
-  value-field-below t,
-  value-field.Post,
-  fault-of-reads.Asked,
-  fault-of-reads.Learnt,
-) (check-value-at t) check-value.Post check-value-Inv-loop check-value-μ-loop
-check-value-enum-told t c = ?
+check-value-enum-told : (t : ℕ) → check-value-lts.Need-enum-told (calls-check-value t) (check-value-at t) check-value.Post check-value-Inv-loop check-value-μ-loop
+check-value-enum-told t c = search needs
 
--- src/lib.rt:195:21
-check-value-enum-told-2 : (t : ℕ) → check-value-lts.Need-enum-told-2 (
-  field-at-reads.Asked,
-  field-at-reads.Learnt,
-  value-field-below t,
-  value-field.Post,
-  fault-of-reads.Asked,
-  fault-of-reads.Learnt,
-) (check-value-at t) check-value.Post check-value-Inv-loop check-value-μ-loop
-check-value-enum-told-2 t c = ?
+check-value-enum-told-2 : (t : ℕ) → check-value-lts.Need-enum-told-2 (calls-check-value t) (check-value-at t) check-value.Post check-value-Inv-loop check-value-μ-loop
+check-value-enum-told-2 t c = search needs
 
--- src/lib.rt:195:21
-check-value-returns-2 : (t : ℕ) → check-value-lts.Need-returns-2 (
-  field-at-reads.Asked,
-  field-at-reads.Learnt,
-  value-field-below t,
-  value-field.Post,
-  fault-of-reads.Asked,
-  fault-of-reads.Learnt,
-) (check-value-at t) check-value.Post check-value-Inv-loop check-value-μ-loop
-check-value-returns-2 t c = ?
+check-value-returns-2 : (t : ℕ) → check-value-lts.Need-returns-2 (calls-check-value t) (check-value-at t) check-value.Post check-value-Inv-loop check-value-μ-loop
+check-value-returns-2 t c = walk-stopped _ _ _ _ _ _ _ _ (c .before .before .before .before .before .before .before .before .loop .inv) (c .before .before .before .before .before .before .before .loop-test .taken) _ (c .before .before .before .before .before .before .field-at .ensures) _ (c .before .before .before .before .field .given .1) _ (c .before .before .value-field .ensures) _ (c .enum-told2 .given .1)
 
--- src/lib.rt:187:5
-check-value-loop-less : (t : ℕ) → check-value-lts.Need-loop-less (
-  field-at-reads.Asked,
-  field-at-reads.Learnt,
-  value-field-below t,
-  value-field.Post,
-  fault-of-reads.Asked,
-  fault-of-reads.Learnt,
-) (check-value-at t) check-value.Post check-value-Inv-loop check-value-μ-loop
-check-value-loop-less t c = ?
+check-value-loop-less : (t : ℕ) → check-value-lts.Need-loop-less (calls-check-value t) (check-value-at t) check-value.Post check-value-Inv-loop check-value-μ-loop
+check-value-loop-less t c = less-left _ _ _ _ _ (c .before .before .before .before .before .before .field-at .ensures) (c .before .before .before .before .field .given .1) (c .before .before .before .before .before .before .before .loop-test .taken)
 
--- src/lib.rt:187:5
-check-value-loop-again : (t : ℕ) → check-value-lts.Need-loop-again (
-  field-at-reads.Asked,
-  field-at-reads.Learnt,
-  value-field-below t,
-  value-field.Post,
-  fault-of-reads.Asked,
-  fault-of-reads.Learnt,
-) (check-value-at t) check-value.Post check-value-Inv-loop check-value-μ-loop
-check-value-loop-again t c = ?
+check-value-loop-again : (t : ℕ) → check-value-lts.Need-loop-again (calls-check-value t) (check-value-at t) check-value.Post check-value-Inv-loop check-value-μ-loop
+check-value-loop-again t c = walk-on _ _ _ _ _ _ _ _ (c .before .before .before .before .before .before .before .before .loop .inv) (c .before .before .before .before .before .before .before .loop-test .taken) _ (c .before .before .before .before .before .before .field-at .ensures) _ (c .before .before .before .before .field .given .1) _ (c .before .before .value-field .ensures) (c .enum-told .given .1)
 
--- src/lib.rt:203:9
-check-value-fault-of-requires : (t : ℕ) → check-value-lts.Need-fault-of-requires (
-  field-at-reads.Asked,
-  field-at-reads.Learnt,
-  value-field-below t,
-  value-field.Post,
-  fault-of-reads.Asked,
-  fault-of-reads.Learnt,
-) (check-value-at t) check-value.Post check-value-Inv-loop check-value-μ-loop
-check-value-fault-of-requires t c κs = ?
+check-value-lacking-requires : (t : ℕ) → check-value-lts.Need-lacking-requires (calls-check-value t) (check-value-at t) check-value.Post check-value-Inv-loop check-value-μ-loop
+check-value-lacking-requires t c κs = search needs
 
--- src/lib.rt:203:9
-check-value-returns-3 : (t : ℕ) → check-value-lts.Need-returns-3 (
-  field-at-reads.Asked,
-  field-at-reads.Learnt,
-  value-field-below t,
-  value-field.Post,
-  fault-of-reads.Asked,
-  fault-of-reads.Learnt,
-) (check-value-at t) check-value.Post check-value-Inv-loop check-value-μ-loop
-check-value-returns-3 t c = ?
+check-value-returns-3 : (t : ℕ) → check-value-lts.Need-returns-3 (calls-check-value t) (check-value-at t) check-value.Post check-value-Inv-loop check-value-μ-loop
+check-value-returns-3 t c = c .lacking .ensures ∙ walk-done _ _ _ _ _ _ _ _ (c .before .before .loop .inv) (c .before .loop-test .left)
 
--- src/lib.rt:182:1
-check-value-returns-4 : (t : ℕ) → check-value-lts.Need-returns-4 (
-  field-at-reads.Asked,
-  field-at-reads.Learnt,
-  value-field-below t,
-  value-field.Post,
-  fault-of-reads.Asked,
-  fault-of-reads.Learnt,
-) (check-value-at t) check-value.Post check-value-Inv-loop check-value-μ-loop
-check-value-returns-4 t c = ?
+entry-field-seen-of-requires : (t : ℕ) → entry-field-lts.Need-seen-of-requires (calls-entry-field t) (entry-field-at t) entry-field.Post
+entry-field-seen-of-requires t c κs = search needs
 
--- src/lib.rt:264:37
-entry-field-seen-of-requires : (t : ℕ) → entry-field-lts.Need-seen-of-requires (
-  seen-of-reads.Asked,
-  seen-of-reads.Learnt,
-  bytes-rule-reads.Asked,
-  bytes-rule-reads.Learnt,
-  key-rule-reads.Asked,
-  key-rule-reads.Learnt,
-  check-value-below t,
-  check-value.Post,
-) (entry-field-at t) entry-field.Post
-entry-field-seen-of-requires t c κs = ?
+entry-field-bytes-rule-requires : (t : ℕ) → entry-field-lts.Need-bytes-rule-requires (calls-entry-field t) (entry-field-at t) entry-field.Post
+entry-field-bytes-rule-requires t c κs = search needs
 
--- src/lib.rt:264:9
-entry-field-bytes-rule-requires : (t : ℕ) → entry-field-lts.Need-bytes-rule-requires (
-  seen-of-reads.Asked,
-  seen-of-reads.Learnt,
-  bytes-rule-reads.Asked,
-  bytes-rule-reads.Learnt,
-  key-rule-reads.Asked,
-  key-rule-reads.Learnt,
-  check-value-below t,
-  check-value.Post,
-) (entry-field-at t) entry-field.Post
-entry-field-bytes-rule-requires t c κs = ?
+entry-field-enum-told : (t : ℕ) → entry-field-lts.Need-enum-told (calls-entry-field t) (entry-field-at t) entry-field.Post
+entry-field-enum-told t c = search needs
 
-entry-field-enum-told : (t : ℕ) → entry-field-lts.Need-enum-told (
-  seen-of-reads.Asked,
-  seen-of-reads.Learnt,
-  bytes-rule-reads.Asked,
-  bytes-rule-reads.Learnt,
-  key-rule-reads.Asked,
-  key-rule-reads.Learnt,
-  check-value-below t,
-  check-value.Post,
-) (entry-field-at t) entry-field.Post
-entry-field-enum-told t c = ?
+entry-field-enum-told-2 : (t : ℕ) → entry-field-lts.Need-enum-told-2 (calls-entry-field t) (entry-field-at t) entry-field.Post
+entry-field-enum-told-2 t c = search needs
 
--- src/lib.rt:266:9
-entry-field-enum-told-2 : (t : ℕ) → entry-field-lts.Need-enum-told-2 (
-  seen-of-reads.Asked,
-  seen-of-reads.Learnt,
-  bytes-rule-reads.Asked,
-  bytes-rule-reads.Learnt,
-  key-rule-reads.Asked,
-  key-rule-reads.Learnt,
-  check-value-below t,
-  check-value.Post,
-) (entry-field-at t) entry-field.Post
-entry-field-enum-told-2 t c = ?
+entry-field-returns : (t : ℕ) → entry-field-lts.Need-returns (calls-entry-field t) (entry-field-at t) entry-field.Post
+unfolding entryField
+entry-field-returns t c = stopped _ _ _ (rw (c .before .before .before .seen-of .ensures) at (c .before .before .bytes-rule .ensures)) _ (c .enum-told2 .given .1)
 
--- src/lib.rt:266:9
-entry-field-returns : (t : ℕ) → entry-field-lts.Need-returns (
-  seen-of-reads.Asked,
-  seen-of-reads.Learnt,
-  bytes-rule-reads.Asked,
-  bytes-rule-reads.Learnt,
-  key-rule-reads.Asked,
-  key-rule-reads.Learnt,
-  check-value-below t,
-  check-value.Post,
-) (entry-field-at t) entry-field.Post
-entry-field-returns t c = ?
+entry-field-key-rule-requires : (t : ℕ) → entry-field-lts.Need-key-rule-requires (calls-entry-field t) (entry-field-at t) entry-field.Post
+entry-field-key-rule-requires t c κs = search needs
 
--- src/lib.rt:269:9
-entry-field-key-rule-requires : (t : ℕ) → entry-field-lts.Need-key-rule-requires (
-  seen-of-reads.Asked,
-  seen-of-reads.Learnt,
-  bytes-rule-reads.Asked,
-  bytes-rule-reads.Learnt,
-  key-rule-reads.Asked,
-  key-rule-reads.Learnt,
-  check-value-below t,
-  check-value.Post,
-) (entry-field-at t) entry-field.Post
-entry-field-key-rule-requires t c κs = ?
+entry-field-returns-2 : (t : ℕ) → entry-field-lts.Need-returns-2 (calls-entry-field t) (entry-field-at t) entry-field.Post
+unfolding entryField
+entry-field-returns-2 t c = passed _ _ _ (rw (c .before .before .before .before .before .before .seen-of .ensures) at (c .before .before .before .before .before .bytes-rule .ensures)) (c .before .before .before .enum-told .given .1) (simp (eq-eqb _ _ (c .before .if1 .taken)) (c .key-rule .ensures))
 
--- src/lib.rt:269:9
-entry-field-returns-2 : (t : ℕ) → entry-field-lts.Need-returns-2 (
-  seen-of-reads.Asked,
-  seen-of-reads.Learnt,
-  bytes-rule-reads.Asked,
-  bytes-rule-reads.Learnt,
-  key-rule-reads.Asked,
-  key-rule-reads.Learnt,
-  check-value-below t,
-  check-value.Post,
-) (entry-field-at t) entry-field.Post
-entry-field-returns-2 t c = ?
+entry-field-check-value-requires : (t : ℕ) → entry-field-lts.Need-check-value-requires (calls-entry-field t) (entry-field-at t) entry-field.Post
+entry-field-check-value-requires t c κs = search needs
 
--- src/lib.rt:271:5
-entry-field-check-value-requires : (t : ℕ) → entry-field-lts.Need-check-value-requires (
-  seen-of-reads.Asked,
-  seen-of-reads.Learnt,
-  bytes-rule-reads.Asked,
-  bytes-rule-reads.Learnt,
-  key-rule-reads.Asked,
-  key-rule-reads.Learnt,
-  check-value-below t,
-  check-value.Post,
-) (entry-field-at t) entry-field.Post
-entry-field-check-value-requires t c κs = ?
+entry-field-returns-3 : (t : ℕ) → entry-field-lts.Need-returns-3 (calls-entry-field t) (entry-field-at t) entry-field.Post
+unfolding entryField
+entry-field-returns-3 t c = passed _ _ _ (rw (c .before .before .before .before .before .before .seen-of .ensures) at (c .before .before .before .before .before .bytes-rule .ensures)) (c .before .before .before .enum-told .given .1) (simp (ne-eqb _ _ (c .before .if1 .left)) (c .check-value .ensures))
 
--- src/lib.rt:252:1
-entry-field-returns-3 : (t : ℕ) → entry-field-lts.Need-returns-3 (
-  seen-of-reads.Asked,
-  seen-of-reads.Learnt,
-  bytes-rule-reads.Asked,
-  bytes-rule-reads.Learnt,
-  key-rule-reads.Asked,
-  key-rule-reads.Learnt,
-  check-value-below t,
-  check-value.Post,
-) (entry-field-at t) entry-field.Post
-entry-field-returns-3 t c = ?
+many-field-bytes-rule-requires : (t : ℕ) → many-field-lts.Need-bytes-rule-requires (calls-many-field t) (many-field-at t) many-field.Post
+many-field-bytes-rule-requires t c κs = search needs
 
--- src/lib.rt:319:9
-many-field-bytes-rule-requires : (t : ℕ) → many-field-lts.Need-bytes-rule-requires (
-  bytes-rule-reads.Asked,
-  bytes-rule-reads.Learnt,
-  check-value-below t,
-  check-value.Post,
-  check-entry-below t,
-  check-entry.Post,
-) (many-field-at t) many-field.Post
-many-field-bytes-rule-requires t c κs = ?
+many-field-enum-told : (t : ℕ) → many-field-lts.Need-enum-told (calls-many-field t) (many-field-at t) many-field.Post
+many-field-enum-told t c = search needs
 
-many-field-enum-told : (t : ℕ) → many-field-lts.Need-enum-told (
-  bytes-rule-reads.Asked,
-  bytes-rule-reads.Learnt,
-  check-value-below t,
-  check-value.Post,
-  check-entry-below t,
-  check-entry.Post,
-) (many-field-at t) many-field.Post
-many-field-enum-told t c = ?
+many-field-enum-told-2 : (t : ℕ) → many-field-lts.Need-enum-told-2 (calls-many-field t) (many-field-at t) many-field.Post
+many-field-enum-told-2 t c = search needs
 
--- src/lib.rt:321:9
-many-field-enum-told-2 : (t : ℕ) → many-field-lts.Need-enum-told-2 (
-  bytes-rule-reads.Asked,
-  bytes-rule-reads.Learnt,
-  check-value-below t,
-  check-value.Post,
-  check-entry-below t,
-  check-entry.Post,
-) (many-field-at t) many-field.Post
-many-field-enum-told-2 t c = ?
+many-field-returns : (t : ℕ) → many-field-lts.Need-returns (calls-many-field t) (many-field-at t) many-field.Post
+unfolding manyField
+many-field-returns t c = stopped _ _ _ (c .before .before .bytes-rule .ensures) _ (c .enum-told2 .given .1)
 
--- src/lib.rt:321:9
-many-field-returns : (t : ℕ) → many-field-lts.Need-returns (
-  bytes-rule-reads.Asked,
-  bytes-rule-reads.Learnt,
-  check-value-below t,
-  check-value.Post,
-  check-entry-below t,
-  check-entry.Post,
-) (many-field-at t) many-field.Post
-many-field-returns t c = ?
+many-field-check-value-requires : (t : ℕ) → many-field-lts.Need-check-value-requires (calls-many-field t) (many-field-at t) many-field.Post
+many-field-check-value-requires t c κs = search needs
 
--- src/lib.rt:324:9
-many-field-check-value-requires : (t : ℕ) → many-field-lts.Need-check-value-requires (
-  bytes-rule-reads.Asked,
-  bytes-rule-reads.Learnt,
-  check-value-below t,
-  check-value.Post,
-  check-entry-below t,
-  check-entry.Post,
-) (many-field-at t) many-field.Post
-many-field-check-value-requires t c κs = ?
+many-field-returns-2 : (t : ℕ) → many-field-lts.Need-returns-2 (calls-many-field t) (many-field-at t) many-field.Post
+unfolding manyField
+many-field-returns-2 t c = passed _ _ _ (c .before .before .before .before .bytes-rule .ensures) (c .before .before .enum-told .given .1) (simp (c .before .if1 .taken) (c .check-value .ensures))
 
--- src/lib.rt:324:9
-many-field-returns-2 : (t : ℕ) → many-field-lts.Need-returns-2 (
-  bytes-rule-reads.Asked,
-  bytes-rule-reads.Learnt,
-  check-value-below t,
-  check-value.Post,
-  check-entry-below t,
-  check-entry.Post,
-) (many-field-at t) many-field.Post
-many-field-returns-2 t c = ?
+many-field-check-entry-requires : (t : ℕ) → many-field-lts.Need-check-entry-requires (calls-many-field t) (many-field-at t) many-field.Post
+many-field-check-entry-requires t c κs = search needs
 
--- src/lib.rt:326:5
-many-field-check-entry-requires : (t : ℕ) → many-field-lts.Need-check-entry-requires (
-  bytes-rule-reads.Asked,
-  bytes-rule-reads.Learnt,
-  check-value-below t,
-  check-value.Post,
-  check-entry-below t,
-  check-entry.Post,
-) (many-field-at t) many-field.Post
-many-field-check-entry-requires t c κs = ?
+many-field-returns-3 : (t : ℕ) → many-field-lts.Need-returns-3 (calls-many-field t) (many-field-at t) many-field.Post
+unfolding manyField
+many-field-returns-3 t c = passed _ _ _ (c .before .before .before .before .bytes-rule .ensures) (c .before .before .enum-told .given .1) (simp (c .before .if1 .left) (c .check-entry .ensures))
 
--- src/lib.rt:316:1
-many-field-returns-3 : (t : ℕ) → many-field-lts.Need-returns-3 (
-  bytes-rule-reads.Asked,
-  bytes-rule-reads.Learnt,
-  check-value-below t,
-  check-value.Post,
-  check-entry-below t,
-  check-entry.Post,
-) (many-field-at t) many-field.Post
-many-field-returns-3 t c = ?
+value-field-value-rule-requires : (t : ℕ) → value-field-lts.Need-value-rule-requires (calls-value-field t) (value-field-at t) value-field.Post
+value-field-value-rule-requires t c κs = search needs
 
--- src/lib.rt:169:9
-value-field-value-rule-requires : (t : ℕ) → value-field-lts.Need-value-rule-requires (
-  value-rule-reads.Asked,
-  value-rule-reads.Learnt,
-  fault-of-reads.Asked,
-  fault-of-reads.Learnt,
-  check-many-below t,
-  check-many.Post,
-) (value-field-at t) value-field.Post
-value-field-value-rule-requires t c κs = ?
+value-field-enum-told : (t : ℕ) → value-field-lts.Need-enum-told (calls-value-field t) (value-field-at t) value-field.Post
+value-field-enum-told t c = search needs
 
-value-field-enum-told : (t : ℕ) → value-field-lts.Need-enum-told (
-  value-rule-reads.Asked,
-  value-rule-reads.Learnt,
-  fault-of-reads.Asked,
-  fault-of-reads.Learnt,
-  check-many-below t,
-  check-many.Post,
-) (value-field-at t) value-field.Post
-value-field-enum-told t c = ?
+value-field-enum-told-2 : (t : ℕ) → value-field-lts.Need-enum-told-2 (calls-value-field t) (value-field-at t) value-field.Post
+value-field-enum-told-2 t c = search needs
 
--- src/lib.rt:171:9
-value-field-enum-told-2 : (t : ℕ) → value-field-lts.Need-enum-told-2 (
-  value-rule-reads.Asked,
-  value-rule-reads.Learnt,
-  fault-of-reads.Asked,
-  fault-of-reads.Learnt,
-  check-many-below t,
-  check-many.Post,
-) (value-field-at t) value-field.Post
-value-field-enum-told-2 t c = ?
+value-field-returns : (t : ℕ) → value-field-lts.Need-returns (calls-value-field t) (value-field-at t) value-field.Post
+unfolding valueField
+value-field-returns t c = stopped _ _ _ (c .before .before .value-rule .ensures) _ (c .enum-told2 .given .1)
 
--- src/lib.rt:171:9
-value-field-returns : (t : ℕ) → value-field-lts.Need-returns (
-  value-rule-reads.Asked,
-  value-rule-reads.Learnt,
-  fault-of-reads.Asked,
-  fault-of-reads.Learnt,
-  check-many-below t,
-  check-many.Post,
-) (value-field-at t) value-field.Post
-value-field-returns t c = ?
+value-field-returns-2 : (t : ℕ) → value-field-lts.Need-returns-2 (calls-value-field t) (value-field-at t) value-field.Post
+unfolding valueField
+value-field-returns-2 t c = passed _ _ _ (c .before .before .before .before .value-rule .ensures) (c .before .before .enum-told .given .1) (simp (lt-ltb _ _ (c .if1 .taken)))
 
--- src/lib.rt:174:9
-value-field-returns-2 : (t : ℕ) → value-field-lts.Need-returns-2 (
-  value-rule-reads.Asked,
-  value-rule-reads.Learnt,
-  fault-of-reads.Asked,
-  fault-of-reads.Learnt,
-  check-many-below t,
-  check-many.Post,
-) (value-field-at t) value-field.Post
-value-field-returns-2 t c = ?
+value-field-fault-of-requires : (t : ℕ) → value-field-lts.Need-fault-of-requires (calls-value-field t) (value-field-at t) value-field.Post
+value-field-fault-of-requires t c κs = search needs
 
--- src/lib.rt:177:9
-value-field-fault-of-requires : (t : ℕ) → value-field-lts.Need-fault-of-requires (
-  value-rule-reads.Asked,
-  value-rule-reads.Learnt,
-  fault-of-reads.Asked,
-  fault-of-reads.Learnt,
-  check-many-below t,
-  check-many.Post,
-) (value-field-at t) value-field.Post
-value-field-fault-of-requires t c κs = ?
+value-field-returns-3 : (t : ℕ) → value-field-lts.Need-returns-3 (calls-value-field t) (value-field-at t) value-field.Post
+unfolding valueField
+value-field-returns-3 t c = passed _ _ _ (c .before .before .before .before .before .before .value-rule .ensures) (c .before .before .before .before .enum-told .given .1) (simp (le-ltb _ _ (c .before .before .if1 .left)) (c .fault-of .ensures ∙ inside-none _ _ _ (c .before .if2 .taken)))
 
--- src/lib.rt:177:9
-value-field-returns-3 : (t : ℕ) → value-field-lts.Need-returns-3 (
-  value-rule-reads.Asked,
-  value-rule-reads.Learnt,
-  fault-of-reads.Asked,
-  fault-of-reads.Learnt,
-  check-many-below t,
-  check-many.Post,
-) (value-field-at t) value-field.Post
-value-field-returns-3 t c = ?
+value-field-sub-check-many : (t : ℕ) → value-field-lts.Need-sub-check-many (calls-value-field t) (value-field-at t) value-field.Post
+value-field-sub-check-many t c = search needs
 
--- src/lib.rt:179:41
-value-field-sub-check-many : (t : ℕ) → value-field-lts.Need-sub-check-many (
-  value-rule-reads.Asked,
-  value-rule-reads.Learnt,
-  fault-of-reads.Asked,
-  fault-of-reads.Learnt,
-  check-many-below t,
-  check-many.Post,
-) (value-field-at t) value-field.Post
-value-field-sub-check-many t c = ?
+value-field-check-many-requires : (t : ℕ) → value-field-lts.Need-check-many-requires (calls-value-field t) (value-field-at t) value-field.Post
+value-field-check-many-requires t c κs = search needs
 
--- src/lib.rt:179:5
-value-field-check-many-requires : (t : ℕ) → value-field-lts.Need-check-many-requires (
-  value-rule-reads.Asked,
-  value-rule-reads.Learnt,
-  fault-of-reads.Asked,
-  fault-of-reads.Learnt,
-  check-many-below t,
-  check-many.Post,
-) (value-field-at t) value-field.Post
-value-field-check-many-requires t c κs = ?
-
--- src/lib.rt:165:1
-value-field-returns-4 : (t : ℕ) → value-field-lts.Need-returns-4 (
-  value-rule-reads.Asked,
-  value-rule-reads.Learnt,
-  fault-of-reads.Asked,
-  fault-of-reads.Learnt,
-  check-many-below t,
-  check-many.Post,
-) (value-field-at t) value-field.Post
-value-field-returns-4 t c = ?
+value-field-returns-4 : (t : ℕ) → value-field-lts.Need-returns-4 (calls-value-field t) (value-field-at t) value-field.Post
+unfolding valueField
+value-field-returns-4 t c = passed _ _ _ (c .before .before .before .before .before .before .before .value-rule .ensures) (c .before .before .before .before .before .enum-told .given .1) (simp (le-ltb _ _ (c .before .before .before .if1 .left)) (c .check-many .ensures ∙ inside-more _ _ _ (c .before .before .if2 .left)))
 
 pub +check-entry+check-many+check-value+entry-field+many-field+value-field-spec :
     {M : Type 1} → statement M
@@ -841,16 +376,7 @@ pub +check-entry+check-many+check-value+entry-field+many-field+value-field-spec 
     μ-entry-field
     μ-many-field
     μ-value-field
-    (λ t. check-entry-lts.spec (
-      field-at-reads.Asked,
-      field-at-reads.Learnt,
-      entry-field-below t,
-      entry-field.Post,
-      entry-done-reads.Asked,
-      entry-done-reads.Learnt,
-    )
-    (check-entry-at t)
-    check-entry.Post
+    (λ t. check-entry-lts.spec (calls-check-entry t) (check-entry-at t) check-entry.Post
     check-entry-Inv-loop
     check-entry-μ-loop
     (check-entry-loop-holds t)
@@ -866,14 +392,7 @@ pub +check-entry+check-many+check-value+entry-field+many-field+value-field-spec 
     (check-entry-loop-again t)
     (check-entry-entry-done-requires t)
     (check-entry-returns-3 t))
-    (λ t. check-many-lts.spec (
-      field-at-reads.Asked,
-      field-at-reads.Learnt,
-      many-field-below t,
-      many-field.Post,
-    )
-    (check-many-at t)
-    check-many.Post
+    (λ t. check-many-lts.spec (calls-check-many t) (check-many-at t) check-many.Post
     check-many-Inv-loop
     check-many-μ-loop
     (check-many-loop-holds t)
@@ -888,16 +407,7 @@ pub +check-entry+check-many+check-value+entry-field+many-field+value-field-spec 
     (check-many-loop-less t)
     (check-many-loop-again t)
     (check-many-returns-3 t))
-    (λ t. check-value-lts.spec (
-      field-at-reads.Asked,
-      field-at-reads.Learnt,
-      value-field-below t,
-      value-field.Post,
-      fault-of-reads.Asked,
-      fault-of-reads.Learnt,
-    )
-    (check-value-at t)
-    check-value.Post
+    (λ t. check-value-lts.spec (calls-check-value t) (check-value-at t) check-value.Post
     check-value-Inv-loop
     check-value-μ-loop
     (check-value-loop-holds t)
@@ -911,21 +421,9 @@ pub +check-entry+check-many+check-value+entry-field+many-field+value-field-spec 
     (check-value-returns-2 t)
     (check-value-loop-less t)
     (check-value-loop-again t)
-    (check-value-fault-of-requires t)
-    (check-value-returns-3 t)
-    (check-value-returns-4 t))
-    (λ t. entry-field-lts.spec (
-      seen-of-reads.Asked,
-      seen-of-reads.Learnt,
-      bytes-rule-reads.Asked,
-      bytes-rule-reads.Learnt,
-      key-rule-reads.Asked,
-      key-rule-reads.Learnt,
-      check-value-below t,
-      check-value.Post,
-    )
-    (entry-field-at t)
-    entry-field.Post
+    (check-value-lacking-requires t)
+    (check-value-returns-3 t))
+    (λ t. entry-field-lts.spec (calls-entry-field t) (entry-field-at t) entry-field.Post
     (entry-field-seen-of-requires t)
     (entry-field-bytes-rule-requires t)
     (entry-field-enum-told t)
@@ -935,16 +433,7 @@ pub +check-entry+check-many+check-value+entry-field+many-field+value-field-spec 
     (entry-field-returns-2 t)
     (entry-field-check-value-requires t)
     (entry-field-returns-3 t))
-    (λ t. many-field-lts.spec (
-      bytes-rule-reads.Asked,
-      bytes-rule-reads.Learnt,
-      check-value-below t,
-      check-value.Post,
-      check-entry-below t,
-      check-entry.Post,
-    )
-    (many-field-at t)
-    many-field.Post
+    (λ t. many-field-lts.spec (calls-many-field t) (many-field-at t) many-field.Post
     (many-field-bytes-rule-requires t)
     (many-field-enum-told t)
     (many-field-enum-told-2 t)
@@ -953,16 +442,7 @@ pub +check-entry+check-many+check-value+entry-field+many-field+value-field-spec 
     (many-field-returns-2 t)
     (many-field-check-entry-requires t)
     (many-field-returns-3 t))
-    λ t. value-field-lts.spec (
-      value-rule-reads.Asked,
-      value-rule-reads.Learnt,
-      fault-of-reads.Asked,
-      fault-of-reads.Learnt,
-      check-many-below t,
-      check-many.Post,
-    )
-    (value-field-at t)
-    value-field.Post
+    λ t. value-field-lts.spec (calls-value-field t) (value-field-at t) value-field.Post
     (value-field-value-rule-requires t)
     (value-field-enum-told t)
     (value-field-enum-told-2 t)

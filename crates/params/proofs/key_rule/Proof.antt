@@ -1,3 +1,6 @@
+-- `params::key_rule` meets its contract, test by test. Assumes nothing.
+use borrow.Author.Needs.{needs}
+use Rattle.params.specs.Rules.{keyRule}
 use borrow.Author.Needs.{needs}
 use Rattle.params.proofs.key_rule.Statement.{statement}
 use Rattle.params.proofs.key_rule.Tie as tie
@@ -34,7 +37,8 @@ fault-of-requires c κs = search needs
 
 -- src/lib.rt:232:9
 returns : tie.Need-returns
-returns c = ?
+unfolding keyRule
+returns c = simp (← c .before .before .before .find .ensures, ← c .before .before .is-found .ensures, c .before .if1 .taken) (c .fault-of .ensures)
 
 -- src/lib.rt:234:26
 sub-well-formed : tie.Need-sub-well-formed
@@ -54,7 +58,8 @@ well-formed-requires c κs = search needs
 
 -- src/lib.rt:235:9
 returns-2 : tie.Need-returns-2
-returns-2 c = ?
+unfolding keyRule
+returns-2 c = simp (← c .before .before .before .before .before .find .ensures, ← c .before .before .before .before .is-found .ensures, c .before .before .before .if1 .left, ← c .before .well-formed .ensures, c .if2 .taken)
 
 -- src/lib.rt:237:5
 fault-of-requires-2 : tie.Need-fault-of-requires-2
@@ -62,7 +67,8 @@ fault-of-requires-2 c κs = search needs
 
 -- src/lib.rt:225:1
 returns-3 : tie.Need-returns-3
-returns-3 c = ?
+unfolding keyRule
+returns-3 c = simp (← c .before .before .before .before .before .before .find .ensures, ← c .before .before .before .before .before .is-found .ensures, c .before .before .before .before .if1 .left, ← c .before .before .well-formed .ensures, c .before .if2 .left) (c .fault-of2 .ensures)
 
 pub key-rule-spec : {M : Type 1} → statement M
 key-rule-spec =

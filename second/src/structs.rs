@@ -1,0 +1,231 @@
+//! The model of Struct, Value and list: what one holds, or its first fault.
+
+use std::ops::Range;
+
+use crate::text;
+use crate::wire::{self, Fault, FaultKind, Field, EIGHT_BYTES, LENGTH_DELIMITED, VARINT};
+
+/// The number answered for what is unreadable.
+pub const UNREADABLE: u64 = 18;
+
+/// The most Structs and lists that may nest.
+pub const MOST_LEVELS: usize = 8;
+
+/// What a Value holds.
+#[derive(Debug, PartialEq)]
+pub enum Value {
+    Null,
+    /// The double's 64 bits.
+    Number(u64),
+    /// The place of the text.
+    Text(Range<usize>),
+    Bool(bool),
+    Struct(Vec<Entry>),
+    List(Vec<Value>),
+}
+
+/// An entry of a Struct: its key, its Value, and the place of that Value's bytes without tag and length.
+#[derive(Debug, PartialEq)]
+pub struct Entry {
+    pub key: Vec<u8>,
+    pub value: Value,
+    pub place: Range<usize>,
+}
+
+/// The fields of an entry.
+pub const KEY: u64 = 1;
+pub const VALUE: u64 = 2;
+
+/// The fields of a Value, one for each kind.
+pub const NULL: u64 = 1;
+pub const NUMBER: u64 = 2;
+pub const TEXT: u64 = 3;
+pub const BOOL: u64 = 4;
+pub const STRUCT: u64 = 5;
+pub const LIST: u64 = 6;
+
+/// The fields that may stand in a message of each form: number and wire type.
+type Rules = [(u64, u64)];
+
+const IN_STRUCT: &Rules = &[(1, LENGTH_DELIMITED)];
+const IN_ENTRY: &Rules = &[(KEY, LENGTH_DELIMITED), (VALUE, LENGTH_DELIMITED)];
+const IN_LIST: &Rules = &[(1, LENGTH_DELIMITED)];
+const IN_VALUE: &Rules = &[
+    (NULL, VARINT),
+    (NUMBER, EIGHT_BYTES),
+    (TEXT, LENGTH_DELIMITED),
+    (BOOL, VARINT),
+    (STRUCT, LENGTH_DELIMITED),
+    (LIST, LENGTH_DELIMITED),
+];
+
+/// The entries of a lent Struct, in order.
+pub fn read_struct(bytes: &[u8]) -> Result<Vec<Entry>, Fault> {
+    Reader { bytes }.entries(0..bytes.len(), 1)
+}
+
+/// What a lent Value holds; its own Struct or list is level 1.
+pub fn read_value(bytes: &[u8]) -> Result<Value, Fault> {
+    Reader { bytes }.value(0..bytes.len(), 0)
+}
+
+/// Reads messages out of the lent bytes. A place is that of a message, a level the number of Structs and lists that
+/// nest there, the message itself included.
+struct Reader<'a> {
+    bytes: &'a [u8],
+}
+
+impl Reader<'_> {
+    fn entries(&self, place: Range<usize>, level: usize) -> Result<Vec<Entry>, Fault> {
+        let mut entries = Vec::new();
+        for field in wire::fields(self.bytes, place) {
+            let field = field?;
+            stands_in(IN_STRUCT, &field)?;
+            let entry = self.entry(field.payload, &entries, level)?;
+            entries.push(entry);
+        }
+        Ok(entries)
+    }
+
+    /// An entry, whose key none of the entries before has.
+    fn entry(&self, place: Range<usize>, before: &[Entry], level: usize) -> Result<Entry, Fault> {
+        let end = place.end;
+        let mut key = None;
+        let mut value = None;
+        for field in wire::fields(self.bytes, place) {
+            let field = field?;
+            stands_in(IN_ENTRY, &field)?;
+            let repeated = if field.number == KEY { key.is_some() } else { value.is_some() };
+            if repeated {
+                return Err(field.fault(FaultKind::Repeated));
+            }
+            if field.number == KEY {
+                key = Some(self.key(&field, before)?);
+            } else {
+                value = Some((self.value(field.payload.clone(), level)?, field.payload));
+            }
+        }
+        let at_end = |kind| Fault { kind, at: end };
+        if key.is_none() && has_key(before, &[]) {
+            return Err(at_end(FaultKind::Repeated));
+        }
+        let (value, place) = value.ok_or(at_end(FaultKind::Other))?;
+        Ok(Entry { key: key.unwrap_or_default(), value, place })
+    }
+
+    fn key(&self, field: &Field, before: &[Entry]) -> Result<Vec<u8>, Fault> {
+        let key = &self.bytes[field.payload.clone()];
+        if has_key(before, key) {
+            return Err(field.fault(FaultKind::Repeated));
+        }
+        if !text::well_formed(key) {
+            return Err(field.fault(FaultKind::BadText));
+        }
+        Ok(key.to_vec())
+    }
+
+    /// What a Value holds; `level` is that of the Struct or list around it, 0 where there is none.
+    fn value(&self, place: Range<usize>, level: usize) -> Result<Value, Fault> {
+        let end = place.end;
+        let mut held = None;
+        for field in wire::fields(self.bytes, place) {
+            let field = field?;
+            stands_in(IN_VALUE, &field)?;
+            let held_before = held.as_ref().map(|(number, _)| *number);
+            self.allowed_in_value(&field, held_before)?;
+            held = Some((field.number, self.held(&field, level)?));
+        }
+        match held {
+            Some((_, value)) => Ok(value),
+            None => Err(Fault { kind: FaultKind::Other, at: end }),
+        }
+    }
+
+    /// Refuses a field that may not stand in its Value, given the number of the field that stood there before.
+    fn allowed_in_value(&self, field: &Field, held_before: Option<u64>) -> Result<(), Fault> {
+        if held_before == Some(field.number) {
+            return Err(field.fault(FaultKind::Repeated));
+        }
+        if field.number == TEXT && !text::well_formed(&self.bytes[field.payload.clone()]) {
+            return Err(field.fault(FaultKind::BadText));
+        }
+        let in_range = match field.number {
+            NULL => field.value == 0,
+            BOOL => field.value <= 1,
+            _ => true,
+        };
+        if held_before.is_some() || !in_range {
+            return Err(field.fault(FaultKind::Other));
+        }
+        Ok(())
+    }
+
+    /// What a field of a Value holds.
+    fn held(&self, field: &Field, level: usize) -> Result<Value, Fault> {
+        let payload = field.payload.clone();
+        if matches!(field.number, STRUCT | LIST) && level == MOST_LEVELS {
+            return Err(field.fault(FaultKind::TooDeep));
+        }
+        Ok(match field.number {
+            NULL => Value::Null,
+            NUMBER => Value::Number(little_endian(&self.bytes[payload])),
+            TEXT => Value::Text(payload),
+            BOOL => Value::Bool(field.value == 1),
+            STRUCT => Value::Struct(self.entries(payload, level + 1)?),
+            _ => Value::List(self.list(payload, level + 1)?),
+        })
+    }
+
+    fn list(&self, place: Range<usize>, level: usize) -> Result<Vec<Value>, Fault> {
+        let mut values = Vec::new();
+        for field in wire::fields(self.bytes, place) {
+            let field = field?;
+            stands_in(IN_LIST, &field)?;
+            values.push(self.value(field.payload, level)?);
+        }
+        Ok(values)
+    }
+}
+
+/// Refuses a field with a number that has no place in its message, or with another wire type than its own.
+fn stands_in(rules: &Rules, field: &Field) -> Result<(), Fault> {
+    match rules.iter().find(|(number, _)| *number == field.number) {
+        None => Err(field.fault(FaultKind::Other)),
+        Some((_, wire_type)) if *wire_type != field.wire_type => Err(field.fault(FaultKind::WireType)),
+        Some(_) => Ok(()),
+    }
+}
+
+fn has_key(entries: &[Entry], key: &[u8]) -> bool {
+    entries.iter().any(|entry| entry.key == key)
+}
+
+fn little_endian(bytes: &[u8]) -> u64 {
+    bytes.iter().rev().fold(0, |number, byte| 256 * number + u64::from(*byte))
+}
+
+/// The number answered for a lent Struct or Value, and the kind and offset of its first fault or zeros.
+pub fn check(bytes: &[u8], value: bool) -> (u64, [u64; 2]) {
+    let fault = if value { read_value(bytes).err() } else { read_struct(bytes).err() };
+    match fault {
+        None => (0, [0, 0]),
+        Some(fault) => (UNREADABLE, [fault.kind as u64, fault.at as u64]),
+    }
+}
+
+/// The number answered for a lent Value, and its kind and what a scalar says; zeros where it is unreadable.
+pub fn value(bytes: &[u8]) -> (u64, [u64; 3]) {
+    let answer = match read_value(bytes) {
+        Err(_) => return (UNREADABLE, [0; 3]),
+        Ok(Value::Null) => [1, 0, 0],
+        Ok(Value::Number(bits)) => [2, bits, 0],
+        Ok(Value::Text(place)) => [3, place.start as u64, place.len() as u64],
+        Ok(Value::Bool(truth)) => [4, truth.into(), 0],
+        Ok(Value::Struct(_)) => [5, 0, 0],
+        Ok(Value::List(_)) => [6, 0, 0],
+    };
+    (0, answer)
+}
+
+#[cfg(test)]
+mod tests;
