@@ -1,3 +1,4 @@
--- The words of every layer above: parts of a list, what a store leaves, and big-endian numbers.
+-- The words of every layer above: parts of a list, what a store leaves, big-endian numbers, and text as bytes.
 pub mod Part
 pub mod Number
+pub mod Ascii

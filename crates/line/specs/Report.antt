@@ -17,7 +17,8 @@ use Rattle.control.specs.declared.MessageType.{MessageType}
 use Rattle.control.specs.declared.MessageType.the-variants.{Open, Ready, Noop, Data, Close}
 use Rattle.control.specs.declared.Control.{Control}
 use Rattle.control.specs.declared.Control.the-variants.{Read, BadSignature, OtherVersion, UnknownType}
-use Rattle.line.specs.Text.{ascii, decimal}
+use Rattle.bytes_be.specs.Ascii.{ascii}
+use Rattle.line.specs.Text.{decimal}
 use Rattle.line.specs.declared.Report.{Report}
 use Rattle.line.specs.declared.Report.the-variants.{TooLong, Refused, Message}
 

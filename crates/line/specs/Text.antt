@@ -1,15 +1,8 @@
--- Text as bytes: ASCII, and a number in decimal.
+-- A number in decimal, as bytes.
 use Prim.Native.Nat.{ℕ, zero, suc, _+_, _/_, _%_}
-use Prim.Native.String.{String}
-use Prim.Native.Char.{code}
 use mathlib.Core.List.{List, [], _∷_, _++_}
 use mathlib.Core.Bool.{cond}
 use lib.Dec.{ltb}
-
--- the codes of a text's characters
-abbrev pub ascii : String → List ℕ
-ascii String.[] = []
-ascii (String._∷_ c rest) = code c ∷ ascii rest
 
 -- the decimal digits of n, where `most` of them suffice, with no zero in front of others
 unfoldable pub decimalWithin : ℕ → ℕ → List ℕ

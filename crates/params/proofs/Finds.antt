@@ -93,7 +93,7 @@ nothing-not-at e = let z : _≡_ {A = ℕ} 0 1 = cc in absurd (omega arith)
 at-place : {here there : Place} → At here ≡ At there → here ≡ there
 at-place e = cc
 
-pub found-lies : (s key : List ℕ) (fields : List Reading) (place : Place) → findAmong s key fields ≡ At place → Lies s place
+found-lies : (s key : List ℕ) (fields : List Reading) (place : Place) → findAmong s key fields ≡ At place → Lies s place
 unfolding findAmong valueOf
 found-lies s key [] place e = nothing-not-at e
 found-lies s key (Refused why ∷ rest) place e = nothing-not-at e
@@ -107,3 +107,7 @@ found-lies s key (Read field ∷ rest) place e = go (keyIn s (field .at) (field 
 -- the same of a place that a call has found
 pub lies : (number : ℕ) (s : List ℕ) (from to : ℕ) (place : Place) → place ≡ placeIn number (fieldsOf s from to) → place .at + place .length ≤ length s
 lies number s from to place e = subst (Lies s) (sym e) (place-lies number s from to)
+
+pub find-lies : (s : List ℕ) (from to : ℕ) (key : List ℕ) (place : Place) → findIn s from to key ≡ At place → place .at + place .length ≤ length s
+unfolding findIn
+find-lies s from to key place e = found-lies s key (fieldsOf s from to) place e

@@ -1,0 +1,55 @@
+-- "A scalar Value is answered as null, number, boolean or text place. One that holds a Struct or list is answered as such, an unreadable
+-- one as 18; read alone, its own Struct or list is level 1."
+use Prim.Native.Nat.{ℕ, _-_}
+use mathlib.Core.List.{List}
+use mathlib.Core.Bool.{cond}
+use lib.ListN.{length}
+use lib.Dec.{eqb}
+use lib.Ieee.{binary64, ofBits}
+use Rattle.wire.specs.declared.Field.{Field}
+use Rattle.wire.specs.declared.Reading.{Reading}
+use Rattle.wire.specs.declared.Reading.the-variants.{Read, Refused}
+use Rattle.wire.specs.Fields.{fieldAt}
+use Rattle.double.specs.Double.{bitsAt}
+use Rattle.params.specs.declared.Check.{Check}
+use Rattle.params.specs.declared.Check.the-variants.{Good, Refused as Check·Refused}
+use Rattle.params.specs.Rules.{aloneCheck}
+use Rattle.terms.specs.declared.Value.{Value}
+use Rattle.terms.specs.declared.Value.the-variants.{Null, Number, Text, Boolean, Struct, List as Value·List, Unreadable}
+
+-- "1 null (0), 2 number (8 bytes, little-endian double), 3 string, 4 bool (0 or 1), 5 Struct, 6 list"
+unfoldable pub heldBy : List ℕ → Field → Value
+heldBy s field =
+    cond (eqb (field .number) 1) Null
+    (cond (eqb (field .number) 2) (Number (ofBits binary64 (bitsAt s (field .at))) (bitsAt s (field .at)))
+    (cond (eqb (field .number) 3) (Text (record { at = field .at; length = field .next - field .at }))
+    (cond (eqb (field .number) 4) (Boolean (eqb (field .value) 1))
+    (cond (eqb (field .number) 5) Struct
+    (cond (eqb (field .number) 6) Value·List
+    Unreadable)))))
+
+abbrev pub fromReading : List ℕ → Reading → Value
+fromReading s (Read field) = heldBy s field
+fromReading s (Refused why) = Unreadable
+
+-- what the one field of the Value from `from` to `to` holds
+unfoldable pub valueAt : List ℕ → ℕ → ℕ → Value
+valueAt s from to = fromReading s (fieldAt s from to)
+
+abbrev pub ifGood : Check → Value → Value
+ifGood Good value = value
+ifGood (Check·Refused why) value = Unreadable
+
+-- a Value read alone
+unfoldable pub valueOf : List ℕ → Value
+valueOf s = ifGood (aloneCheck s) (valueAt s 0 (length s))
+
+-- 18
+abbrev pub valueNumber : Value → ℕ
+valueNumber Null = 0
+valueNumber (Number double bits) = 0
+valueNumber (Text place) = 0
+valueNumber (Boolean truth) = 0
+valueNumber Struct = 0
+valueNumber Value·List = 0
+valueNumber Unreadable = 18
