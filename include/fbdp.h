@@ -17,7 +17,10 @@ extern "C" {
 /* The numbers answered. */
 enum {
     FBDP_ACCEPTED = 0,
-    FBDP_BAD_BUNDLE = 10 /* not a frame count of 1 to 16, its lengths and its bodies, ending exactly */
+    FBDP_BAD_BUNDLE = 10,          /* not a frame count of 1 to 16, its lengths and its bodies, ending exactly */
+    FBDP_UNREADABLE = 18,          /* parameters or a Value that break a rule */
+    FBDP_DEFAULTS_UNREADABLE = 36, /* a default Struct that breaks a rule */
+    FBDP_NO_SUCH_TERM = 37         /* neither the parameters nor the default Struct has the key */
 };
 
 /* The slots that say where a frame stands. */
@@ -32,6 +35,48 @@ enum {
  * Behind the last frame it accepts, and says with three zeros that there is none.
  * Refuses FBDP_BAD_BUNDLE, with three zeros. Reads the frame count and the lengths, never a body. */
 uint32_t fbdp_frame(const uint8_t *bundle, size_t bundle_length, uint32_t index, uint64_t frame[FBDP_FRAME_SLOTS]);
+
+/* The slots that say what a Value holds. */
+enum {
+    FBDP_VALUE_KIND = 0,   /* FBDP_NULL to FBDP_LIST */
+    FBDP_VALUE_HELD = 1,   /* a number's 64 bits, a text's offset, 0 or 1 for a bool; else 0 */
+    FBDP_VALUE_LENGTH = 2, /* a text's length in bytes; else 0 */
+    FBDP_VALUE_SLOTS = 3
+};
+
+/* The kinds of Values. */
+enum {
+    FBDP_NULL = 1,
+    FBDP_NUMBER = 2, /* FBDP_VALUE_HELD is the double bit by bit, a NaN's too: memcpy it into a double */
+    FBDP_TEXT = 3,   /* well-formed UTF-8, not ended by a zero; the offset is into the bytes that were lent */
+    FBDP_BOOL = 4,
+    FBDP_STRUCT = 5,
+    FBDP_LIST = 6
+};
+
+/* Says what a Value holds, given its bytes without tag and length, as fbdp_lookup places them.
+ * All of it is checked, at every level; read alone, its own Struct or list is level 1 of at most 8.
+ * Refuses FBDP_UNREADABLE, with three zeros: bytes that break a rule, or none at all. */
+uint32_t fbdp_value(const uint8_t *bytes, size_t bytes_length, uint64_t value[FBDP_VALUE_SLOTS]);
+
+/* The slots that say where a term stands. */
+enum {
+    FBDP_TERM_SLICE = 0,  /* FBDP_IN_CLIENT or FBDP_IN_DEFAULTS */
+    FBDP_TERM_AT = 1,     /* offset into that slice */
+    FBDP_TERM_LENGTH = 2, /* in bytes */
+    FBDP_TERM_SLOTS = 3
+};
+
+/* The slices that a term may stand in. */
+enum { FBDP_IN_CLIENT = 1, FBDP_IN_DEFAULTS = 2 };
+
+/* Looks a term up by its key: in the client's parameters, an empty slice where it sent none, and failing that in the
+ * default Struct. The place is that of the Value's bytes, without tag and length; a null that is found is an answer.
+ * Both Structs are read whole first, whichever has the term. The key is only compared, byte by byte; an empty one
+ * finds an entry without a key.
+ * Refuses FBDP_UNREADABLE, FBDP_DEFAULTS_UNREADABLE, FBDP_NO_SUCH_TERM, in this order, with FBDP_IN_CLIENT, 0, 0. */
+uint32_t fbdp_lookup(const uint8_t *client, size_t client_length, const uint8_t *defaults, size_t defaults_length,
+                     const uint8_t *key, size_t key_length, uint64_t term[FBDP_TERM_SLOTS]);
 
 #ifdef __cplusplus
 }

@@ -1,8 +1,11 @@
 -- What the functions that are exported for the comparison answer and leave, where no definition below says it already.
-use Prim.Native.Nat.{ℕ}
+use Prim.Native.Nat.{ℕ, _-_}
 use mathlib.Core.Path.{_≡_}
 use mathlib.Core.List.{List, [], _∷_}
-use mathlib.Core.Bool.{Bool, true, false}
+use mathlib.Core.Bool.{Bool, true, false, cond}
+use lib.ListN.{length}
+use lib.Dec.{eqb}
+use Rattle.bytes_be.specs.Part.{putAt}
 use Rattle.bundle.specs.Reading.{contentsOf, contentsNumber}
 use Rattle.bundle.specs.Writing.{Written}
 use Rattle.bundle.specs.declared.Contents.{Contents}
@@ -12,6 +15,19 @@ use Rattle.control.specs.declared.KnownType.{KnownType}
 use Rattle.control.specs.declared.KnownType.the-variants.{Known, Unknown}
 use Rattle.control.specs.declared.Control.{Control}
 use Rattle.control.specs.declared.Control.the-variants.{Read, BadSignature, OtherVersion, UnknownType}
+use Rattle.wire.specs.declared.Kind.{Kind}
+use Rattle.wire.specs.declared.Kind.the-variants.{CutShort, BadVarint, WireType, Repeated, BadText, Other, TooDeep}
+use Rattle.wire.specs.declared.Reading.{Reading}
+use Rattle.wire.specs.declared.Reading.the-variants.{Read as Reading·Read, Refused as Reading·Refused}
+use Rattle.wire.specs.Varint.{shortestOf, varintLength}
+use Rattle.wire.specs.Fields.{fieldAt}
+use Rattle.params.specs.declared.Check.{Check}
+use Rattle.params.specs.declared.Check.the-variants.{Good, Refused}
+use Rattle.params.specs.Message.{checkNumber}
+use Rattle.params.specs.Rules.{structCheck, aloneCheck}
+use Rattle.terms.specs.declared.Announced.{Announced}
+use Rattle.terms.specs.declared.Announced.the-variants.{Nothing, Limit, Bad}
+use Rattle.terms.specs.Announced.{limitIn}
 
 -- frame count, the control frame's place and length, the message's size
 abbrev pub contentsSlots : Contents → List ℕ
@@ -42,3 +58,58 @@ bodies false body = []
 abbrev pub Wrote : KnownType → ℕ → ℕ → List (List ℕ) → List ℕ → ℕ → List ℕ → Type 0
 Wrote (Known message) flags type-data bodies before count after = Written (bytesOf message flags type-data ∷ bodies) before count after
 Wrote Unknown flags type-data bodies before count after = (count ≡ 0) × (after ≡ before)
+
+-- the kinds of faults in their order
+abbrev pub kindNumber : Kind → ℕ
+kindNumber CutShort = 1
+kindNumber BadVarint = 2
+kindNumber WireType = 3
+kindNumber Repeated = 4
+kindNumber BadText = 5
+kindNumber Other = 6
+kindNumber TooDeep = 7
+
+abbrev pub readingNumber : Reading → ℕ
+readingNumber (Reading·Read field) = 0
+readingNumber (Reading·Refused why) = kindNumber (why .kind)
+
+-- number, wire type, what its varint says or how many bytes it holds, the payload's place, the place behind it
+abbrev pub readingSlots : Reading → List ℕ
+readingSlots (Reading·Read field) =
+    field .number ∷ field .wire ∷ cond (eqb (field .wire) 2) (field .next - field .at) (field .value) ∷ field .at ∷ field .next ∷ []
+readingSlots (Reading·Refused why) = 0 ∷ 0 ∷ 0 ∷ 0 ∷ 0 ∷ []
+
+pub record FieldAnswer (bytes : List ℕ) (at end number : ℕ) (slots : List ℕ) : Type 0 where
+  pub numbered : number ≡ readingNumber (fieldAt bytes at end)
+  pub told : slots ≡ readingSlots (fieldAt bytes at end)
+
+pub record Stored (before : List ℕ) (at number count : ℕ) (after : List ℕ) : Type 0 where
+  pub counted : count ≡ varintLength number
+  pub left : after ≡ putAt before at (shortestOf number)
+
+abbrev pub checkOf : Bool → List ℕ → Check
+checkOf true bytes = aloneCheck bytes
+checkOf false bytes = structCheck bytes 0 (length bytes)
+
+-- why and where
+abbrev pub checkSlots : Check → List ℕ
+checkSlots Good = 0 ∷ 0 ∷ []
+checkSlots (Refused why) = kindNumber (why .kind) ∷ why .at ∷ []
+
+pub record CheckAnswer (value : Bool) (bytes : List ℕ) (number : ℕ) (slots : List ℕ) : Type 0 where
+  pub numbered : number ≡ checkNumber (checkOf value bytes)
+  pub told : slots ≡ checkSlots (checkOf value bytes)
+
+-- none (0), a limit (1) or a bad one (2), and the limit
+abbrev pub announcedSlots : Announced → List ℕ
+announcedSlots Nothing = 0 ∷ 0 ∷ []
+announcedSlots (Limit limit) = 1 ∷ limit ∷ []
+announcedSlots Bad = 2 ∷ 0 ∷ []
+
+abbrev pub ifReadable : Check → List ℕ → List ℕ
+ifReadable Good slots = slots
+ifReadable (Refused why) slots = 0 ∷ 0 ∷ []
+
+pub record LimitAnswer (parameters : List ℕ) (number : ℕ) (slots : List ℕ) : Type 0 where
+  pub numbered : number ≡ checkNumber (checkOf false parameters)
+  pub told : slots ≡ ifReadable (checkOf false parameters) (announcedSlots (limitIn parameters 0 (length parameters)))

@@ -1,14 +1,24 @@
 // What no entry of the C interface reaches yet, exported for the comparison with the second program.
 ghost use mathlib.Core.Path.{_≡_};
+ghost use mathlib.Core.Bool.{cond};
 ghost use mathlib.Core.List.{[], _∷_};
+ghost use Prim.Native.Nat.{_-_};
+ghost use lib.Dec.{eqb};
 ghost use Rattle.bytes_be.specs.Part.{putAt};
 ghost use Rattle.bytes_be.specs.Number.{numberAt, toBytes};
 ghost use Rattle.control.specs.Frame.{knownTypeOf};
+ghost use Rattle.double.specs.Double.{bytesOf};
 ghost use Rattle.line.specs.Report.{reportOf, lineOf, Put};
-ghost use Rattle.probe.specs.Entries.{contentsSlots, ContentsAnswer, controlSlots, ControlAnswer, bodies, Wrote};
+ghost use Rattle.utf8.specs.Text.{wellFormed};
+ghost use Rattle.probe.specs.Entries.{contentsSlots, ContentsAnswer, controlSlots, ControlAnswer, bodies, Wrote, kindNumber, readingNumber, readingSlots, FieldAnswer, Stored, checkOf, checkSlots, CheckAnswer, announcedSlots, ifReadable, LimitAnswer};
 use bundle::Contents;
 use control::Control;
 use control::KnownType;
+use params::Check;
+use terms::Announced;
+use wire::Field;
+use wire::Kind;
+use wire::Reading;
 
 #[no_mangle]
 pub extern "C" fn probe_read8(bytes: &[u8], at: usize) -> u8
@@ -146,4 +156,147 @@ pub extern "C" fn probe_line(input: &[u8], text: &mut [u8; 96]) -> u64
     ensures { λ r. ⌜ Put (lineOf (reportOf (now (input .entry)))) (now (text .entry)) 0 r (now (text .exit)) ⌝ }
 {
     line::fill(input, text) as u64
+}
+
+#[no_mangle]
+pub extern "C" fn probe_text(bytes: &[u8]) -> bool
+    ensures { λ r. ⌜ r ≡ wellFormed (now (bytes .entry)) ⌝ }
+{
+    utf8::well_formed(bytes)
+}
+
+fn kind_number(kind: Kind) -> u8
+    ensures { λ r. ⌜ r ≡ kindNumber kind ⌝ }
+{
+    match kind {
+        Kind::CutShort => 1,
+        Kind::BadVarint => 2,
+        Kind::WireType => 3,
+        Kind::Repeated => 4,
+        Kind::BadText => 5,
+        Kind::Other => 6,
+        Kind::TooDeep => 7,
+    }
+}
+
+fn reading_number(reading: Reading) -> u8
+    ensures { λ r. ⌜ r ≡ readingNumber reading ⌝ }
+{
+    match reading {
+        Reading::Read(_) => 0,
+        Reading::Refused(why) => {
+            let kind = why.kind;
+            kind_number(kind)
+        }
+    }
+}
+
+// What a varint says, or how many bytes a field of bytes holds.
+fn said_by(field: Field) -> u64
+    ensures { λ r. ⌜ r ≡ cond (eqb (field .wire) 2) (field .next - field .at) (field .value) ⌝ }
+{
+    if field.wire != 2 {
+        return field.value;
+    }
+    if field.next < field.at {
+        return 0;
+    }
+    (field.next - field.at) as u64
+}
+
+fn reading_slots(reading: Reading) -> [u64; 5]
+    ensures { λ r. ⌜ r ≡ readingSlots reading ⌝ }
+{
+    match reading {
+        Reading::Read(field) => {
+            let at = field.at as u64;
+            let next = field.next as u64;
+            [field.number, field.wire, said_by(field), at, next]
+        }
+        Reading::Refused(_) => [0, 0, 0, 0, 0],
+    }
+}
+
+#[no_mangle]
+pub extern "C" fn probe_field(bytes: &[u8], at: usize, end: usize, slots: &mut [u64; 5]) -> u32
+    ensures { λ r. ⌜ FieldAnswer (now (bytes .entry)) at end r (now (slots .exit)) ⌝ }
+{
+    let reading = wire::field_at(bytes, at, end);
+    *slots = reading_slots(reading);
+    reading_number(reading) as u32
+}
+
+#[no_mangle]
+pub extern "C" fn probe_varint(out: &mut [u8], at: usize, number: u64) -> u64
+    ensures { λ r. ⌜ Stored (now (out .entry)) at number r (now (out .exit)) ⌝ }
+{
+    wire::store_varint(out, at, number);
+    wire::varint_length(number) as u64
+}
+
+fn check_slots(check: Check) -> [u64; 2]
+    ensures { λ r. ⌜ r ≡ checkSlots check ⌝ }
+{
+    match check {
+        Check::Good => [0, 0],
+        Check::Refused(why) => {
+            let kind = why.kind;
+            let at = why.at as u64;
+            [kind_number(kind) as u64, at]
+        }
+    }
+}
+
+fn check_of(bytes: &[u8], value: bool) -> Check
+    ensures { λ r. ⌜ r ≡ checkOf value (now (bytes .entry)) ⌝ }
+{
+    if value {
+        return params::check_alone(bytes);
+    }
+    params::check_struct(bytes, 0, bytes.len())
+}
+
+#[no_mangle]
+pub extern "C" fn probe_check(bytes: &[u8], value: bool, slots: &mut [u64; 2]) -> u32
+    ensures { λ r. ⌜ CheckAnswer value (now (bytes .entry)) r (now (slots .exit)) ⌝ }
+{
+    let check = check_of(bytes, value);
+    *slots = check_slots(check);
+    params::check_number(check) as u32
+}
+
+#[no_mangle]
+pub extern "C" fn probe_limit_bytes(number: u32, bytes: &mut [u8; 8])
+    ensures { λ _. ⌜ now (bytes .exit) ≡ bytesOf number ⌝ }
+{
+    *bytes = double::bytes_of(number);
+}
+
+fn announced_slots(announced: Announced) -> [u64; 2]
+    ensures { λ r. ⌜ r ≡ announcedSlots announced ⌝ }
+{
+    match announced {
+        Announced::Nothing => [0, 0],
+        Announced::Limit(limit) => [1, limit as u64],
+        Announced::Bad => [2, 0],
+    }
+}
+
+fn if_readable(check: Check, slots: [u64; 2]) -> [u64; 2]
+    ensures { λ r. ⌜ r ≡ ifReadable check slots ⌝ }
+{
+    match check {
+        Check::Good => slots,
+        Check::Refused(_) => [0, 0],
+    }
+}
+
+#[no_mangle]
+pub extern "C" fn probe_limit(parameters: &[u8], slots: &mut [u64; 2]) -> u32
+    ensures { λ r. ⌜ LimitAnswer (now (parameters .entry)) r (now (slots .exit)) ⌝ }
+{
+    let check = check_of(parameters, false);
+    let announced = terms::limit_in(parameters, 0, parameters.len());
+    *slots = if_readable(check, announced_slots(announced));
+    params::check_number(check) as u32
 }

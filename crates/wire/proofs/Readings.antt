@@ -7,7 +7,7 @@ use lib.ListN.{length}
 use lib.Dec.{ltb, leb, eqb}
 use native.Mathlib.Numerals.{sub-one}
 use native.Mathlib.Omega.{arith}
-use borrow.Author.Tests.{le-ltb, lt-ltb, ne-eqb, ltb-true, ltb-false}
+use borrow.Author.Tests.{le-ltb, lt-ltb, ne-eqb, ltb-false}
 use Rattle.wire.specs.declared.Kind.the-variants.{CutShort as Kind·CutShort, BadVarint, WireType}
 use Rattle.wire.specs.declared.Varint.{Varint}
 use Rattle.wire.specs.declared.Varint.the-variants.{Number, CutShort, Bad}

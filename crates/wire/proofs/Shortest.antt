@@ -1,6 +1,6 @@
 -- The shortest varint of a number: its groups, its length, and that reading it gives the number back. Assumes nothing.
 use Prim.Native.Nat.{ℕ, zero, suc, _+_, _-_, _*_, _/_, _%_, _^_, _≤_, _<_}
-use mathlib.Core.Path.{_≡_, refl, sym, ap, _∙_, subst}
+use mathlib.Core.Path.{_≡_, refl, ap, _∙_}
 use mathlib.Core.List.{List, [], _∷_, _++_}
 use mathlib.Core.Bool.{Bool, true, false, cond}
 use lib.ListN.{length, getD, take, drop}
@@ -8,8 +8,7 @@ use lib.Dec.{ltb}
 use native.Mathlib.Numerals.{add-one}
 use native.Mathlib.Omega.{arith}
 use borrow.Author.Tests.{le-ltb, lt-ltb, ltb-true, ltb-false}
-use Rattle.wire.specs.declared.Varint.{Varint}
-use Rattle.wire.specs.declared.Varint.the-variants.{Number, CutShort, Bad}
+use Rattle.wire.specs.declared.Varint.the-variants.{Number, CutShort}
 use Rattle.wire.specs.Varint.{below, bounded, saidAt, varintAt, shortestWithin, shortestOf, varintLength}
 
 -- the lowest seven bits, marked where higher ones follow, and so many of such groups

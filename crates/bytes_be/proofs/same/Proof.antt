@@ -8,8 +8,6 @@ use Rattle.bytes_be.specs.Part.{same}
 use Rattle.bytes_be.proofs.Sameness.{lengths-differ, same-step, same-differ, same-behind}
 use Rattle.bytes_be.proofs.same.Statement.{statement}
 use Rattle.bytes_be.proofs.same.Tie as tie
-use Rattle.bytes_be.proofs.same.Reads as reads
-use Rattle.bytes_be.proofs.same.Lts as lts
 
 abbrev Inv-loop : tie.InvT-loop
 Inv-loop a b i₀ i = (i ≤ length a) × (same a b ≡ same (drop i a) (drop i b))
@@ -17,39 +15,30 @@ Inv-loop a b i₀ i = (i ≤ length a) × (same a b ≡ same (drop i a) (drop i 
 abbrev μ-loop : tie.MeasureT-loop
 μ-loop a b i₀ i = length a - i
 
--- src/lib.rt:29:9
 returns : tie.Need-returns Inv-loop μ-loop
 returns c = lengths-differ _ _ (c .if1 .taken)
 
--- src/lib.rt:32:5
 loop-holds : tie.Need-loop-holds Inv-loop μ-loop
 loop-holds c = (search needs, refl)
 
--- src/lib.rt:33:12
 shared-slice-read-if2 : tie.Need-shared-slice-read-if2 Inv-loop μ-loop
 shared-slice-read-if2 c = search needs
 
--- src/lib.rt:33:20
 shared-slice-read-if2-2 : tie.Need-shared-slice-read-if2-2 Inv-loop μ-loop
 shared-slice-read-if2-2 c = search needs
 
--- src/lib.rt:34:13
 returns-2 : tie.Need-returns-2 Inv-loop μ-loop
 returns-2 c = sym (c .before .before .before .before .loop .inv .1 ∙ same-differ (now (c .before .before .before .before .before .before .args .a)) (now (c .before .before .before .before .before .before .args .b)) (c .before .before .before .before .loop .i) (search needs) (search needs) (c .if2 .taken))
 
--- src/lib.rt:36:9
 add-i : tie.Need-add-i Inv-loop μ-loop
 add-i c = search needs
 
--- src/lib.rt:32:5
 loop-less : tie.Need-loop-less Inv-loop μ-loop
 loop-less c = search needs
 
--- src/lib.rt:32:5
 loop-again : tie.Need-loop-again Inv-loop μ-loop
 loop-again c = (search needs, c .before .before .before .before .loop .inv .1 ∙ same-step (now (c .before .before .before .before .before .before .args .a)) (now (c .before .before .before .before .before .before .args .b)) (c .before .before .before .before .loop .i) (search needs) (search needs) (c .if2 .left))
 
--- src/lib.rt:25:1
 returns-3 : tie.Need-returns-3 Inv-loop μ-loop
 returns-3 c = sym (c .before .loop .inv .1 ∙ same-behind (now (c .before .before .before .args .a)) (now (c .before .before .before .args .b)) (c .before .loop .i) (search needs) (search needs))
 

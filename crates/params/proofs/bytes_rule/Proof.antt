@@ -4,38 +4,28 @@ use Rattle.params.specs.Rules.{bytesRule}
 use borrow.Author.Needs.{needs}
 use Rattle.params.proofs.bytes_rule.Statement.{statement}
 use Rattle.params.proofs.bytes_rule.Tie as tie
-use Rattle.params.proofs.bytes_rule.Reads as reads
-use Rattle.params.proofs.bytes_rule.Lts as lts
-use Rattle.params.proofs.fault_of.Reads as fault-of-reads
 
--- src/lib.rt:213:9
 fault-of-requires : tie.Need-fault-of-requires
 fault-of-requires c κs = search needs
 
--- src/lib.rt:213:9
 returns : tie.Need-returns
 unfolding bytesRule
 returns c = simp (c .before .if1 .taken) (c .fault-of .ensures)
 
--- src/lib.rt:216:9
 fault-of-requires-2 : tie.Need-fault-of-requires-2
 fault-of-requires-2 c κs = search needs
 
--- src/lib.rt:216:9
 returns-2 : tie.Need-returns-2
 unfolding bytesRule
 returns-2 c = simp (c .before .before .if1 .left, c .before .if2 .taken) (c .fault-of2 .ensures)
 
--- src/lib.rt:219:9
 fault-of-requires-3 : tie.Need-fault-of-requires-3
 fault-of-requires-3 c κs = search needs
 
--- src/lib.rt:219:9
 returns-3 : tie.Need-returns-3
 unfolding bytesRule
 returns-3 c = simp (c .before .before .before .before .if1 .left, c .before .before .before .if2 .left, lt-ltb _ _ (c .before .if3 .taken)) (c .fault-of3 .ensures)
 
--- src/lib.rt:209:1
 returns-4 : tie.Need-returns-4
 unfolding bytesRule
 returns-4 c = simp (c .before .before .before .if1 .left, c .before .before .if2 .left, le-ltb _ _ (c .if3 .left))

@@ -3,15 +3,10 @@ use Rattle.params.specs.Rules.{structCheck}
 use borrow.Author.Needs.{needs}
 use Rattle.params.proofs.check_struct.Statement.{statement}
 use Rattle.params.proofs.check_struct.Tie as tie
-use Rattle.params.proofs.check_struct.Reads as reads
-use Rattle.params.proofs.check_struct.Lts as lts
-use Rattle.params.proofs.check_many.Reads as check-many-reads
 
--- src/lib.rt:360:5
 check-many-requires : tie.Need-check-many-requires
 check-many-requires c κs = search needs
 
--- src/lib.rt:357:1
 returns : tie.Need-returns
 unfolding structCheck
 returns c = c .check-many .ensures

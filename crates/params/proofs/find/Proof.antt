@@ -9,11 +9,6 @@ use Rattle.params.specs.Keys.{valueOf, findAmong, findIn}
 use Rattle.params.proofs.Finds.{find-none, find-refused, find-here, find-on}
 use Rattle.params.proofs.find.Statement.{statement}
 use Rattle.params.proofs.find.Tie as tie
-use Rattle.params.proofs.find.Reads as reads
-use Rattle.params.proofs.find.Lts as lts
-use Rattle.params.proofs.has_key.Reads as has-key-reads
-use Rattle.params.proofs.place_in.Reads as place-in-reads
-use Rattle.wire.proofs.field_at.Reads as field-at-reads
 
 abbrev Inv-loop : tie.InvT-loop
 Inv-loop s from to key at₀ at = findIn s from to key ≡ findAmong s key (fieldsOf s at to)
@@ -21,49 +16,38 @@ Inv-loop s from to key at₀ at = findIn s from to key ≡ findAmong s key (fiel
 abbrev μ-loop : tie.MeasureT-loop
 μ-loop s from to key at₀ at = to - at
 
--- src/lib.rt:82:5
 loop-holds : tie.Need-loop-holds Inv-loop μ-loop
 unfolding findIn
 loop-holds c = refl
 
--- src/lib.rt:83:15
 field-at-requires : tie.Need-field-at-requires Inv-loop μ-loop
 field-at-requires c κs = search needs
 
--- src/lib.rt:85:17
 enum-told : tie.Need-enum-told Inv-loop μ-loop
 enum-told c = search needs
 
--- src/lib.rt:85:17
 returns : tie.Need-returns Inv-loop μ-loop
 returns c = find-refused _ _ _ _ _ (c .before .before .before .before .loop .inv) (c .before .before .before .loop-test .taken) _ (c .before .before .field-at .ensures) _ (c .enum-told .given .1)
 
--- src/lib.rt:87:27
 enum-known-field : tie.Need-enum-known-field Inv-loop μ-loop
 enum-known-field c = search needs
 
--- src/lib.rt:88:20
 has-key-requires : tie.Need-has-key-requires Inv-loop μ-loop
 has-key-requires c κs = search needs
 
--- src/lib.rt:89:38
 place-in-requires : tie.Need-place-in-requires Inv-loop μ-loop
 place-in-requires c κs = search needs
 
--- src/lib.rt:89:21
 returns-2 : tie.Need-returns-2 Inv-loop μ-loop
 unfolding valueOf
 returns-2 c = ap At (c .place-in .ensures) ∙ find-here _ _ _ _ _ (c .before .before .before .before .before .before .before .before .loop .inv) (c .before .before .before .before .before .before .before .loop-test .taken) _ (c .before .before .before .before .before .before .field-at .ensures) _ (c .before .before .before .before .field .given .1) _ (c .before .before .has-key .ensures) (c .before .if1 .taken)
 
--- src/lib.rt:82:5
 loop-less : tie.Need-loop-less Inv-loop μ-loop
 loop-less c = less-left _ _ _ _ _ (c .before .before .before .before .before .field-at .ensures) (c .before .before .before .field .given .1) (c .before .before .before .before .before .before .loop-test .taken)
 
--- src/lib.rt:82:5
 loop-again : tie.Need-loop-again Inv-loop μ-loop
 loop-again c = find-on _ _ _ _ _ (c .before .before .before .before .before .before .before .loop .inv) (c .before .before .before .before .before .before .loop-test .taken) _ (c .before .before .before .before .before .field-at .ensures) _ (c .before .before .before .field .given .1) _ (c .before .has-key .ensures) (c .if1 .left)
 
--- src/lib.rt:78:1
 returns-3 : tie.Need-returns-3 Inv-loop μ-loop
 returns-3 c = find-none _ _ _ _ _ (c .before .loop .inv) (c .loop-test .left)
 

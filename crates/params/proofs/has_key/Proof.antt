@@ -11,36 +11,25 @@ use Rattle.params.proofs.Finds.{lies}
 use borrow.Author.Needs.{needs}
 use Rattle.params.proofs.has_key.Statement.{statement}
 use Rattle.params.proofs.has_key.Tie as tie
-use Rattle.params.proofs.has_key.Reads as reads
-use Rattle.params.proofs.has_key.Lts as lts
-use Rattle.bytes_be.proofs.same.Reads as same-reads
-use Rattle.params.proofs.place_in.Reads as place-in-reads
 
--- src/lib.rt:71:9
 place-in-requires : tie.Need-place-in-requires
 place-in-requires c κs = search needs
 
--- src/lib.rt:73:18
 add-behind : tie.Need-add-behind
 add-behind c = let h = lies 1 _ _ _ _ (c .before .place-in .ensures) in search needs
 
--- src/lib.rt:74:20
 sub-same : tie.Need-sub-same
 sub-same c = search needs
 
--- src/lib.rt:74:20
 part-same-start : tie.Need-part-same-start
 part-same-start c = search needs
 
--- src/lib.rt:74:20
 part-same-end : tie.Need-part-same-end
 part-same-end c = let h = lies 1 _ _ _ _ (c .before .place-in .ensures) in search needs
 
--- src/lib.rt:74:5
 same-requires : tie.Need-same-requires
 same-requires c κs = search needs
 
--- src/lib.rt:68:1
 returns : tie.Need-returns
 unfolding keyIn keyOf
 returns c =

@@ -4,68 +4,48 @@ use Rattle.params.specs.Rules.{keyRule}
 use borrow.Author.Needs.{needs}
 use Rattle.params.proofs.key_rule.Statement.{statement}
 use Rattle.params.proofs.key_rule.Tie as tie
-use Rattle.params.proofs.key_rule.Reads as reads
-use Rattle.params.proofs.key_rule.Lts as lts
-use Rattle.params.proofs.fault_of.Reads as fault-of-reads
-use Rattle.params.proofs.find.Reads as find-reads
-use Rattle.params.proofs.is_found.Reads as is-found-reads
-use Rattle.utf8.proofs.well_formed.Reads as well-formed-reads
 
--- src/lib.rt:231:36
 sub-find : tie.Need-sub-find
 sub-find c = search needs
 
--- src/lib.rt:231:36
 part-find-start : tie.Need-part-find-start
 part-find-start c = search needs
 
--- src/lib.rt:231:36
 part-find-end : tie.Need-part-find-end
 part-find-end c = search needs
 
--- src/lib.rt:231:17
 find-requires : tie.Need-find-requires
 find-requires c κs = search needs
 
--- src/lib.rt:231:8
 is-found-requires : tie.Need-is-found-requires
 is-found-requires c κs = search needs
 
--- src/lib.rt:232:9
 fault-of-requires : tie.Need-fault-of-requires
 fault-of-requires c κs = search needs
 
--- src/lib.rt:232:9
 returns : tie.Need-returns
 unfolding keyRule
 returns c = simp (← c .before .before .before .find .ensures, ← c .before .before .is-found .ensures, c .before .if1 .taken) (c .fault-of .ensures)
 
--- src/lib.rt:234:26
 sub-well-formed : tie.Need-sub-well-formed
 sub-well-formed c = search needs
 
--- src/lib.rt:234:26
 part-well-formed-start : tie.Need-part-well-formed-start
 part-well-formed-start c = search needs
 
--- src/lib.rt:234:26
 part-well-formed-end : tie.Need-part-well-formed-end
 part-well-formed-end c = search needs
 
--- src/lib.rt:234:8
 well-formed-requires : tie.Need-well-formed-requires
 well-formed-requires c κs = search needs
 
--- src/lib.rt:235:9
 returns-2 : tie.Need-returns-2
 unfolding keyRule
 returns-2 c = simp (← c .before .before .before .before .before .find .ensures, ← c .before .before .before .before .is-found .ensures, c .before .before .before .if1 .left, ← c .before .well-formed .ensures, c .if2 .taken)
 
--- src/lib.rt:237:5
 fault-of-requires-2 : tie.Need-fault-of-requires-2
 fault-of-requires-2 c κs = search needs
 
--- src/lib.rt:225:1
 returns-3 : tie.Need-returns-3
 unfolding keyRule
 returns-3 c = simp (← c .before .before .before .before .before .before .find .ensures, ← c .before .before .before .before .before .is-found .ensures, c .before .before .before .before .if1 .left, ← c .before .before .well-formed .ensures, c .before .if2 .left) (c .fault-of2 .ensures)

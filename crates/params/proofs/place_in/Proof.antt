@@ -8,9 +8,6 @@ use Rattle.params.specs.Message.{placeIn}
 use Rattle.params.proofs.Finds.{place-none, place-refused, place-here, place-on}
 use Rattle.params.proofs.place_in.Statement.{statement}
 use Rattle.params.proofs.place_in.Tie as tie
-use Rattle.params.proofs.place_in.Reads as reads
-use Rattle.params.proofs.place_in.Lts as lts
-use Rattle.wire.proofs.field_at.Reads as field-at-reads
 
 abbrev Inv-loop : tie.InvT-loop
 Inv-loop s from to number at₀ at = placeIn number (fieldsOf s from to) ≡ placeIn number (fieldsOf s at to)
@@ -18,43 +15,33 @@ Inv-loop s from to number at₀ at = placeIn number (fieldsOf s from to) ≡ pla
 abbrev μ-loop : tie.MeasureT-loop
 μ-loop s from to number at₀ at = to - at
 
--- src/lib.rt:48:5
 loop-holds : tie.Need-loop-holds Inv-loop μ-loop
 loop-holds c = refl
 
--- src/lib.rt:49:15
 field-at-requires : tie.Need-field-at-requires Inv-loop μ-loop
 field-at-requires c κs = search needs
 
--- src/lib.rt:51:17
 enum-told : tie.Need-enum-told Inv-loop μ-loop
 enum-told c = search needs
 
--- src/lib.rt:51:17
 returns : tie.Need-returns Inv-loop μ-loop
 returns c = place-refused _ _ _ _ _ (c .before .before .before .before .loop .inv) (c .before .before .before .loop-test .taken) _ (c .before .before .field-at .ensures) _ (c .enum-told .given .1)
 
--- src/lib.rt:53:27
 enum-known-field : tie.Need-enum-known-field Inv-loop μ-loop
 enum-known-field c = search needs
 
--- src/lib.rt:57:33
 sub-t10 : tie.Need-sub-t10 Inv-loop μ-loop
 sub-t10 c = field-within _ _ _ _ (sym (c .before .before .before .before .before .before .field-at .ensures) ∙ c .before .before .before .before .field .given .1) .ends
 
--- src/lib.rt:55:21
 returns-2 : tie.Need-returns-2 Inv-loop μ-loop
 returns-2 c = place-here _ _ _ _ _ (c .before .before .before .before .before .before .before .before .loop .inv) (c .before .before .before .before .before .before .before .loop-test .taken) _ (c .before .before .before .before .before .before .field-at .ensures) _ (c .before .before .before .before .field .given .1) (c .before .if1 .taken)
 
--- src/lib.rt:48:5
 loop-less : tie.Need-loop-less Inv-loop μ-loop
 loop-less c = less-left _ _ _ _ _ (c .before .before .before .before .before .field-at .ensures) (c .before .before .before .field .given .1) (c .before .before .before .before .before .before .loop-test .taken)
 
--- src/lib.rt:48:5
 loop-again : tie.Need-loop-again Inv-loop μ-loop
 loop-again c = place-on _ _ _ _ _ (c .before .before .before .before .before .before .before .loop .inv) (c .before .before .before .before .before .before .loop-test .taken) _ (c .before .before .before .before .before .field-at .ensures) _ (c .before .before .before .field .given .1) (c .if1 .left)
 
--- src/lib.rt:44:1
 returns-3 : tie.Need-returns-3 Inv-loop μ-loop
 returns-3 c = place-none _ _ _ _ _ (c .before .loop .inv) (c .loop-test .left)
 

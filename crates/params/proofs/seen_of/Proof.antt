@@ -3,20 +3,15 @@ use borrow.Author.Tests.{ne-eqb}
 use Rattle.params.specs.Rules.{seenOf}
 use Rattle.params.proofs.seen_of.Statement.{statement}
 use Rattle.params.proofs.seen_of.Tie as tie
-use Rattle.params.proofs.seen_of.Reads as reads
-use Rattle.params.proofs.seen_of.Lts as lts
 
--- src/lib.rt:241:1
 returns : tie.Need-returns
 unfolding seenOf
 returns c = simp (c .match .keys1)
 
--- src/lib.rt:241:1
 returns-2 : tie.Need-returns-2
 unfolding seenOf
 returns-2 c = simp (c .match .keys2)
 
--- src/lib.rt:241:1
 returns-3 : tie.Need-returns-3
 unfolding seenOf
 returns-3 c = simp (ne-eqb _ 1 (c .match .rest .0 .1), ne-eqb _ 2 (c .match .rest .1))

@@ -3,20 +3,15 @@ use borrow.Author.Tests.{ne-eqb}
 use Rattle.params.specs.Rules.{valueAllowed}
 use Rattle.params.proofs.value_allowed.Statement.{statement}
 use Rattle.params.proofs.value_allowed.Tie as tie
-use Rattle.params.proofs.value_allowed.Reads as reads
-use Rattle.params.proofs.value_allowed.Lts as lts
 
--- src/lib.rt:134:1
 returns : tie.Need-returns
 unfolding valueAllowed
 returns c = simp (c .match .keys1)
 
--- src/lib.rt:134:1
 returns-2 : tie.Need-returns-2
 unfolding valueAllowed
 returns-2 c = simp (c .match .keys2)
 
--- src/lib.rt:134:1
 returns-3 : tie.Need-returns-3
 unfolding valueAllowed
 returns-3 c = simp (ne-eqb _ 1 (c .match .rest .0 .1), ne-eqb _ 4 (c .match .rest .1))

@@ -4,32 +4,23 @@ use Rattle.params.specs.Rules.{valueText}
 use borrow.Author.Needs.{needs}
 use Rattle.params.proofs.value_text.Statement.{statement}
 use Rattle.params.proofs.value_text.Tie as tie
-use Rattle.params.proofs.value_text.Reads as reads
-use Rattle.params.proofs.value_text.Lts as lts
-use Rattle.utf8.proofs.well_formed.Reads as well-formed-reads
 
--- src/lib.rt:128:34
 sub-well-formed : tie.Need-sub-well-formed
 sub-well-formed c = search needs
 
--- src/lib.rt:128:34
 part-well-formed-start : tie.Need-part-well-formed-start
 part-well-formed-start c = search needs
 
--- src/lib.rt:128:34
 part-well-formed-end : tie.Need-part-well-formed-end
 part-well-formed-end c = search needs
 
--- src/lib.rt:128:9
 well-formed-requires : tie.Need-well-formed-requires
 well-formed-requires c κs = search needs
 
--- src/lib.rt:128:9
 returns : tie.Need-returns
 unfolding valueText
 returns c = simp (eq-eqb _ _ (c .before .before .if1 .taken)) (c .well-formed .ensures)
 
--- src/lib.rt:123:1
 returns-2 : tie.Need-returns-2
 unfolding valueText
 returns-2 c = simp (ne-eqb _ _ (c .if1 .left))

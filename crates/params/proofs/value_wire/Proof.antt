@@ -3,50 +3,41 @@ use borrow.Author.Tests.{ne-eqb}
 use Rattle.params.specs.Rules.{valueWire}
 use Rattle.params.proofs.value_wire.Statement.{statement}
 use Rattle.params.proofs.value_wire.Tie as tie
-use Rattle.params.proofs.value_wire.Reads as reads
-use Rattle.params.proofs.value_wire.Lts as lts
 
--- src/lib.rt:108:1
 returns : tie.Need-returns
 unfolding valueWire
 returns c = simp (c .match .keys1)
 
--- src/lib.rt:108:1
 returns-2 : tie.Need-returns-2
 unfolding valueWire
 returns-2 c = simp (c .match .keys2)
 
--- src/lib.rt:108:1
 returns-3 : tie.Need-returns-3
 unfolding valueWire
 returns-3 c = simp (c .match .keys3)
 
--- src/lib.rt:108:1
 returns-4 : tie.Need-returns-4
 unfolding valueWire
 returns-4 c = simp (c .match .keys4)
 
--- src/lib.rt:108:1
 returns-5 : tie.Need-returns-5
 unfolding valueWire
 returns-5 c = simp (c .match .keys5)
 
--- src/lib.rt:108:1
 returns-6 : tie.Need-returns-6
 unfolding valueWire
 returns-6 c = simp (c .match .keys6)
 
--- src/lib.rt:108:1
 returns-7 : tie.Need-returns-7
 unfolding valueWire
 returns-7 c =
     simp (
-    ne-eqb _ 1 (c .match .rest .0 .0 .0 .0 .0 .1),
-    ne-eqb _ 2 (c .match .rest .0 .0 .0 .0 .1),
-    ne-eqb _ 3 (c .match .rest .0 .0 .0 .1),
-    ne-eqb _ 4 (c .match .rest .0 .0 .1),
-    ne-eqb _ 5 (c .match .rest .0 .1),
-    ne-eqb _ 6 (c .match .rest .1),
+      ne-eqb _ 1 (c .match .rest .0 .0 .0 .0 .0 .1),
+      ne-eqb _ 2 (c .match .rest .0 .0 .0 .0 .1),
+      ne-eqb _ 3 (c .match .rest .0 .0 .0 .1),
+      ne-eqb _ 4 (c .match .rest .0 .0 .1),
+      ne-eqb _ 5 (c .match .rest .0 .1),
+      ne-eqb _ 6 (c .match .rest .1),
     )
 
 pub value-wire-spec : {M : Type 1} → statement M

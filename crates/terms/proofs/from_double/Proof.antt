@@ -5,22 +5,16 @@ use Rattle.terms.specs.Announced.{fromDouble}
 use borrow.Author.Needs.{needs}
 use Rattle.terms.proofs.from_double.Statement.{statement}
 use Rattle.terms.proofs.from_double.Tie as tie
-use Rattle.terms.proofs.from_double.Reads as reads
-use Rattle.terms.proofs.from_double.Lts as lts
 
--- src/lib.rt:183:22
 enum-known-limit : tie.Need-enum-known-limit
 enum-known-limit c = search needs
 
--- src/lib.rt:184:23
 enum-told : tie.Need-enum-told
 enum-told c = search needs
 
--- src/lib.rt:179:1
 returns : tie.Need-returns
 returns c = sym (ap fromDouble (c .before .limit .given .1))
 
--- src/lib.rt:179:1
 returns-2 : tie.Need-returns-2
 returns-2 c = search needs
 

@@ -5,72 +5,52 @@ use Rattle.terms.specs.Announced.{fromDouble, fromValue}
 use borrow.Author.Needs.{needs}
 use Rattle.terms.proofs.from_value.Statement.{statement}
 use Rattle.terms.proofs.from_value.Tie as tie
-use Rattle.terms.proofs.from_value.Reads as reads
-use Rattle.terms.proofs.from_value.Lts as lts
-use Rattle.double.proofs.limit_of.Reads as limit-of-reads
-use Rattle.terms.proofs.from_double.Reads as from-double-reads
 
--- src/lib.rt:192:25
 enum-known-value : tie.Need-enum-known-value
 enum-known-value c = search needs
 
--- src/lib.rt:192:58
 limit-of-requires : tie.Need-limit-of-requires
 limit-of-requires c κs = search needs
 
--- src/lib.rt:192:46
 from-double-requires : tie.Need-from-double-requires
 from-double-requires c κs = search needs
 
--- src/lib.rt:193:24
 enum-told : tie.Need-enum-told
 enum-told c = search needs
 
--- src/lib.rt:194:27
 enum-told-2 : tie.Need-enum-told-2
 enum-told-2 c = search needs
 
--- src/lib.rt:195:30
 enum-told-3 : tie.Need-enum-told-3
 enum-told-3 c = search needs
 
--- src/lib.rt:196:26
 enum-told-4 : tie.Need-enum-told-4
 enum-told-4 c = search needs
 
--- src/lib.rt:197:24
 enum-told-5 : tie.Need-enum-told-5
 enum-told-5 c = search needs
 
--- src/lib.rt:198:30
 enum-told-6 : tie.Need-enum-told-6
 enum-told-6 c = search needs
 
--- src/lib.rt:188:1
 returns : tie.Need-returns
 returns c = c .from-double .ensures ∙ ap fromDouble (c .before .limit-of .ensures) ∙ sym (ap fromValue (c .before .before .before .value .given .1))
 
--- src/lib.rt:188:1
 returns-2 : tie.Need-returns-2
 returns-2 c = search needs
 
--- src/lib.rt:188:1
 returns-3 : tie.Need-returns-3
 returns-3 c = search needs
 
--- src/lib.rt:188:1
 returns-4 : tie.Need-returns-4
 returns-4 c = search needs
 
--- src/lib.rt:188:1
 returns-5 : tie.Need-returns-5
 returns-5 c = search needs
 
--- src/lib.rt:188:1
 returns-6 : tie.Need-returns-6
 returns-6 c = search needs
 
--- src/lib.rt:188:1
 returns-7 : tie.Need-returns-7
 returns-7 c = search needs
 

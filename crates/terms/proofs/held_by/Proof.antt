@@ -6,64 +6,50 @@ use Rattle.terms.specs.Value.{heldBy}
 use borrow.Author.Needs.{needs}
 use Rattle.terms.proofs.held_by.Statement.{statement}
 use Rattle.terms.proofs.held_by.Tie as tie
-use Rattle.terms.proofs.held_by.Reads as reads
-use Rattle.terms.proofs.held_by.Lts as lts
-use Rattle.double.proofs.bits_at.Reads as bits-at-reads
-use Rattle.double.proofs.double_of.Reads as double-of-reads
 
--- src/lib.rt:38:17
 bits-at-requires : tie.Need-bits-at-requires
 bits-at-requires c κs = search needs
 
--- src/lib.rt:40:25
 double-of-requires : tie.Need-double-of-requires
 double-of-requires c κs = search needs
 
--- src/lib.rt:46:21
 sub-t7 : tie.Need-sub-t7
 sub-t7 c = search needs
 
--- src/lib.rt:30:1
 returns : tie.Need-returns
 unfolding heldBy
 returns c = simp (c .match .keys1)
 
--- src/lib.rt:30:1
 returns-2 : tie.Need-returns-2
 unfolding heldBy
 returns-2 c = simp (c .before .before .match .keys2) (rw (c .double-of .ensures, c .before .bits-at .ensures) refl)
 
--- src/lib.rt:30:1
 returns-3 : tie.Need-returns-3
 unfolding heldBy
 returns-3 c = simp (c .before .match .keys3)
 
--- src/lib.rt:30:1
 returns-4 : tie.Need-returns-4
 unfolding heldBy
 returns-4 c = simp (c .before .match .keys4)
 
--- src/lib.rt:30:1
 returns-5 : tie.Need-returns-5
 unfolding heldBy
 returns-5 c = simp (c .match .keys5)
 
--- src/lib.rt:30:1
 returns-6 : tie.Need-returns-6
 unfolding heldBy
 returns-6 c = simp (c .match .keys6)
 
--- src/lib.rt:30:1
 returns-7 : tie.Need-returns-7
 unfolding heldBy
 returns-7 c =
     simp (
-    ne-eqb _ 1 (c .match .rest .0 .0 .0 .0 .0 .1),
-    ne-eqb _ 2 (c .match .rest .0 .0 .0 .0 .1),
-    ne-eqb _ 3 (c .match .rest .0 .0 .0 .1),
-    ne-eqb _ 4 (c .match .rest .0 .0 .1),
-    ne-eqb _ 5 (c .match .rest .0 .1),
-    ne-eqb _ 6 (c .match .rest .1),
+      ne-eqb _ 1 (c .match .rest .0 .0 .0 .0 .0 .1),
+      ne-eqb _ 2 (c .match .rest .0 .0 .0 .0 .1),
+      ne-eqb _ 3 (c .match .rest .0 .0 .0 .1),
+      ne-eqb _ 4 (c .match .rest .0 .0 .1),
+      ne-eqb _ 5 (c .match .rest .0 .1),
+      ne-eqb _ 6 (c .match .rest .1),
     )
 
 pub held-by-spec : {M : Type 1} → statement M

@@ -3,22 +3,16 @@ use borrow.Author.Needs.{needs}
 use borrow.Author.Needs.{needs}
 use Rattle.terms.proofs.in_layer.Statement.{statement}
 use Rattle.terms.proofs.in_layer.Tie as tie
-use Rattle.terms.proofs.in_layer.Reads as reads
-use Rattle.terms.proofs.in_layer.Lts as lts
 
--- src/lib.rt:106:19
 enum-known-found : tie.Need-enum-known-found
 enum-known-found c = search needs
 
--- src/lib.rt:110:27
 enum-told : tie.Need-enum-told
 enum-told c = search needs
 
--- src/lib.rt:102:1
 returns : tie.Need-returns
 returns c = rw (c .before .found .given .1)
 
--- src/lib.rt:102:1
 returns-2 : tie.Need-returns-2
 returns-2 c = search needs
 

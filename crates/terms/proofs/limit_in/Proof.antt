@@ -1,52 +1,37 @@
 -- `terms::limit_in` meets its contract, by whether the limit is announced. Assumes nothing.
 use mathlib.Core.Path.{sym, ap, _∙_}
-use native.Mathlib.Omega.{arith}
 use borrow.Author.Needs.{needs}
 use Rattle.params.proofs.Finds.{find-lies}
 use Rattle.terms.specs.Announced.{fromValue, fromFound, limitIn}
 use borrow.Author.Needs.{needs}
 use Rattle.terms.proofs.limit_in.Statement.{statement}
 use Rattle.terms.proofs.limit_in.Tie as tie
-use Rattle.terms.proofs.limit_in.Reads as reads
-use Rattle.terms.proofs.limit_in.Lts as lts
-use Rattle.params.proofs.find.Reads as find-reads
-use Rattle.terms.proofs.from_value.Reads as from-value-reads
-use Rattle.terms.proofs.value_at.Reads as value-at-reads
 
--- src/lib.rt:206:37
 slice-aggregate-find : tie.Need-slice-aggregate-find
 slice-aggregate-find c = search needs
 
--- src/lib.rt:206:11
 find-requires : tie.Need-find-requires
 find-requires c κs = search needs
 
--- src/lib.rt:207:19
 enum-known-place : tie.Need-enum-known-place
 enum-known-place c = search needs
 
--- src/lib.rt:207:62
 add-value-at : tie.Need-add-value-at
 add-value-at c = let h = find-lies _ _ _ _ _ (sym (c .before .before .before .before .find .ensures) ∙ c .before .before .place .given .1) in search needs
 
--- src/lib.rt:207:40
 value-at-requires : tie.Need-value-at-requires
 value-at-requires c κs = search needs
 
--- src/lib.rt:207:29
 from-value-requires : tie.Need-from-value-requires
 from-value-requires c κs = search needs
 
--- src/lib.rt:208:27
 enum-told : tie.Need-enum-told
 enum-told c = search needs
 
--- src/lib.rt:203:1
 returns : tie.Need-returns
 unfolding limitIn
 returns c = c .from-value .ensures ∙ ap fromValue (c .before .value-at .ensures) ∙ sym (ap (fromFound _) (sym (c .before .before .before .before .before .before .find .ensures) ∙ c .before .before .before .before .place .given .1))
 
--- src/lib.rt:203:1
 returns-2 : tie.Need-returns-2
 unfolding limitIn
 returns-2 c = sym (ap (fromFound _) (sym (c .before .before .find .ensures) ∙ c .enum-told .given .1))

@@ -8,74 +8,55 @@ use Rattle.terms.proofs.Layers.{lies-in-client, lies-in-defaults, part-
 use borrow.Author.Needs.{needs}
 use Rattle.terms.proofs.look_up.Statement.{statement}
 use Rattle.terms.proofs.look_up.Tie as tie
-use Rattle.terms.proofs.look_up.Reads as reads
-use Rattle.terms.proofs.look_up.Lts as lts
-use Rattle.terms.proofs.part_at.Reads as part-at-reads
-use Rattle.terms.proofs.term_number.Reads as term-number-reads
-use Rattle.terms.proofs.term_of.Reads as term-of-reads
 
--- src/lib.rt:166:9
 term-of-requires : tie.Need-term-of-requires
 term-of-requires c κs = search needs
 
--- src/lib.rt:167:15
 term-number-requires : tie.Need-term-number-requires
 term-number-requires c κs = search needs
 
--- src/lib.rt:167:15
 cast-number : tie.Need-cast-number
 cast-number c = search needs
 
--- src/lib.rt:169:20
 enum-known-term : tie.Need-enum-known-term
 enum-known-term c = search needs
 
--- src/lib.rt:171:17
 part-at-requires : tie.Need-part-at-requires
 part-at-requires c κs = lies-in-client (c .before .before .before .before .before .before .before .before .before .args .client) (c .before .before .before .before .before .before .before .before .before .args .defaults) _ _ (c .before .before .before .before .before .term-of .ensures) _ _ (c .before .before .term .given .1) (c .if1 .taken)
 
--- src/lib.rt:171:17
 returns : tie.Need-returns
 returns c =
     let a = c .before .before .before .before .before .before .before .before .before .before .args in
     let is = c .before .before .before .before .before .before .term-of .ensures in
     (part-of (a .client) (a .defaults) _ _ is (In _ _) (c .before .before .before .term .given .1) _ (rw (eq-eqb _ 0 (c .before .if1 .taken)) (c .part-at .ensures)), c .before .before .before .before .before .term-number .ensures ∙ ap termNumber is)
 
--- src/lib.rt:173:13
 part-at-requires-2 : tie.Need-part-at-requires-2
 part-at-requires-2 c κs = lies-in-defaults (c .before .before .before .before .before .before .before .before .before .args .client) (c .before .before .before .before .before .before .before .before .before .args .defaults) _ _ (c .before .before .before .before .before .term-of .ensures) _ _ (c .before .before .term .given .1) (c .if1 .left)
 
--- src/lib.rt:175:48
 enum-told : tie.Need-enum-told
 enum-told c = search needs
 
--- src/lib.rt:175:32
 part-at-requires-3 : tie.Need-part-at-requires-3
 part-at-requires-3 c κs = search needs
 
--- src/lib.rt:176:41
 enum-told-2 : tie.Need-enum-told-2
 enum-told-2 c = search needs
 
--- src/lib.rt:176:25
 part-at-requires-4 : tie.Need-part-at-requires-4
 part-at-requires-4 c κs = search needs
 
--- src/lib.rt:162:1
 returns-2 : tie.Need-returns-2
 returns-2 c =
     let a = c .before .before .before .before .before .before .before .before .before .before .args in
     let is = c .before .before .before .before .before .before .term-of .ensures in
     (part-of (a .client) (a .defaults) _ _ is (In _ _) (c .before .before .before .term .given .1) _ (rw (ne-eqb _ 0 (c .before .if1 .left)) (c .part-at2 .ensures)), c .before .before .before .before .before .term-number .ensures ∙ ap termNumber is)
 
--- src/lib.rt:162:1
 returns-3 : tie.Need-returns-3
 returns-3 c =
     let a = c .before .before .before .before .before .before .before .before .args in
     let is = c .before .before .before .before .term-of .ensures in
     (part-of (a .client) (a .defaults) _ _ is (Unreadable _) (c .before .enum-told .given .1) _ (c .part-at3 .ensures), c .before .before .before .term-number .ensures ∙ ap termNumber is)
 
--- src/lib.rt:162:1
 returns-4 : tie.Need-returns-4
 returns-4 c =
     let a = c .before .before .before .before .before .before .before .before .args in

@@ -8,26 +8,19 @@ use borrow.Author.Needs.{needs}
 use borrow.Author.Needs.{needs}
 use Rattle.terms.proofs.part_at.Statement.{statement}
 use Rattle.terms.proofs.part_at.Tie as tie
-use Rattle.terms.proofs.part_at.Reads as reads
-use Rattle.terms.proofs.part_at.Lts as lts
 
--- src/lib.rt:156:18
 add-behind : tie.Need-add-behind
 add-behind c = search needs
 
--- src/lib.rt:157:5
 sub-result : tie.Need-sub-result
 sub-result c = search needs
 
--- src/lib.rt:157:5
 part-result-start : tie.Need-part-result-start
 part-result-start c = search needs
 
--- src/lib.rt:157:5
 part-result-end : tie.Need-part-result-end
 part-result-end c = search needs
 
--- src/lib.rt:151:1
 returns : tie.Need-returns
 returns c =
     let place = c .before .before .args .place in

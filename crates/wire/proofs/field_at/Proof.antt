@@ -5,65 +5,46 @@ use Rattle.wire.proofs.Readings.{on-read, on-cut, on-bad, read-within, 
 use borrow.Author.Needs.{needs}
 use Rattle.wire.proofs.field_at.Statement.{statement}
 use Rattle.wire.proofs.field_at.Tie as tie
-use Rattle.wire.proofs.field_at.Reads as reads
-use Rattle.wire.proofs.field_at.Lts as lts
-use Rattle.wire.proofs.fault_of.Reads as fault-of-reads
-use Rattle.wire.proofs.payload_at.Reads as payload-at-reads
-use Rattle.wire.proofs.varint_at.Reads as varint-at-reads
 
--- src/lib.rt:161:9
 fault-of-requires : tie.Need-fault-of-requires
 fault-of-requires c κs = search needs
 
--- src/lib.rt:161:9
 returns : tie.Need-returns
 returns c = field-behind _ _ _ (c .before .if1 .taken) (c .fault-of .ensures)
 
--- src/lib.rt:163:11
 varint-at-requires : tie.Need-varint-at-requires
 varint-at-requires c κs = search needs
 
--- src/lib.rt:164:24
 enum-known-value : tie.Need-enum-known-value
 enum-known-value c = search needs
 
--- src/lib.rt:167:17
 payload-at-requires : tie.Need-payload-at-requires
 payload-at-requires c κs = (read-within _ _ _ _ _ _ (c .before .before .before .before .varint-at .ensures) (c .before .before .value .given .1) .1, search needs)
 
--- src/lib.rt:167:17
 returns-2 : tie.Need-returns-2
 returns-2 c = field-tag _ _ _ (c .before .before .before .before .before .before .if1 .left) (c .payload-at .ensures ∙ simp (c .before .if2 .taken) refl ∙ on-read _ _ _ _ (c .before .before .before .before .before .varint-at .ensures) _ _ (c .before .before .before .value .given .1))
 
--- src/lib.rt:169:13
 fault-of-requires-2 : tie.Need-fault-of-requires-2
 fault-of-requires-2 c κs = search needs
 
--- src/lib.rt:171:38
 enum-told : tie.Need-enum-told
 enum-told c = search needs
 
--- src/lib.rt:171:29
 fault-of-requires-3 : tie.Need-fault-of-requires-3
 fault-of-requires-3 c κs = search needs
 
--- src/lib.rt:172:33
 enum-told-2 : tie.Need-enum-told-2
 enum-told-2 c = search needs
 
--- src/lib.rt:172:24
 fault-of-requires-4 : tie.Need-fault-of-requires-4
 fault-of-requires-4 c κs = search needs
 
--- src/lib.rt:157:1
 returns-3 : tie.Need-returns-3
 returns-3 c = field-tag _ _ _ (c .before .before .before .before .before .before .if1 .left) (c .fault-of2 .ensures ∙ simp (c .before .if2 .left) refl ∙ on-read _ _ _ _ (c .before .before .before .before .before .varint-at .ensures) _ _ (c .before .before .before .value .given .1))
 
--- src/lib.rt:157:1
 returns-4 : tie.Need-returns-4
 returns-4 c = field-tag _ _ _ (c .before .before .before .before .if1 .left) (c .fault-of3 .ensures ∙ on-cut _ _ _ _ (c .before .before .before .varint-at .ensures) (c .before .enum-told .given .1))
 
--- src/lib.rt:157:1
 returns-5 : tie.Need-returns-5
 returns-5 c = field-tag _ _ _ (c .before .before .before .before .if1 .left) (c .fault-of4 .ensures ∙ on-bad _ _ _ _ (c .before .before .before .varint-at .ensures) (c .before .enum-told2 .given .1))
 

@@ -3,64 +3,50 @@ use Rattle.wire.proofs.Shortest.{groups-shortest}
 use borrow.Author.Needs.{needs}
 use Rattle.wire.proofs.groups_of.Statement.{statement}
 use Rattle.wire.proofs.groups_of.Tie as tie
-use Rattle.wire.proofs.groups_of.Reads as reads
-use Rattle.wire.proofs.groups_of.Lts as lts
-use Rattle.wire.proofs.group_of.Reads as group-of-reads
 
--- src/lib.rt:201:9
 group-of-requires : tie.Need-group-of-requires
 group-of-requires c κs = search needs
 
--- src/lib.rt:202:9
 group-of-requires-2 : tie.Need-group-of-requires-2
 group-of-requires-2 c κs = search needs
 
--- src/lib.rt:203:9
 group-of-requires-3 : tie.Need-group-of-requires-3
 group-of-requires-3 c κs = search needs
 
--- src/lib.rt:204:9
 group-of-requires-4 : tie.Need-group-of-requires-4
 group-of-requires-4 c κs = search needs
 
--- src/lib.rt:205:9
 group-of-requires-5 : tie.Need-group-of-requires-5
 group-of-requires-5 c κs = search needs
 
--- src/lib.rt:206:9
 group-of-requires-6 : tie.Need-group-of-requires-6
 group-of-requires-6 c κs = search needs
 
--- src/lib.rt:207:9
 group-of-requires-7 : tie.Need-group-of-requires-7
 group-of-requires-7 c κs = search needs
 
--- src/lib.rt:208:9
 group-of-requires-8 : tie.Need-group-of-requires-8
 group-of-requires-8 c κs = search needs
 
--- src/lib.rt:209:9
 group-of-requires-9 : tie.Need-group-of-requires-9
 group-of-requires-9 c κs = search needs
 
--- src/lib.rt:210:9
 group-of-requires-10 : tie.Need-group-of-requires-10
 group-of-requires-10 c κs = search needs
 
--- src/lib.rt:187:1
 returns : tie.Need-returns
 returns c =
     rw (
-    c .before .before .before .before .before .before .before .before .before .group-of .ensures,
-    c .before .before .before .before .before .before .before .before .group-of2 .ensures,
-    c .before .before .before .before .before .before .before .group-of3 .ensures,
-    c .before .before .before .before .before .before .group-of4 .ensures,
-    c .before .before .before .before .before .group-of5 .ensures,
-    c .before .before .before .before .group-of6 .ensures,
-    c .before .before .before .group-of7 .ensures,
-    c .before .before .group-of8 .ensures,
-    c .before .group-of9 .ensures,
-    c .group-of10 .ensures,
+      c .before .before .before .before .before .before .before .before .before .group-of .ensures,
+      c .before .before .before .before .before .before .before .before .group-of2 .ensures,
+      c .before .before .before .before .before .before .before .group-of3 .ensures,
+      c .before .before .before .before .before .before .group-of4 .ensures,
+      c .before .before .before .before .before .group-of5 .ensures,
+      c .before .before .before .before .group-of6 .ensures,
+      c .before .before .before .group-of7 .ensures,
+      c .before .before .group-of8 .ensures,
+      c .before .group-of9 .ensures,
+      c .group-of10 .ensures,
     ) (groups-shortest (c .before .before .before .before .before .before .before .before .before .before .args .number))
 
 pub groups-of-spec : {M : Type 1} → statement M

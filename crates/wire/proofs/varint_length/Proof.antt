@@ -3,8 +3,6 @@ use borrow.Author.Needs.{needs}
 use Rattle.wire.proofs.Shortest.{Counted, count-first, count-last, count-next}
 use Rattle.wire.proofs.varint_length.Statement.{statement}
 use Rattle.wire.proofs.varint_length.Tie as tie
-use Rattle.wire.proofs.varint_length.Reads as reads
-use Rattle.wire.proofs.varint_length.Lts as lts
 
 abbrev Inv-loop : tie.InvT-loop
 Inv-loop number left₀ count₀ left count = Counted number left count
@@ -12,23 +10,18 @@ Inv-loop number left₀ count₀ left count = Counted number left count
 abbrev μ-loop : tie.MeasureT-loop
 μ-loop number left₀ count₀ left count = left
 
--- src/lib.rt:220:5
 loop-holds : tie.Need-loop-holds Inv-loop μ-loop
 loop-holds c = count-first _ (search needs)
 
--- src/lib.rt:222:9
 add-count : tie.Need-add-count Inv-loop μ-loop
 add-count c = let next = count-next _ _ _ (c .before .loop .inv) (c .loop-test .taken) .0 in search needs
 
--- src/lib.rt:220:5
 loop-less : tie.Need-loop-less Inv-loop μ-loop
 loop-less c = search needs
 
--- src/lib.rt:220:5
 loop-again : tie.Need-loop-again Inv-loop μ-loop
 loop-again c = count-next _ _ _ (c .before .loop .inv) (c .loop-test .taken) .1
 
--- src/lib.rt:215:1
 returns : tie.Need-returns Inv-loop μ-loop
 returns c = count-last _ _ _ (c .before .loop .inv) (c .loop-test .left)
 
