@@ -16,7 +16,7 @@ place-in-requires : tie.Need-place-in-requires
 place-in-requires c κs = search needs
 
 add-behind : tie.Need-add-behind
-add-behind c = let h = lies 1 _ _ _ _ (c .before .place-in .ensures) in search needs
+add-behind c = let h = lies _ _ _ _ _ (c .before .place-in .ensures) in search needs
 
 sub-same : tie.Need-sub-same
 sub-same c = search needs
@@ -25,7 +25,7 @@ part-same-start : tie.Need-part-same-start
 part-same-start c = search needs
 
 part-same-end : tie.Need-part-same-end
-part-same-end c = let h = lies 1 _ _ _ _ (c .before .place-in .ensures) in search needs
+part-same-end c = let h = lies _ _ _ _ _ (c .before .place-in .ensures) in search needs
 
 same-requires : tie.Need-same-requires
 same-requires c κs = search needs

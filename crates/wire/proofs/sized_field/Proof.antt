@@ -1,4 +1,6 @@
 -- `wire::sized_field` meets its contract, by whether the message has room for the payload. Assumes nothing.
+use Prim.Native.Nat.{_-_}
+use native.Mathlib.Omega.{arith}
 use borrow.Author.Tests.{lt-ltb, le-ltb}
 use borrow.Author.Needs.{needs}
 use Rattle.wire.proofs.sized_field.Statement.{statement}
@@ -11,7 +13,9 @@ fault-of-requires : tie.Need-fault-of-requires
 fault-of-requires c κs = search needs
 
 returns : tie.Need-returns
-returns c = simp (lt-ltb _ _ (c .before .if1 .taken)) (c .fault-of .ensures)
+returns c =
+    let a = c .before .before .args in
+    simp (lt-ltb (a .end - a .at) (a .size) (search needs)) (c .fault-of .ensures)
 
 add-t11 : tie.Need-add-t11
 add-t11 c = search needs
