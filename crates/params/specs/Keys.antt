@@ -1,15 +1,14 @@
 -- "Struct: field 1 repeated, an entry {1 key, 2 Value}"; "no key means the empty key".
 use Prim.Native.Nat.{ℕ}
-use mathlib.Core.List.{List, [], _∷_}
-use mathlib.Core.Bool.{Bool, true, false, cond}
+use mathlib.Core.List.{List}
+use mathlib.Core.Bool.{Bool, true, false}
 use Rattle.bytes_be.specs.Part.{partAt, same}
 use Rattle.bytes_be.specs.declared.Place.{Place}
-use Rattle.wire.specs.declared.Reading.{Reading}
-use Rattle.wire.specs.declared.Reading.the-variants.{Read, Refused}
+use Rattle.wire.specs.declared.Field.{Field}
 use Rattle.wire.specs.Fields.{fieldsOf}
 use Rattle.params.specs.declared.Found.{Found}
 use Rattle.params.specs.declared.Found.the-variants.{At, Nothing}
-use Rattle.params.specs.Message.{placeIn}
+use Rattle.params.specs.Message.{firstOf, placeIn}
 
 -- the key of the entry from `from` to `to`
 unfoldable pub keyOf : List ℕ → ℕ → ℕ → List ℕ
@@ -23,16 +22,15 @@ valueOf s from to = placeIn 2 (fieldsOf s from to)
 unfoldable pub keyIn : List ℕ → ℕ → ℕ → List ℕ → Bool
 keyIn s from to key = same (keyOf s from to) key
 
--- the Value of the first of these entries that has the key
-unfoldable pub findAmong : List ℕ → List ℕ → List Reading → Found
-findAmong s key [] = Nothing
-findAmong s key (Refused why ∷ rest) = Nothing
-findAmong s key (Read field ∷ rest) =
-    cond (keyIn s (field .at) (field .next) key) (At (valueOf s (field .at) (field .next))) (findAmong s key rest)
+abbrev pub hasKey : List ℕ → List ℕ → Field → Bool
+hasKey s key field = keyIn s (field .at) (field .next) key
 
--- the same, of the entries of the Struct from `from` to `to`
+abbrev pub valueFound : List ℕ → Field → Found
+valueFound s field = At (valueOf s (field .at) (field .next))
+
+-- the Value of the first entry that has the key, of those of the Struct from `from` to `to`
 unfoldable pub findIn : List ℕ → ℕ → ℕ → List ℕ → Found
-findIn s from to key = findAmong s key (fieldsOf s from to)
+findIn s from to key = firstOf (hasKey s key) (valueFound s) Nothing (fieldsOf s from to)
 
 abbrev pub isFound : Found → Bool
 isFound (At place) = true

@@ -40,9 +40,22 @@ walk judge move done (Reading·Refused why ∷ rest) seen = Refused why
 walk judge move done (Read field ∷ rest) seen =
     andThen (judge seen field) (walk judge move done rest (move seen field))
 
+-- what `answer` makes of the first field that `test` holds for, or `none` where no field is such
+unfoldable pub firstOf : {A : Type 0} → (Field → Bool) → (Field → A) → A → List Reading → A
+firstOf test answer none [] = none
+firstOf test answer none (Reading·Refused why ∷ rest) = none
+firstOf test answer none (Read field ∷ rest) = cond (test field) (answer field) (firstOf test answer none rest)
+
+abbrev pub hasNumber : ℕ → Field → Bool
+hasNumber number field = eqb (field .number) number
+
+-- where a field has its payload
+abbrev pub placeOf : Field → Place
+placeOf field = record { at = field .at; length = field .next - field .at }
+
+abbrev pub nowhere : Place
+nowhere = record { at = 0; length = 0 }
+
 -- where the first field of a number has its payload; the empty place at 0 where there is none
 unfoldable pub placeIn : ℕ → List Reading → Place
-placeIn number [] = record { at = 0; length = 0 }
-placeIn number (Reading·Refused why ∷ rest) = record { at = 0; length = 0 }
-placeIn number (Read field ∷ rest) =
-    cond (eqb (field .number) number) (record { at = field .at; length = field .next - field .at }) (placeIn number rest)
+placeIn number fields = firstOf (hasNumber number) placeOf nowhere fields

@@ -14,6 +14,7 @@ use Rattle.params.specs.declared.Check.{Check}
 use Rattle.params.specs.declared.Check.the-variants.{Good, Refused}
 use Rattle.params.specs.declared.Found.{Found}
 use Rattle.params.specs.declared.Found.the-variants.{At, Nothing}
+use Rattle.params.specs.Message.{nowhere}
 use Rattle.params.specs.Keys.{findIn}
 use Rattle.params.specs.Rules.{structCheck}
 use Rattle.terms.specs.declared.Term.{Term}
@@ -57,5 +58,5 @@ pub record IsPart (s r : RefT (List ℕ)) (place : Place) : Type 0 where
 
 abbrev pub PartOf : RefT (List ℕ) → RefT (List ℕ) → RefT (List ℕ) → Term → Type 0
 PartOf client defaults r (In layer place) = IsPart (cond (eqb layer 0) client defaults) r place
-PartOf client defaults r (Unreadable layer) = IsPart client r (record { at = 0; length = 0 })
-PartOf client defaults r Absent = IsPart client r (record { at = 0; length = 0 })
+PartOf client defaults r (Unreadable layer) = IsPart client r nowhere
+PartOf client defaults r Absent = IsPart client r nowhere

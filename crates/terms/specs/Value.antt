@@ -1,6 +1,6 @@
 -- "A scalar Value is answered as null, number, boolean or text place. One that holds a Struct or list is answered as such, an unreadable
 -- one as 18; read alone, its own Struct or list is level 1."
-use Prim.Native.Nat.{ℕ, _-_}
+use Prim.Native.Nat.{ℕ}
 use mathlib.Core.List.{List}
 use mathlib.Core.Bool.{cond}
 use lib.ListN.{length}
@@ -13,6 +13,7 @@ use Rattle.wire.specs.Fields.{fieldAt}
 use Rattle.double.specs.Double.{bitsAt}
 use Rattle.params.specs.declared.Check.{Check}
 use Rattle.params.specs.declared.Check.the-variants.{Good, Refused as Check·Refused}
+use Rattle.params.specs.Message.{placeOf}
 use Rattle.params.specs.Rules.{aloneCheck}
 use Rattle.terms.specs.declared.Value.{Value}
 use Rattle.terms.specs.declared.Value.the-variants.{Null, Number, Text, Boolean, Struct, List as Value·List, Unreadable}
@@ -22,7 +23,7 @@ unfoldable pub heldBy : List ℕ → Field → Value
 heldBy s field =
     cond (eqb (field .number) 1) Null
     (cond (eqb (field .number) 2) (Number (ofBits binary64 (bitsAt s (field .at))) (bitsAt s (field .at)))
-    (cond (eqb (field .number) 3) (Text (record { at = field .at; length = field .next - field .at }))
+    (cond (eqb (field .number) 3) (Text (placeOf field))
     (cond (eqb (field .number) 4) (Boolean (eqb (field .value) 1))
     (cond (eqb (field .number) 5) Struct
     (cond (eqb (field .number) 6) Value·List
