@@ -7,7 +7,7 @@ use native.Mathlib.Nat.{add-zero}
 use native.Mathlib.Numerals.{add-one}
 use native.Mathlib.Omega.{arith}
 use lib.ListN.{length, getD, take, drop, length-append, length-drop}
-use lib.Seq.{take-add, take-append-le, drop-append-le, take-suc, take-at, drop-at, getD-drop, length-take-le, drop-drop, take-length, paste, length-paste}
+use lib.Seq.{take-add, take-append-le, drop-append-le, take-suc, take-take, take-at, drop-at, getD-take, getD-drop, length-take-le, drop-drop, take-length, paste, length-paste}
 use lib.Dec.{leb}
 use borrow.Author.Tests.{le-leb, lt-leb, leb-true, leb-false}
 use Rattle.bytes_be.specs.Part.{tabulate, holds, part, putAt}
@@ -45,6 +45,19 @@ module _ {A : Type 0} where
   part-then xs at size more next e =
       let rest : drop next xs ≡ drop size (drop at xs) = ap (λ (k : ℕ). drop k xs) (sym e) ∙ sym (drop-drop size at xs) in
       ap (λ (l : List A). part xs at size ++ take more l) rest ∙ sym (take-add size more (drop at xs))
+
+  -- a part of a part is a part of the whole
+  part-of-front : (at size n : ℕ) (xs : List A) → at + size ≤ n → part (take n xs) at size ≡ part xs at size
+  part-of-front zero size n xs h = take-take size n xs (omega arith)
+  part-of-front (suc at) size zero xs h = absurd (omega arith)
+  part-of-front (suc at) size (suc n) [] h = refl
+  part-of-front (suc at) size (suc n) (x ∷ xs) h = part-of-front at size n xs (omega arith)
+
+  pub part-part : (xs : List A) (from n at size : ℕ) → at + size ≤ n → part (part xs from n) at size ≡ part xs (from + at) size
+  part-part xs from n at size h = part-of-front at size n (drop from xs) h ∙ ap (take size) (drop-drop at from xs)
+
+  pub getD-part : (xs : List A) (from n i : ℕ) (d : A) → i < n → getD (part xs from n) i d ≡ getD xs (from + i) d
+  getD-part xs from n i d h = getD-take n (drop from xs) i d h ∙ getD-drop from xs i d
 
   -- what stands in front only moves what is behind it
   pub drop-behind : (xs ys : List A) (n at : ℕ) → length xs ≡ n → drop (n + at) (xs ++ ys) ≡ drop at ys
