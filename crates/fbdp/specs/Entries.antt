@@ -32,7 +32,7 @@ valueSlots (Text place) = 3 ∷ place .at ∷ place .length ∷ []
 valueSlots (Boolean truth) = 4 ∷ cond truth 1 0 ∷ 0 ∷ []
 valueSlots Struct = 5 ∷ 0 ∷ 0 ∷ []
 valueSlots Value·List = 6 ∷ 0 ∷ 0 ∷ []
-valueSlots Unreadable = 0 ∷ 0 ∷ 0 ∷ []
+valueSlots (Unreadable why) = 0 ∷ 0 ∷ 0 ∷ []
 
 -- `fbdp_value`: "A scalar Value is answered as null, number, boolean or text place. One that holds a Struct or list is answered as such,
 -- an unreadable one as 18".
@@ -43,7 +43,7 @@ pub record ValueAnswer (bytes : List ℕ) (number : ℕ) (slots : List ℕ) : Ty
 -- slice (1 the client's parameters, 2 the default Struct), at, length; "the empty part at the start of the client's slice"
 abbrev pub termSlots : Term → List ℕ
 termSlots (In layer place) = (layer + 1) ∷ place .at ∷ place .length ∷ []
-termSlots (Term·Unreadable layer) = 1 ∷ 0 ∷ 0 ∷ []
+termSlots (Term·Unreadable layer why) = 1 ∷ 0 ∷ 0 ∷ []
 termSlots Absent = 1 ∷ 0 ∷ 0 ∷ []
 
 -- `fbdp_lookup`: "A term is looked up by key in the client's parameters, .. and failing that in the server's lent default Struct".

@@ -48,7 +48,7 @@ fn value_slots(value: Value) -> [u64; 3]
         }
         Value::Struct => [5, 0, 0],
         Value::List => [6, 0, 0],
-        Value::Unreadable => [0, 0, 0],
+        Value::Unreadable(_) => [0, 0, 0],
     }
 }
 
@@ -72,7 +72,7 @@ fn term_slots(term: Term) -> [u64; 3]
             let length = place.length as u64;
             [slice, at, length]
         }
-        Term::Unreadable(_) => [1, 0, 0],
+        Term::Unreadable { layer: _, why: _ } => [1, 0, 0],
         Term::Absent => [1, 0, 0],
     }
 }

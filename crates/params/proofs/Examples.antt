@@ -12,8 +12,8 @@ use Rattle.wire.specs.Fields.{payloadAt, fieldAt, fieldsWithin, fieldsOf}
 use Rattle.params.specs.declared.Check.{Check}
 use Rattle.params.specs.declared.Check.the-variants.{Good}
 use Rattle.params.specs.Message.{fault, walk, firstOf, placeIn}
-use Rattle.params.specs.Keys.{keyOf, valueOf, keyIn, findIn}
-use Rattle.params.specs.Rules.{valueWire, valueText, valueAllowed, valueRule, valueField, valueCheck, bytesRule, keyRule, seenOf, entryField, entryDone, entryCheck, manyField, manyCheck, inside, structCheck}
+use Rattle.params.specs.Keys.{keyOf, valuePlace, findIn}
+use Rattle.params.specs.Rules.{valueWire, valueText, valueAllowed, valueRule, valueField, valueCheck, bytesRule, keyRule, seenOf, entryField, entryDone, entryCheck, itemField, itemsCheck, inside, structCheck}
 
 -- a field of bytes, and an entry of such fields, where a length has one byte
 abbrev bytes : ℕ → List ℕ → List ℕ
@@ -51,5 +51,5 @@ pub examples :
     × (checked repeated ≡ fault Repeated 15)
     × (checked (entry (ascii "a") (0x20 ∷ 2 ∷ [])) ≡ fault Other 7)
     × (checked (bytes 0x0A (bytes 0x0A (ascii "a"))) ≡ fault Other 5)
-unfolding structCheck manyCheck manyField bytesRule entryCheck entryField seenOf entryDone valueCheck valueField valueRule valueWire valueText valueAllowed keyRule inside walk findIn firstOf keyIn keyOf valueOf placeIn same fieldsOf fieldsWithin fieldAt payloadAt varintAt saidAt wellFormed rest dueBehind table
+unfolding structCheck itemsCheck itemField bytesRule entryCheck entryField seenOf entryDone valueCheck valueField valueRule valueWire valueText valueAllowed keyRule inside walk findIn firstOf keyOf valuePlace placeIn same fieldsOf fieldsWithin fieldAt payloadAt varintAt saidAt wellFormed rest dueBehind table
 examples = (refl, refl, refl, refl, refl, refl)

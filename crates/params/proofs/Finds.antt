@@ -16,7 +16,7 @@ use Rattle.wire.proofs.Readings.{Within, field-within, no-fields, first-field, 
 use Rattle.params.specs.declared.Found.{Found}
 use Rattle.params.specs.declared.Found.the-variants.{At, Nothing}
 use Rattle.params.specs.Message.{firstOf, hasNumber, placeOf, nowhere, placeIn}
-use Rattle.params.specs.Keys.{hasKey, valueOf, valueFound, findIn}
+use Rattle.params.specs.Keys.{hasKey, valuePlace, valueFound, findIn}
 
 -- `whole` is what the search comes to, and is known to be what it comes to from `at` on
 module _ {A : Type 0} (test : Field → Bool) (answer : Field → A) (none : A) (s : List ℕ) (to at : ℕ) (whole : A)
@@ -80,7 +80,7 @@ FoundLies s (At place) = Lies s place
 FoundLies s Nothing = Unit {0}
 
 pub find-lies : (s : List ℕ) (from to : ℕ) (key : List ℕ) (place : Place) → findIn s from to key ≡ At place → place .at + place .length ≤ length s
-unfolding fieldsOf findIn valueOf
+unfolding fieldsOf findIn valuePlace
 find-lies s from to key place e =
     subst (FoundLies s) e
     (search-gives (FoundLies s) (hasKey s key) (valueFound s) Nothing s to tt (λ at field w. place-lies 2 s (field .at) (field .next)) (to - from) from)

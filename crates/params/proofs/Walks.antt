@@ -14,7 +14,7 @@ use Rattle.wire.proofs.Readings.{no-fields, first-field, first-fault}
 use Rattle.params.specs.declared.Check.{Check}
 use Rattle.params.specs.declared.Check.the-variants.{Good, Refused}
 use Rattle.params.specs.Message.{fault, andThen, walk}
-use Rattle.params.specs.Rules.{manyCheck, inside}
+use Rattle.params.specs.Rules.{itemsCheck, inside}
 
 -- `whole` is what the message comes to, and is known to be what its fields from `at` on come to, after what was seen
 module _ {Seen : Type 0} (judge : Seen → Field → Check) (move : Seen → Field → Seen) (done : Seen → Check) (s : List ℕ) (to at : ℕ) (seen : Seen) (whole : Check)
@@ -50,7 +50,7 @@ unfolding inside
 inside-none levels s field h = rw h
 
 pub inside-more : (levels : ℕ) (s : List ℕ) (field : Field) → (levels ≡ 0 → ⊥)
-    → manyCheck (inside (levels - 1) s) s (eqb (field .number) 6) (field .at) (field .next) ≡ inside levels s field
+    → itemsCheck (inside (levels - 1) s) s (eqb (field .number) 6) (field .at) (field .next) ≡ inside levels s field
 unfolding inside
 inside-more zero s field n = absurd (n refl)
 inside-more (suc levels) s field n = rw sub-one

@@ -15,18 +15,15 @@ unfoldable pub keyOf : List ℕ → ℕ → ℕ → List ℕ
 keyOf s from to = partAt s (placeIn 1 (fieldsOf s from to))
 
 -- where its Value stands, without tag and length
-unfoldable pub valueOf : List ℕ → ℕ → ℕ → Place
-valueOf s from to = placeIn 2 (fieldsOf s from to)
+unfoldable pub valuePlace : List ℕ → ℕ → ℕ → Place
+valuePlace s from to = placeIn 2 (fieldsOf s from to)
 
--- whether it has this key: keys are compared as bytes
-unfoldable pub keyIn : List ℕ → ℕ → ℕ → List ℕ → Bool
-keyIn s from to key = same (keyOf s from to) key
-
+-- whether the entry that a field holds has this key: keys are compared as bytes
 abbrev pub hasKey : List ℕ → List ℕ → Field → Bool
-hasKey s key field = keyIn s (field .at) (field .next) key
+hasKey s key field = same (keyOf s (field .at) (field .next)) key
 
 abbrev pub valueFound : List ℕ → Field → Found
-valueFound s field = At (valueOf s (field .at) (field .next))
+valueFound s field = At (valuePlace s (field .at) (field .next))
 
 -- the Value of the first entry that has the key, of those of the Struct from `from` to `to`
 unfoldable pub findIn : List ℕ → ℕ → ℕ → List ℕ → Found

@@ -1,4 +1,5 @@
--- A message is judged field by field, from left to right, and its first fault is the answer. "Every breach .. is refused as 18."
+-- "Every breach of these rules or of those for Struct and Value below is refused as 18": a message is judged field by field, from left to
+-- right, and its first fault is the answer.
 use Prim.Native.Nat.{ℕ, _-_}
 use mathlib.Core.List.{List, [], _∷_}
 use mathlib.Core.Bool.{Bool, cond, not}
@@ -6,16 +7,20 @@ use lib.Dec.{eqb}
 use Rattle.bytes_be.specs.declared.Place.{Place}
 use Rattle.wire.specs.declared.Kind.{Kind}
 use Rattle.wire.specs.declared.Kind.the-variants.{Other}
+use Rattle.wire.specs.declared.Fault.{Fault}
 use Rattle.wire.specs.declared.Field.{Field}
 use Rattle.wire.specs.declared.Reading.{Reading}
 use Rattle.wire.specs.declared.Reading.the-variants.{Read, Refused as Reading·Refused}
 use Rattle.params.specs.declared.Check.{Check}
 use Rattle.params.specs.declared.Check.the-variants.{Good, Refused}
 
--- 18
+-- "refused as 18", whatever the fault
+abbrev pub faultNumber : Fault → ℕ
+faultNumber why = 18
+
 abbrev pub checkNumber : Check → ℕ
 checkNumber Good = 0
-checkNumber (Refused why) = 18
+checkNumber (Refused why) = faultNumber why
 
 abbrev pub fault : Kind → ℕ → Check
 fault kind at = Refused (record { kind = kind; at = at })

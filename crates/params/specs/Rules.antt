@@ -1,4 +1,5 @@
--- Struct, Value and list. At a field the tests run: wire type, repetition, UTF-8, what is allowed, depth; only then inside.
+-- "Struct: field 1 repeated, an entry {1 key, 2 Value} .. A Value holds exactly one of .. list (field 1 repeated, Values). No other fields
+-- inside these." Behind tag and payload the tests at a field run: wire type, repetition, UTF-8, what is allowed, depth; only then inside.
 use Prim.Native.Nat.{ℕ, zero, suc}
 use mathlib.Core.List.{List, []}
 use mathlib.Core.Bool.{Bool, true, false, cond, not, _&&_, _||_}
@@ -106,36 +107,36 @@ entryCheck inner s from tag start to =
 
 -- ---- "list (field 1 repeated, Values)", and the Struct that begins at `from`
 
-unfoldable pub manyField : (Field → Check) → List ℕ → Bool → ℕ → Field → Check
-manyField inner s list from field =
+unfoldable pub itemField : (Field → Check) → List ℕ → Bool → ℕ → Field → Check
+itemField inner s list from field =
     andThen (bytesRule 1 false field)
     (cond list
     (valueCheck inner s (field .at) (field .next))
     (entryCheck inner s from (field .tag) (field .at) (field .next)))
 
-abbrev pub manyJudge : (Field → Check) → List ℕ → Bool → ℕ → Unit {0} → Field → Check
-manyJudge inner s list from seen field = manyField inner s list from field
+abbrev pub itemJudge : (Field → Check) → List ℕ → Bool → ℕ → Unit {0} → Field → Check
+itemJudge inner s list from seen field = itemField inner s list from field
 
-abbrev pub manyMove : Unit {0} → Field → Unit {0}
-manyMove seen field = seen
+abbrev pub itemMove : Unit {0} → Field → Unit {0}
+itemMove seen field = seen
 
-abbrev pub manyDone : Unit {0} → Check
-manyDone seen = Good
+abbrev pub itemDone : Unit {0} → Check
+itemDone seen = Good
 
 -- the list or the Struct from `from` to `to`
-unfoldable pub manyCheck : (Field → Check) → List ℕ → Bool → ℕ → ℕ → Check
-manyCheck inner s list from to = walk (manyJudge inner s list from) manyMove manyDone (fieldsOf s from to) tt
+unfoldable pub itemsCheck : (Field → Check) → List ℕ → Bool → ℕ → ℕ → Check
+itemsCheck inner s list from to = walk (itemJudge inner s list from) itemMove itemDone (fieldsOf s from to) tt
 
 -- ---- "Each Struct or list counts one level, the outermost is level 1, at most 8 levels may nest."
 
 -- the Struct (5) or list (6) that a field holds, where so many levels may still nest
 unfoldable pub inside : ℕ → List ℕ → Field → Check
 inside zero s field = fault TooDeep (field .tag)
-inside (suc levels) s field = manyCheck (inside levels s) s (eqb (field .number) 6) (field .at) (field .next)
+inside (suc levels) s field = itemsCheck (inside levels s) s (eqb (field .number) 6) (field .at) (field .next)
 
 -- the outermost Struct
 unfoldable pub structCheck : List ℕ → ℕ → ℕ → Check
-structCheck s from to = manyCheck (inside 7 s) s false from to
+structCheck s from to = itemsCheck (inside 7 s) s false from to
 
 -- "read alone, its own Struct or list is level 1"
 unfoldable pub aloneCheck : List ℕ → Check

@@ -2,10 +2,11 @@
 ghost use mathlib.Core.Path.{_≡_};
 ghost use Prim.Native.Nat.{_≤_};
 ghost use lib.ListN.{length};
+ghost use Rattle.bytes_be.specs.Part.{same};
 ghost use Rattle.wire.specs.Fields.{fieldsOf};
-ghost use Rattle.params.specs.Message.{fault, lackingOf, checkNumber, placeIn};
-ghost use Rattle.params.specs.Keys.{keyIn, findIn, isFound};
-ghost use Rattle.params.specs.Rules.{valueWire, valueText, valueAllowed, valueRule, valueField, valueCheck, bytesRule, Seen, seenOf, keyRule, entryField, entryDone, entryCheck, manyField, manyCheck, inside, structCheck, aloneCheck};
+ghost use Rattle.params.specs.Message.{faultNumber, fault, lackingOf, checkNumber, placeIn};
+ghost use Rattle.params.specs.Keys.{keyOf, findIn, isFound};
+ghost use Rattle.params.specs.Rules.{valueWire, valueText, valueAllowed, valueRule, valueField, valueCheck, bytesRule, Seen, seenOf, keyRule, entryField, entryDone, entryCheck, itemField, itemsCheck, inside, structCheck, aloneCheck};
 use bytes_be::Place;
 use wire::Fault;
 use wire::Field;
@@ -14,7 +15,7 @@ use wire::Reading;
 
 pub enum Check {
     Good,
-    // 18: why, and where.
+    // Why, and where.
     Refused(Fault),
 }
 
@@ -24,13 +25,20 @@ pub enum Found {
     Nothing,
 }
 
-// The number of 01 for a check: 0, or 18.
+// The number of 01 for a fault.
+pub fn fault_number(_why: Fault) -> u8
+    ensures { λ r. ⌜ r ≡ faultNumber «_why» ⌝ }
+{
+    18
+}
+
+// The number of 01 for a check: 0, or that of its fault.
 pub fn check_number(check: Check) -> u8
     ensures { λ r. ⌜ r ≡ checkNumber check ⌝ }
 {
     match check {
         Check::Good => 0,
-        Check::Refused(_) => 18,
+        Check::Refused(why) => fault_number(why),
     }
 }
 
@@ -76,7 +84,7 @@ pub fn place_in(s: &[u8], from: usize, to: usize, number: u64) -> Place
 
 // Whether the entry from `from` to `to` has this key.
 fn has_key(s: &[u8], from: usize, to: usize, key: &[u8]) -> bool
-    ensures { λ r. ⌜ r ≡ keyIn (now (s .entry)) from to (now (key .entry)) ⌝ }
+    ensures { λ r. ⌜ r ≡ same (keyOf (now (s .entry)) from to) (now (key .entry)) ⌝ }
 {
     let place = place_in(s, from, to, 1);
     let first = place.at;
@@ -114,7 +122,7 @@ fn is_found(found: Found) -> bool
     }
 }
 
-// Whether a field of a Value has its own wire type; a number that has no place there has none.
+// Whether a field of a Value has its own wire type, or a number that has no place there.
 fn value_wire(number: u64, wire: u64) -> bool
     ensures { λ r. ⌜ r ≡ valueWire number wire ⌝ }
 {
@@ -186,7 +194,7 @@ fn value_field(s: &[u8], held: u64, field: Field, levels: u8) -> Check
     if levels == 0 {
         return fault_of(Kind::TooDeep, field.tag);
     }
-    check_many(s, field.at, field.next, levels - 1, field.number == 6)
+    check_items(s, field.at, field.next, levels - 1, field.number == 6)
 }
 
 fn check_value(s: &[u8], from: usize, to: usize, levels: u8) -> Check
@@ -318,8 +326,8 @@ fn check_entry(s: &[u8], from: usize, tag: usize, start: usize, to: usize, level
 }
 
 // A field of a Struct that begins at `from`, or of a list.
-fn many_field(s: &[u8], from: usize, field: Field, levels: u8, list: bool) -> Check
-    ensures { λ r. ⌜ r ≡ manyField (inside levels (now (s .entry))) (now (s .entry)) list from field ⌝ }
+fn item_field(s: &[u8], from: usize, field: Field, levels: u8, list: bool) -> Check
+    ensures { λ r. ⌜ r ≡ itemField (inside levels (now (s .entry))) (now (s .entry)) list from field ⌝ }
 {
     let rule = bytes_rule(field, 1, false);
     let Check::Good = rule else {
@@ -332,8 +340,8 @@ fn many_field(s: &[u8], from: usize, field: Field, levels: u8, list: bool) -> Ch
 }
 
 // A Struct or a list from `from` to `to`, in which so many levels may still nest.
-fn check_many(s: &[u8], from: usize, to: usize, levels: u8, list: bool) -> Check
-    ensures { λ r. ⌜ r ≡ manyCheck (inside levels (now (s .entry))) (now (s .entry)) list from to ⌝ }
+fn check_items(s: &[u8], from: usize, to: usize, levels: u8, list: bool) -> Check
+    ensures { λ r. ⌜ r ≡ itemsCheck (inside levels (now (s .entry))) (now (s .entry)) list from to ⌝ }
 {
     let mut at = from;
     while at < to {
@@ -342,7 +350,7 @@ fn check_many(s: &[u8], from: usize, to: usize, levels: u8, list: bool) -> Check
                 return Check::Refused(why);
             }
             Reading::Read(field) => {
-                let check = many_field(s, from, field, levels, list);
+                let check = item_field(s, from, field, levels, list);
                 let Check::Good = check else {
                     return check;
                 };
@@ -357,7 +365,7 @@ fn check_many(s: &[u8], from: usize, to: usize, levels: u8, list: bool) -> Check
 pub fn check_struct(s: &[u8], from: usize, to: usize) -> Check
     ensures { λ r. ⌜ r ≡ structCheck (now (s .entry)) from to ⌝ }
 {
-    check_many(s, from, to, 7, false)
+    check_items(s, from, to, 7, false)
 }
 
 // A Value that is read alone: its own Struct or list is level 1.

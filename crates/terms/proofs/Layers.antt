@@ -19,17 +19,17 @@ use Rattle.params.specs.Rules.{structCheck}
 use Rattle.params.proofs.Finds.{find-lies}
 use Rattle.terms.specs.declared.Term.{Term}
 use Rattle.terms.specs.declared.Term.the-variants.{In, Unreadable, Absent}
-use Rattle.terms.specs.Lookup.{ifReadable as Lookup·ifReadable, readLayers, findLayers, inLayer, lookUp, PartOf}
+use Rattle.terms.specs.Lookup.{ifReadable, readLayers, findLayers, inLayer, lookUp, PartOf}
 
 module _ (client defaults key : List ℕ) (first : Check) (read : first ≡ structCheck client 0 (length client)) where
-  pub client-unreadable : (why : Fault) → first ≡ Refused why → Unreadable 0 ≡ lookUp (client ∷ defaults ∷ []) key
+  pub client-unreadable : (why : Fault) → first ≡ Refused why → (term : Term) → term ≡ ifReadable 0 first Absent → term ≡ lookUp (client ∷ defaults ∷ []) key
   unfolding lookUp readLayers
-  client-unreadable why e = rw (← read, e)
+  client-unreadable why e term is = rw e at is ∙ sym (rw (← read, e))
 
   module _ (good : first ≡ Good) (second : Check) (also : second ≡ structCheck defaults 0 (length defaults)) where
-    pub defaults-unreadable : (why : Fault) → second ≡ Refused why → Unreadable 1 ≡ lookUp (client ∷ defaults ∷ []) key
+    pub defaults-unreadable : (why : Fault) → second ≡ Refused why → (term : Term) → term ≡ ifReadable 1 second Absent → term ≡ lookUp (client ∷ defaults ∷ []) key
     unfolding lookUp readLayers
-    defaults-unreadable why e = rw (← read, good, ← also, e)
+    defaults-unreadable why e term is = rw e at is ∙ sym (rw (← read, good, ← also, e))
 
     module _ (both : second ≡ Good) (found : Found) (looked : found ≡ findIn client 0 (length client) key) where
       pub in-client : (term : Term) → term ≡ inLayer 0 found Absent → (place : Place) → found ≡ At place → term ≡ lookUp (client ∷ defaults ∷ []) key
@@ -43,7 +43,7 @@ module _ (client defaults key : List ℕ) (first : Check) (read : first ≡ stru
 
 -- ---- a term lies in its layer
 
-unreadable-not-in : {A : Type 0} {layer other : ℕ} {place : Place} → Unreadable layer ≡ In other place → A
+unreadable-not-in : {A : Type 0} {layer other : ℕ} {why : Fault} {place : Place} → Unreadable layer why ≡ In other place → A
 unreadable-not-in e = let z : _≡_ {A = ℕ} 0 1 = cc in absurd (omega arith)
 
 absent-not-in : {A : Type 0} {layer : ℕ} {place : Place} → Absent ≡ In layer place → A
@@ -64,7 +64,7 @@ term-lies client defaults key layer place e =
     moved other there e h = let same = same-layer e in rw (← same .0, ← same .1) h
 
     go : (first second : Check) (found : Found) → findIn client 0 (length client) key ≡ found → (other : Found) → findIn defaults 0 (length defaults) key ≡ other
-        → Lookup·ifReadable 0 first (Lookup·ifReadable 1 second (inLayer 0 found (inLayer 1 other Absent))) ≡ In layer place
+        → ifReadable 0 first (ifReadable 1 second (inLayer 0 found (inLayer 1 other Absent))) ≡ In layer place
         → place .at + place .length ≤ length (cond (eqb layer 0) client defaults)
     go (Refused why) second found p other q e = unreadable-not-in e
     go Good (Refused why) found p other q e = unreadable-not-in e

@@ -27,7 +27,7 @@ fromValue (Text place) = Bad
 fromValue (Boolean truth) = Bad
 fromValue Struct = Bad
 fromValue Value·List = Bad
-fromValue Unreadable = Bad
+fromValue (Unreadable why) = Bad
 
 abbrev pub fromFound : List ℕ → Found → Announced
 fromFound s (At place) = fromValue (valueAt s (place .at) (place .at + place .length))

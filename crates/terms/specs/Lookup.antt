@@ -14,7 +14,7 @@ use Rattle.params.specs.declared.Check.{Check}
 use Rattle.params.specs.declared.Check.the-variants.{Good, Refused}
 use Rattle.params.specs.declared.Found.{Found}
 use Rattle.params.specs.declared.Found.the-variants.{At, Nothing}
-use Rattle.params.specs.Message.{nowhere}
+use Rattle.params.specs.Message.{faultNumber, nowhere}
 use Rattle.params.specs.Keys.{findIn}
 use Rattle.params.specs.Rules.{structCheck}
 use Rattle.terms.specs.declared.Term.{Term}
@@ -22,7 +22,7 @@ use Rattle.terms.specs.declared.Term.the-variants.{In, Unreadable, Absen
 
 abbrev pub ifReadable : ℕ → Check → Term → Term
 ifReadable layer Good term = term
-ifReadable layer (Refused why) term = Unreadable layer
+ifReadable layer (Refused why) term = Unreadable layer why
 
 -- "Lookup tests 18, 36, 37": every layer is read whole, in order, before one is looked at
 unfoldable pub readLayers : ℕ → List (List ℕ) → Term → Term
@@ -47,7 +47,7 @@ lookUp layers key = readLayers 0 layers (findLayers 0 layers key)
 -- 18, "36 default Struct unreadable", "37 no such term"
 abbrev pub termNumber : Term → ℕ
 termNumber (In layer place) = 0
-termNumber (Unreadable layer) = cond (eqb layer 0) 18 36
+termNumber (Unreadable layer why) = cond (eqb layer 0) (faultNumber why) 36
 termNumber Absent = 37
 
 -- r is the part of the memory s at a place: the same block, the place's offset, and so its bytes
@@ -58,5 +58,5 @@ pub record IsPart (s r : RefT (List ℕ)) (place : Place) : Type 0 where
 
 abbrev pub PartOf : RefT (List ℕ) → RefT (List ℕ) → RefT (List ℕ) → Term → Type 0
 PartOf client defaults r (In layer place) = IsPart (cond (eqb layer 0) client defaults) r place
-PartOf client defaults r (Unreadable layer) = IsPart client r nowhere
+PartOf client defaults r (Unreadable layer why) = IsPart client r nowhere
 PartOf client defaults r Absent = IsPart client r nowhere

@@ -6,6 +6,7 @@ use mathlib.Core.Bool.{cond}
 use lib.ListN.{length}
 use lib.Dec.{eqb}
 use lib.Ieee.{binary64, ofBits}
+use Rattle.wire.specs.declared.Kind.the-variants.{Other}
 use Rattle.wire.specs.declared.Field.{Field}
 use Rattle.wire.specs.declared.Reading.{Reading}
 use Rattle.wire.specs.declared.Reading.the-variants.{Read, Refused}
@@ -13,7 +14,7 @@ use Rattle.wire.specs.Fields.{fieldAt}
 use Rattle.double.specs.Double.{bitsAt}
 use Rattle.params.specs.declared.Check.{Check}
 use Rattle.params.specs.declared.Check.the-variants.{Good, Refused as Check·Refused}
-use Rattle.params.specs.Message.{placeOf}
+use Rattle.params.specs.Message.{faultNumber, placeOf}
 use Rattle.params.specs.Rules.{aloneCheck}
 use Rattle.terms.specs.declared.Value.{Value}
 use Rattle.terms.specs.declared.Value.the-variants.{Null, Number, Text, Boolean, Struct, List as Value·List, Unreadable}
@@ -27,11 +28,11 @@ heldBy s field =
     (cond (eqb (field .number) 4) (Boolean (eqb (field .value) 1))
     (cond (eqb (field .number) 5) Struct
     (cond (eqb (field .number) 6) Value·List
-    Unreadable)))))
+    (Unreadable (record { kind = Other; at = field .tag })))))))
 
 abbrev pub fromReading : List ℕ → Reading → Value
 fromReading s (Read field) = heldBy s field
-fromReading s (Refused why) = Unreadable
+fromReading s (Refused why) = Unreadable why
 
 -- what the one field of the Value from `from` to `to` holds
 unfoldable pub valueAt : List ℕ → ℕ → ℕ → Value
@@ -39,13 +40,12 @@ valueAt s from to = fromReading s (fieldAt s from to)
 
 abbrev pub ifGood : Check → Value → Value
 ifGood Good value = value
-ifGood (Check·Refused why) value = Unreadable
+ifGood (Check·Refused why) value = Unreadable why
 
 -- a Value read alone
 unfoldable pub valueOf : List ℕ → Value
 valueOf s = ifGood (aloneCheck s) (valueAt s 0 (length s))
 
--- 18
 abbrev pub valueNumber : Value → ℕ
 valueNumber Null = 0
 valueNumber (Number double bits) = 0
@@ -53,4 +53,4 @@ valueNumber (Text place) = 0
 valueNumber (Boolean truth) = 0
 valueNumber Struct = 0
 valueNumber Value·List = 0
-valueNumber Unreadable = 18
+valueNumber (Unreadable why) = faultNumber why

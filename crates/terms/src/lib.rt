@@ -4,13 +4,15 @@ ghost use mathlib.Core.List.{[], _∷_};
 ghost use Prim.Native.Nat.{_+_, _≤_};
 ghost use lib.ListN.{length};
 ghost use Rattle.terms.specs.Value.{heldBy, valueAt, valueOf, valueNumber};
-ghost use Rattle.terms.specs.Lookup.{inLayer, lookUp, termNumber, IsPart, PartOf};
+ghost use Rattle.terms.specs.Lookup.{ifReadable, inLayer, lookUp, termNumber, IsPart, PartOf};
 ghost use Rattle.terms.specs.Announced.{fromDouble, fromValue, limitIn};
 use bytes_be::Place;
 use double::Limit;
 use params::Check;
 use params::Found;
+use wire::Fault;
 use wire::Field;
+use wire::Kind;
 use wire::Reading;
 
 // What a Value holds.
@@ -23,8 +25,8 @@ pub enum Value {
     Boolean(bool),
     Struct,
     List,
-    // 18.
-    Unreadable,
+    // Why, and where.
+    Unreadable(Fault),
 }
 
 // What the field of a Value holds.
@@ -49,7 +51,10 @@ fn held_by(s: &[u8], field: Field) -> Value
         4 => Value::Boolean(field.value == 1),
         5 => Value::Struct,
         6 => Value::List,
-        _ => Value::Unreadable,
+        _ => Value::Unreadable(Fault {
+            kind: Kind::Other,
+            at: field.tag,
+        }),
     }
 }
 
@@ -59,7 +64,7 @@ fn value_at(s: &[u8], from: usize, to: usize) -> Value
 {
     match wire::field_at(s, from, to) {
         Reading::Read(field) => held_by(s, field),
-        Reading::Refused(_) => Value::Unreadable,
+        Reading::Refused(why) => Value::Unreadable(why),
     }
 }
 
@@ -67,14 +72,13 @@ fn value_at(s: &[u8], from: usize, to: usize) -> Value
 pub fn value_of(s: &[u8]) -> Value
     ensures { λ r. ⌜ r ≡ valueOf (now (s .entry)) ⌝ }
 {
-    let check = params::check_alone(s);
-    let Check::Good = check else {
-        return Value::Unreadable;
-    };
-    value_at(s, 0, s.len())
+    match params::check_alone(s) {
+        Check::Good => value_at(s, 0, s.len()),
+        Check::Refused(why) => Value::Unreadable(why),
+    }
 }
 
-// The number of 01 for a Value: 0, or 18.
+// The number of 01 for a Value: 0, or that of its fault.
 pub fn value_number(value: Value) -> u8
     ensures { λ r. ⌜ r ≡ valueNumber value ⌝ }
 {
@@ -85,7 +89,7 @@ pub fn value_number(value: Value) -> u8
         Value::Boolean(_) => 0,
         Value::Struct => 0,
         Value::List => 0,
-        Value::Unreadable => 18,
+        Value::Unreadable(why) => params::fault_number(why),
     }
 }
 
@@ -93,10 +97,23 @@ pub fn value_number(value: Value) -> u8
 pub enum Term {
     // The layer that has it, and where its Value stands there.
     In { layer: u8, place: Place },
-    // 18 for the client's parameters, 36 for another layer.
-    Unreadable(u8),
+    // The first layer that cannot be read, and why and where it cannot.
+    Unreadable { layer: u8, why: Fault },
     // 37.
     Absent,
+}
+
+// The layer that the check refuses.
+fn unreadable(layer: u8, check: Check) -> Term
+    ensures { λ r. ⌜ r ≡ ifReadable layer check Term.Absent ⌝ }
+{
+    match check {
+        Check::Good => Term::Absent,
+        Check::Refused(why) => Term::Unreadable {
+            layer: layer,
+            why: why,
+        },
+    }
 }
 
 // The term of a layer, beneath which nothing is looked at.
@@ -116,13 +133,13 @@ fn in_layer(layer: u8, found: Found) -> Term
 pub fn term_of(client: &[u8], defaults: &[u8], key: &[u8]) -> Term
     ensures { λ r. ⌜ r ≡ lookUp (now (client .entry) ∷ now (defaults .entry) ∷ []) (now (key .entry)) ⌝ }
 {
-    let first = params::check_struct(client, 0, client.len());
-    let Check::Good = first else {
-        return Term::Unreadable(0);
+    let read = params::check_struct(client, 0, client.len());
+    let Check::Good = read else {
+        return unreadable(0, read);
     };
-    let second = params::check_struct(defaults, 0, defaults.len());
-    let Check::Good = second else {
-        return Term::Unreadable(1);
+    let beneath = params::check_struct(defaults, 0, defaults.len());
+    let Check::Good = beneath else {
+        return unreadable(1, beneath);
     };
     let found = params::find(client, 0, client.len(), key);
     let Found::Nothing = found else {
@@ -137,9 +154,9 @@ pub fn term_number(term: Term) -> u8
 {
     match term {
         Term::In { layer: _, place: _ } => 0,
-        Term::Unreadable(layer) => {
+        Term::Unreadable { layer, why } => {
             if layer == 0 {
-                return 18;
+                return params::fault_number(why);
             }
             36
         }
@@ -172,7 +189,7 @@ pub fn look_up<'a>(client: &'a [u8], defaults: &'a [u8], key: &[u8], number: &mu
             }
             part_at(defaults, place)
         }
-        Term::Unreadable(_) => part_at(client, Place { at: 0, length: 0 }),
+        Term::Unreadable { layer: _, why: _ } => part_at(client, Place { at: 0, length: 0 }),
         Term::Absent => part_at(client, Place { at: 0, length: 0 }),
     }
 }
@@ -204,7 +221,7 @@ fn from_value(value: Value) -> Announced
         Value::Boolean(_) => Announced::Bad,
         Value::Struct => Announced::Bad,
         Value::List => Announced::Bad,
-        Value::Unreadable => Announced::Bad,
+        Value::Unreadable(_) => Announced::Bad,
     }
 }
 

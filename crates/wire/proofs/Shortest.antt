@@ -1,4 +1,4 @@
--- The shortest varint of a number: its groups, its length, and that reading it gives the number back. Assumes nothing.
+-- The shortest varint of a number: its digits, its length, and that reading it gives the number back. Assumes nothing.
 use Prim.Native.Nat.{ℕ, zero, suc, _+_, _-_, _*_, _/_, _%_, _^_, _≤_, _<_}
 use mathlib.Core.Path.{_≡_, refl, ap, _∙_}
 use mathlib.Core.List.{List, [], _∷_, _++_}
@@ -11,29 +11,29 @@ use borrow.Author.Tests.{le-ltb, lt-ltb, ltb-true, ltb-false}
 use Rattle.wire.specs.declared.Varint.the-variants.{Number, CutShort}
 use Rattle.wire.specs.Varint.{below, bounded, saidAt, varintAt, shortestWithin, shortestOf, varintLength}
 
--- the lowest seven bits, marked where higher ones follow, and so many of such groups
-abbrev groupOf : ℕ → ℕ
-groupOf number = cond (ltb number 128) number (number % 128 + 128)
+-- the lowest seven bits, marked where higher ones follow, and so many of such digits
+abbrev digitOf : ℕ → ℕ
+digitOf number = cond (ltb number 128) number (number % 128 + 128)
 
-abbrev pub groupsOf : ℕ → ℕ → List ℕ
-groupsOf zero number = []
-groupsOf (suc count) number = groupOf number ∷ groupsOf count (number / 128)
+abbrev pub digitsOf : ℕ → ℕ → List ℕ
+digitsOf zero number = []
+digitsOf (suc count) number = digitOf number ∷ digitsOf count (number / 128)
 
-take-groups : (left number : ℕ) → take (length (shortestWithin left number)) (groupsOf left number) ≡ shortestWithin left number
+take-digits : (left number : ℕ) → take (length (shortestWithin left number)) (digitsOf left number) ≡ shortestWithin left number
 unfolding shortestWithin
-take-groups zero number = refl
-take-groups (suc left) number = go (ltb number 128) (take-groups left (number / 128))
+take-digits zero number = refl
+take-digits (suc left) number = go (ltb number 128) (take-digits left (number / 128))
   where
-    go : (t : Bool) → take (length (shortestWithin left (number / 128))) (groupsOf left (number / 128)) ≡ shortestWithin left (number / 128)
-        → take (length (cond t (number ∷ []) ((number % 128 + 128) ∷ shortestWithin left (number / 128)))) (cond t number (number % 128 + 128) ∷ groupsOf left (number / 128))
+    go : (t : Bool) → take (length (shortestWithin left (number / 128))) (digitsOf left (number / 128)) ≡ shortestWithin left (number / 128)
+        → take (length (cond t (number ∷ []) ((number % 128 + 128) ∷ shortestWithin left (number / 128)))) (cond t number (number % 128 + 128) ∷ digitsOf left (number / 128))
         ≡ cond t (number ∷ []) ((number % 128 + 128) ∷ shortestWithin left (number / 128))
     go true e = refl
     go false e = ap (λ (l : List ℕ). (number % 128 + 128) ∷ l) e
 
--- the first groups are the shortest varint
-pub groups-shortest : (number : ℕ) → take (varintLength number) (groupsOf 10 number) ≡ shortestOf number
+-- the first digits are the shortest varint
+pub digits-shortest : (number : ℕ) → take (varintLength number) (digitsOf 10 number) ≡ shortestOf number
 unfolding varintLength shortestOf
-groups-shortest number = take-groups 10 number
+digits-shortest number = take-digits 10 number
 
 length-at-most : (left number : ℕ) → length (shortestWithin left number) ≤ left
 unfolding shortestWithin
@@ -49,9 +49,9 @@ pub varint-at-most : (number : ℕ) → varintLength number ≤ 10
 unfolding varintLength shortestOf
 varint-at-most number = length-at-most 10 number
 
--- ---- the count of the groups, one by one
+-- ---- the count of the digits, one by one
 
--- `count` groups are counted, the last of them of what is left of the number, for which `room` bytes are enough
+-- `count` digits are counted, the last of them of what is left of the number, for which `room` bytes are enough
 pub record Counted (number left count : ℕ) : Type 0 where
   pub room : ℕ
   pub some : 0 < room

@@ -1,5 +1,5 @@
 -- "field 0, tags above 2^32-1, other wire types, a varint over 10 bytes or above 2^64-1, .. a length past the end": what is refused at a
--- field before its number is looked at, with the place of its tag.
+-- field of any message, with the place of its tag.
 use Prim.Native.Nat.{ℕ, zero, suc, _+_, _-_, _/_, _%_}
 use mathlib.Core.List.{List, [], _∷_}
 use mathlib.Core.Bool.{cond, _&&_}

@@ -8,17 +8,21 @@ ghost use Rattle.bytes_be.specs.Part.{putAt};
 ghost use Rattle.wire.specs.Varint.{bounded, saidAt, varintAt, varintLength, shortestOf};
 ghost use Rattle.wire.specs.Fields.{fault, sized, payloadAt, fieldAt};
 
-// Why a message cannot be read, in the order in which the tests run at a field.
+// Why a message cannot be read.
 pub enum Kind {
     // The message ends within it.
     CutShort,
     // Over ten bytes or above 2^64 - 1, or a tag of field 0 or above 2^32 - 1.
     BadVarint,
+    // Not that of its field, or none of 0, 1, 2 and 5.
     WireType,
     // A field, or a key of one Struct.
     Repeated,
+    // Not UTF-8.
     BadText,
+    // A field or a value that is not allowed, or at the end of a message something that it lacks.
     Other,
+    // A ninth level.
     TooDeep,
 }
 
@@ -174,7 +178,7 @@ pub fn field_at(s: &[u8], at: usize, end: usize) -> Reading
 }
 
 // A number's lowest seven bits, marked where higher ones follow.
-fn group_of(number: u64) -> u8
+fn digit_of(number: u64) -> u8
     ensures { λ r. ⌜ r ≡ cond (ltb number 128) number (number % 128 + 128) ⌝ }
 {
     if number < 128 {
@@ -184,10 +188,10 @@ fn group_of(number: u64) -> u8
 }
 
 // The shortest varint of a number, and zeros behind it.
-fn groups_of(number: u64) -> [u8; 10]
+fn digits_of(number: u64) -> [u8; 10]
     ensures { λ r. ⌜ take (varintLength number) r ≡ shortestOf number ⌝ }
 {
-    // The number without its lowest group, without its lowest two, and so on.
+    // The number without its lowest digit, without its lowest two, and so on.
     let b = number / 128;
     let c = b / 128;
     let d = c / 128;
@@ -198,16 +202,16 @@ fn groups_of(number: u64) -> [u8; 10]
     let i = h / 128;
     let j = i / 128;
     [
-        group_of(number),
-        group_of(b),
-        group_of(c),
-        group_of(d),
-        group_of(e),
-        group_of(f),
-        group_of(g),
-        group_of(h),
-        group_of(i),
-        group_of(j),
+        digit_of(number),
+        digit_of(b),
+        digit_of(c),
+        digit_of(d),
+        digit_of(e),
+        digit_of(f),
+        digit_of(g),
+        digit_of(h),
+        digit_of(i),
+        digit_of(j),
     ]
 }
 
@@ -228,7 +232,7 @@ pub fn varint_length(number: u64) -> usize
 pub fn store_varint(out: &mut [u8], at: usize, number: u64)
     ensures { λ _. ⌜ now (out .exit) ≡ putAt (now (out .entry)) at (shortestOf number) ⌝ }
 {
-    let groups = groups_of(number);
+    let digits = digits_of(number);
     let length = varint_length(number);
-    bytes_be::copy_at(out, at, &groups[..length]);
+    bytes_be::copy_at(out, at, &digits[..length]);
 }

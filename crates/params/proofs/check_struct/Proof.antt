@@ -4,12 +4,12 @@ use borrow.Author.Needs.{needs}
 use Rattle.params.proofs.check_struct.Statement.{statement}
 use Rattle.params.proofs.check_struct.Tie as tie
 
-check-many-requires : tie.Need-check-many-requires
-check-many-requires c κs = search needs
+check-items-requires : tie.Need-check-items-requires
+check-items-requires c κs = search needs
 
 returns : tie.Need-returns
 unfolding structCheck
-returns c = c .check-many .ensures
+returns c = c .check-items .ensures
 
 pub check-struct-spec : {M : Type 1} → statement M
-check-struct-spec = tie.close (tie.spec check-many-requires returns)
+check-struct-spec = tie.close (tie.spec check-items-requires returns)

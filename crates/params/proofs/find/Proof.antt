@@ -6,7 +6,7 @@ use Rattle.wire.specs.Fields.{fieldsOf}
 use Rattle.wire.proofs.Readings.{less-left}
 use Rattle.params.specs.declared.Found.the-variants.{At, Nothing}
 use Rattle.params.specs.Message.{firstOf}
-use Rattle.params.specs.Keys.{hasKey, valueOf, valueFound, findIn}
+use Rattle.params.specs.Keys.{hasKey, valuePlace, valueFound, findIn}
 use Rattle.params.proofs.Finds.{search-done, search-refused, search-here, search-on}
 use Rattle.params.proofs.find.Statement.{statement}
 use Rattle.params.proofs.find.Tie as tie
@@ -40,7 +40,7 @@ place-in-requires : tie.Need-place-in-requires Inv-loop μ-loop
 place-in-requires c κs = search needs
 
 returns-2 : tie.Need-returns-2 Inv-loop μ-loop
-unfolding valueOf
+unfolding valuePlace
 returns-2 c = ap At (c .place-in .ensures) ∙ search-here _ _ _ _ _ _ _ (c .before .before .before .before .before .before .before .before .loop .inv) (c .before .before .before .before .before .before .before .loop-test .taken) _ (c .before .before .before .before .before .before .field-at .ensures) _ (c .before .before .before .before .field .given .1) (sym (c .before .before .has-key .ensures) ∙ c .before .if1 .taken)
 
 loop-less : tie.Need-loop-less Inv-loop μ-loop

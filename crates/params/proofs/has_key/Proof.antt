@@ -6,7 +6,7 @@ use native.Mathlib.Omega.{arith}
 use borrow.Author.Needs.{needs}
 use Rattle.bytes_be.specs.Part.{partAt, same}
 use Rattle.bytes_be.specs.declared.Place.{Place}
-use Rattle.params.specs.Keys.{keyOf, keyIn}
+use Rattle.params.specs.Keys.{keyOf}
 use Rattle.params.proofs.Finds.{lies}
 use borrow.Author.Needs.{needs}
 use Rattle.params.proofs.has_key.Statement.{statement}
@@ -31,7 +31,7 @@ same-requires : tie.Need-same-requires
 same-requires c κs = search needs
 
 returns : tie.Need-returns
-unfolding keyIn keyOf
+unfolding keyOf
 returns c =
     let place = c .before .before .before .place-in .result in
     let a = c .before .before .before .before .before .before .args in

@@ -55,7 +55,7 @@ returns-3 : tie.Need-returns-3
 returns-3 c =
     let a = c .before .before .before .before .before .before .before .before .args in
     let is = c .before .before .before .before .term-of .ensures in
-    (part-of (a .client) (a .defaults) _ _ is (Unreadable _) (c .before .enum-told .given .1) _ (c .part-at3 .ensures), c .before .before .before .term-number .ensures ∙ ap termNumber is)
+    (part-of (a .client) (a .defaults) _ _ is (Unreadable _ _) (c .before .enum-told .given .1) _ (c .part-at3 .ensures), c .before .before .before .term-number .ensures ∙ ap termNumber is)
 
 returns-4 : tie.Need-returns-4
 returns-4 c =

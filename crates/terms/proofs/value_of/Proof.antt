@@ -1,32 +1,42 @@
--- `terms::value_of` meets its contract: what is not readable holds nothing. Assumes nothing.
+-- `terms::value_of` meets its contract: what is not readable holds nothing but its fault. Assumes nothing.
 use mathlib.Core.Path.{sym, _∙_}
 use borrow.Author.Needs.{needs}
 use Rattle.terms.specs.Value.{valueOf}
 use borrow.Author.Needs.{needs}
 use Rattle.terms.proofs.value_of.Statement.{statement}
 use Rattle.terms.proofs.value_of.Tie as tie
+use Rattle.terms.proofs.value_of.Reads as reads
+use Rattle.terms.proofs.value_of.Lts as lts
+use Rattle.params.proofs.check_alone.Reads as check-alone-reads
+use Rattle.terms.proofs.value_at.Reads as value-at-reads
 
+-- src/lib.rt:75:11
 check-alone-requires : tie.Need-check-alone-requires
 check-alone-requires c κs = search needs
 
+-- src/lib.rt:76:39
 enum-told : tie.Need-enum-told
 enum-told c = search needs
 
-enum-told-2 : tie.Need-enum-told-2
-enum-told-2 c = search needs
-
-returns : tie.Need-returns
-unfolding valueOf
-returns c = rw (← c .before .before .check-alone .ensures, c .enum-told2 .given .1)
-
+-- src/lib.rt:76:24
 value-at-requires : tie.Need-value-at-requires
 value-at-requires c κs = search needs
 
+-- src/lib.rt:77:24
+enum-known-why : tie.Need-enum-known-why
+enum-known-why c = search needs
+
+-- src/lib.rt:72:1
+returns : tie.Need-returns
+unfolding valueOf
+returns c = c .value-at .ensures ∙ sym (rw (← c .before .before .before .check-alone .ensures, c .before .enum-told .given .1))
+
+-- src/lib.rt:72:1
 returns-2 : tie.Need-returns-2
 unfolding valueOf
-returns-2 c = c .value-at .ensures ∙ sym (rw (← c .before .before .before .check-alone .ensures, c .before .enum-told .given .1))
+returns-2 c = sym (rw (← c .before .before .before .check-alone .ensures, c .before .why .given .1))
 
 pub value-of-spec : {M : Type 1} → statement M
 value-of-spec =
     tie.close
-    (tie.spec check-alone-requires enum-told enum-told-2 returns value-at-requires returns-2)
+    (tie.spec check-alone-requires enum-told value-at-requires enum-known-why returns returns-2)

@@ -1,4 +1,4 @@
--- `wire::varint_length` meets its contract: the groups that were counted and those still to come are all. Assumes nothing.
+-- `wire::varint_length` meets its contract: the digits that were counted and those still to come are all. Assumes nothing.
 use borrow.Author.Needs.{needs}
 use Rattle.wire.proofs.Shortest.{Counted, count-first, count-last, count-next}
 use Rattle.wire.proofs.varint_length.Statement.{statement}

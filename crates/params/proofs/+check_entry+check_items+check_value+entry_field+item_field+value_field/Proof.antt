@@ -8,28 +8,28 @@ use borrow.Author.Tests.{lt-ltb, le-ltb, eq-eqb, ne-eqb}
 use Rattle.wire.specs.Fields.{fieldsOf}
 use Rattle.wire.proofs.Readings.{field-within, less-left}
 use Rattle.params.specs.Message.{walk}
-use Rattle.params.specs.Rules.{valueField, valueMove, valueDone, valueCheck, entryField, entryMove, entryDone, entryCheck, manyField, manyJudge, manyMove, manyDone, manyCheck, inside}
+use Rattle.params.specs.Rules.{valueField, valueMove, valueDone, valueCheck, entryField, entryMove, entryDone, entryCheck, itemField, itemJudge, itemMove, itemDone, itemsCheck, inside}
 use Rattle.params.proofs.Walks.{walk-done, walk-refused, walk-stopped, walk-on, inside-none, inside-more, stopped, passed}
 use borrow.Fn.Kinds.{In}
 use borrow.Fn.PlainCycle.{Measures, is, falls, and}
 use Rattle.params.proofs.check_entry.Reads as check-entry
 use Rattle.params.proofs.check_entry.Kinds as check-entry-kinds
-use Rattle.params.proofs.+check_entry+check_many+check_value+entry_field+many_field+value_field.Lts-check_entry as check-entry-lts
-use Rattle.params.proofs.check_many.Reads as check-many
-use Rattle.params.proofs.check_many.Kinds as check-many-kinds
-use Rattle.params.proofs.+check_entry+check_many+check_value+entry_field+many_field+value_field.Lts-check_many as check-many-lts
+use Rattle.params.proofs.+check_entry+check_items+check_value+entry_field+item_field+value_field.Lts-check_entry as check-entry-lts
+use Rattle.params.proofs.check_items.Reads as check-items
+use Rattle.params.proofs.check_items.Kinds as check-items-kinds
+use Rattle.params.proofs.+check_entry+check_items+check_value+entry_field+item_field+value_field.Lts-check_items as check-items-lts
 use Rattle.params.proofs.check_value.Reads as check-value
 use Rattle.params.proofs.check_value.Kinds as check-value-kinds
-use Rattle.params.proofs.+check_entry+check_many+check_value+entry_field+many_field+value_field.Lts-check_value as check-value-lts
+use Rattle.params.proofs.+check_entry+check_items+check_value+entry_field+item_field+value_field.Lts-check_value as check-value-lts
 use Rattle.params.proofs.entry_field.Reads as entry-field
 use Rattle.params.proofs.entry_field.Kinds as entry-field-kinds
-use Rattle.params.proofs.+check_entry+check_many+check_value+entry_field+many_field+value_field.Lts-entry_field as entry-field-lts
-use Rattle.params.proofs.many_field.Reads as many-field
-use Rattle.params.proofs.many_field.Kinds as many-field-kinds
-use Rattle.params.proofs.+check_entry+check_many+check_value+entry_field+many_field+value_field.Lts-many_field as many-field-lts
+use Rattle.params.proofs.+check_entry+check_items+check_value+entry_field+item_field+value_field.Lts-entry_field as entry-field-lts
+use Rattle.params.proofs.item_field.Reads as item-field
+use Rattle.params.proofs.item_field.Kinds as item-field-kinds
+use Rattle.params.proofs.+check_entry+check_items+check_value+entry_field+item_field+value_field.Lts-item_field as item-field-lts
 use Rattle.params.proofs.value_field.Reads as value-field
 use Rattle.params.proofs.value_field.Kinds as value-field-kinds
-use Rattle.params.proofs.+check_entry+check_many+check_value+entry_field+many_field+value_field.Lts-value_field as value-field-lts
+use Rattle.params.proofs.+check_entry+check_items+check_value+entry_field+item_field+value_field.Lts-value_field as value-field-lts
 use Rattle.params.proofs.bytes_rule.Reads as bytes-rule-reads
 use Rattle.params.proofs.entry_done.Reads as entry-done-reads
 use Rattle.params.proofs.fault_of.Reads as fault-of-reads
@@ -38,18 +38,18 @@ use Rattle.params.proofs.lacking.Reads as lacking-reads
 use Rattle.params.proofs.seen_of.Reads as seen-of-reads
 use Rattle.params.proofs.value_rule.Reads as value-rule-reads
 use Rattle.wire.proofs.field_at.Reads as field-at-reads
-use Rattle.params.proofs.+check_entry+check_many+check_value+entry_field+many_field+value_field.{
+use Rattle.params.proofs.+check_entry+check_items+check_value+entry_field+item_field+value_field.{
   statement,
 }
-use Rattle.params.proofs.+check_entry+check_many+check_value+entry_field+many_field+value_field.Tie.{
+use Rattle.params.proofs.+check_entry+check_items+check_value+entry_field+item_field+value_field.Tie.{
   close,
 }
 
 abbrev μ-check-entry : Measures 1 check-entry-kinds.ps ℕ
 μ-check-entry κs a = 8 * (a .1 .1 .1 .1 .1 .0) + 3
 
-abbrev μ-check-many : Measures 1 check-many-kinds.ps ℕ
-μ-check-many κs a = 8 * (a .1 .1 .1 .0) + 5
+abbrev μ-check-items : Measures 1 check-items-kinds.ps ℕ
+μ-check-items κs a = 8 * (a .1 .1 .1 .0) + 5
 
 abbrev μ-check-value : Measures 1 check-value-kinds.ps ℕ
 μ-check-value κs a = 8 * (a .1 .1 .1 .0) + 1
@@ -57,8 +57,8 @@ abbrev μ-check-value : Measures 1 check-value-kinds.ps ℕ
 abbrev μ-entry-field : Measures 1 entry-field-kinds.ps ℕ
 μ-entry-field κs a = 8 * (a .1 .1 .1 .1 .1 .1 .0) + 2
 
-abbrev μ-many-field : Measures 1 many-field-kinds.ps ℕ
-μ-many-field κs a = 8 * (a .1 .1 .1 .0) + 4
+abbrev μ-item-field : Measures 1 item-field-kinds.ps ℕ
+μ-item-field κs a = 8 * (a .1 .1 .1 .0) + 4
 
 abbrev μ-value-field : Measures 1 value-field-kinds.ps ℕ
 μ-value-field κs a = 8 * (a .1 .1 .1 .0)
@@ -71,13 +71,13 @@ abbrev check-entry-below : ℕ → In 1 check-entry-kinds.ps
 check-entry-below t =
     and 1 check-entry-kinds.ps (falls 1 check-entry-kinds.ps _<_ μ-check-entry t) check-entry.Pre
 
-abbrev check-many-at : ℕ → In 1 check-many-kinds.ps
-check-many-at t =
-    and 1 check-many-kinds.ps (is 1 check-many-kinds.ps μ-check-many t) check-many.Pre
+abbrev check-items-at : ℕ → In 1 check-items-kinds.ps
+check-items-at t =
+    and 1 check-items-kinds.ps (is 1 check-items-kinds.ps μ-check-items t) check-items.Pre
 
-abbrev check-many-below : ℕ → In 1 check-many-kinds.ps
-check-many-below t =
-    and 1 check-many-kinds.ps (falls 1 check-many-kinds.ps _<_ μ-check-many t) check-many.Pre
+abbrev check-items-below : ℕ → In 1 check-items-kinds.ps
+check-items-below t =
+    and 1 check-items-kinds.ps (falls 1 check-items-kinds.ps _<_ μ-check-items t) check-items.Pre
 
 abbrev check-value-at : ℕ → In 1 check-value-kinds.ps
 check-value-at t =
@@ -95,13 +95,13 @@ abbrev entry-field-below : ℕ → In 1 entry-field-kinds.ps
 entry-field-below t =
     and 1 entry-field-kinds.ps (falls 1 entry-field-kinds.ps _<_ μ-entry-field t) entry-field.Pre
 
-abbrev many-field-at : ℕ → In 1 many-field-kinds.ps
-many-field-at t =
-    and 1 many-field-kinds.ps (is 1 many-field-kinds.ps μ-many-field t) many-field.Pre
+abbrev item-field-at : ℕ → In 1 item-field-kinds.ps
+item-field-at t =
+    and 1 item-field-kinds.ps (is 1 item-field-kinds.ps μ-item-field t) item-field.Pre
 
-abbrev many-field-below : ℕ → In 1 many-field-kinds.ps
-many-field-below t =
-    and 1 many-field-kinds.ps (falls 1 many-field-kinds.ps _<_ μ-many-field t) many-field.Pre
+abbrev item-field-below : ℕ → In 1 item-field-kinds.ps
+item-field-below t =
+    and 1 item-field-kinds.ps (falls 1 item-field-kinds.ps _<_ μ-item-field t) item-field.Pre
 
 abbrev value-field-at : ℕ → In 1 value-field-kinds.ps
 value-field-at t =
@@ -112,10 +112,10 @@ value-field-below t =
     and 1 value-field-kinds.ps (falls 1 value-field-kinds.ps _<_ μ-value-field t) value-field.Pre
 
 abbrev calls-value-field : ℕ → value-field-lts.Claims
-calls-value-field t = (value-rule-reads.Asked, value-rule-reads.Learnt, fault-of-reads.Asked, fault-of-reads.Learnt, check-many-below t, check-many.Post)
+calls-value-field t = (value-rule-reads.Asked, value-rule-reads.Learnt, fault-of-reads.Asked, fault-of-reads.Learnt, check-items-below t, check-items.Post)
 
-abbrev calls-many-field : ℕ → many-field-lts.Claims
-calls-many-field t = (bytes-rule-reads.Asked, bytes-rule-reads.Learnt, check-value-below t, check-value.Post, check-entry-below t, check-entry.Post)
+abbrev calls-item-field : ℕ → item-field-lts.Claims
+calls-item-field t = (bytes-rule-reads.Asked, bytes-rule-reads.Learnt, check-value-below t, check-value.Post, check-entry-below t, check-entry.Post)
 
 abbrev calls-entry-field : ℕ → entry-field-lts.Claims
 calls-entry-field t = (seen-of-reads.Asked, seen-of-reads.Learnt, bytes-rule-reads.Asked, bytes-rule-reads.Learnt, key-rule-reads.Asked, key-rule-reads.Learnt, check-value-below t, check-value.Post)
@@ -123,8 +123,8 @@ calls-entry-field t = (seen-of-reads.Asked, seen-of-reads.Learnt, bytes-rule-rea
 abbrev calls-check-value : ℕ → check-value-lts.Claims
 calls-check-value t = (field-at-reads.Asked, field-at-reads.Learnt, value-field-below t, value-field.Post, lacking-reads.Asked, lacking-reads.Learnt)
 
-abbrev calls-check-many : ℕ → check-many-lts.Claims
-calls-check-many t = (field-at-reads.Asked, field-at-reads.Learnt, many-field-below t, many-field.Post)
+abbrev calls-check-items : ℕ → check-items-lts.Claims
+calls-check-items t = (field-at-reads.Asked, field-at-reads.Learnt, item-field-below t, item-field.Post)
 
 abbrev calls-check-entry : ℕ → check-entry-lts.Claims
 calls-check-entry t = (field-at-reads.Asked, field-at-reads.Learnt, entry-field-below t, entry-field.Post, entry-done-reads.Asked, entry-done-reads.Learnt)
@@ -180,49 +180,49 @@ check-entry-entry-done-requires t c κs = search needs
 check-entry-returns-3 : (t : ℕ) → check-entry-lts.Need-returns-3 (calls-check-entry t) (check-entry-at t) check-entry.Post check-entry-Inv-loop check-entry-μ-loop
 check-entry-returns-3 t c = c .entry-done .ensures ∙ walk-done _ _ _ _ _ _ _ _ (c .before .before .loop .inv) (c .before .loop-test .left)
 
-abbrev check-many-Inv-loop : check-many-lts.InvT-loop
-check-many-Inv-loop s from to levels list at₀ at =
-    manyCheck (inside levels s) s list from to ≡ walk (manyJudge (inside levels s) s list from) manyMove manyDone (fieldsOf s at to) tt
+abbrev check-items-Inv-loop : check-items-lts.InvT-loop
+check-items-Inv-loop s from to levels list at₀ at =
+    itemsCheck (inside levels s) s list from to ≡ walk (itemJudge (inside levels s) s list from) itemMove itemDone (fieldsOf s at to) tt
 
-abbrev check-many-μ-loop : check-many-lts.MeasureT-loop
-check-many-μ-loop s from to levels list at₀ at = to - at
+abbrev check-items-μ-loop : check-items-lts.MeasureT-loop
+check-items-μ-loop s from to levels list at₀ at = to - at
 
-check-many-loop-holds : (t : ℕ) → check-many-lts.Need-loop-holds (calls-check-many t) (check-many-at t) check-many.Post check-many-Inv-loop check-many-μ-loop
-unfolding manyCheck
-check-many-loop-holds t c = refl
+check-items-loop-holds : (t : ℕ) → check-items-lts.Need-loop-holds (calls-check-items t) (check-items-at t) check-items.Post check-items-Inv-loop check-items-μ-loop
+unfolding itemsCheck
+check-items-loop-holds t c = refl
 
-check-many-field-at-requires : (t : ℕ) → check-many-lts.Need-field-at-requires (calls-check-many t) (check-many-at t) check-many.Post check-many-Inv-loop check-many-μ-loop
-check-many-field-at-requires t c κs = search needs
+check-items-field-at-requires : (t : ℕ) → check-items-lts.Need-field-at-requires (calls-check-items t) (check-items-at t) check-items.Post check-items-Inv-loop check-items-μ-loop
+check-items-field-at-requires t c κs = search needs
 
-check-many-enum-known-why : (t : ℕ) → check-many-lts.Need-enum-known-why (calls-check-many t) (check-many-at t) check-many.Post check-many-Inv-loop check-many-μ-loop
-check-many-enum-known-why t c = search needs
+check-items-enum-known-why : (t : ℕ) → check-items-lts.Need-enum-known-why (calls-check-items t) (check-items-at t) check-items.Post check-items-Inv-loop check-items-μ-loop
+check-items-enum-known-why t c = search needs
 
-check-many-returns : (t : ℕ) → check-many-lts.Need-returns (calls-check-many t) (check-many-at t) check-many.Post check-many-Inv-loop check-many-μ-loop
-check-many-returns t c = walk-refused _ _ _ _ _ _ _ _ (c .before .before .before .before .before .loop .inv) (c .before .before .before .before .loop-test .taken) _ (c .before .before .before .field-at .ensures) _ (c .before .why .given .1)
+check-items-returns : (t : ℕ) → check-items-lts.Need-returns (calls-check-items t) (check-items-at t) check-items.Post check-items-Inv-loop check-items-μ-loop
+check-items-returns t c = walk-refused _ _ _ _ _ _ _ _ (c .before .before .before .before .before .loop .inv) (c .before .before .before .before .loop-test .taken) _ (c .before .before .before .field-at .ensures) _ (c .before .why .given .1)
 
-check-many-enum-known-field : (t : ℕ) → check-many-lts.Need-enum-known-field (calls-check-many t) (check-many-at t) check-many.Post check-many-Inv-loop check-many-μ-loop
-check-many-enum-known-field t c = search needs
+check-items-enum-known-field : (t : ℕ) → check-items-lts.Need-enum-known-field (calls-check-items t) (check-items-at t) check-items.Post check-items-Inv-loop check-items-μ-loop
+check-items-enum-known-field t c = search needs
 
-check-many-many-field-requires : (t : ℕ) → check-many-lts.Need-many-field-requires (calls-check-many t) (check-many-at t) check-many.Post check-many-Inv-loop check-many-μ-loop
-check-many-many-field-requires t c κs = search needs
+check-items-item-field-requires : (t : ℕ) → check-items-lts.Need-item-field-requires (calls-check-items t) (check-items-at t) check-items.Post check-items-Inv-loop check-items-μ-loop
+check-items-item-field-requires t c κs = search needs
 
-check-many-enum-told : (t : ℕ) → check-many-lts.Need-enum-told (calls-check-many t) (check-many-at t) check-many.Post check-many-Inv-loop check-many-μ-loop
-check-many-enum-told t c = search needs
+check-items-enum-told : (t : ℕ) → check-items-lts.Need-enum-told (calls-check-items t) (check-items-at t) check-items.Post check-items-Inv-loop check-items-μ-loop
+check-items-enum-told t c = search needs
 
-check-many-enum-told-2 : (t : ℕ) → check-many-lts.Need-enum-told-2 (calls-check-many t) (check-many-at t) check-many.Post check-many-Inv-loop check-many-μ-loop
-check-many-enum-told-2 t c = search needs
+check-items-enum-told-2 : (t : ℕ) → check-items-lts.Need-enum-told-2 (calls-check-items t) (check-items-at t) check-items.Post check-items-Inv-loop check-items-μ-loop
+check-items-enum-told-2 t c = search needs
 
-check-many-returns-2 : (t : ℕ) → check-many-lts.Need-returns-2 (calls-check-many t) (check-many-at t) check-many.Post check-many-Inv-loop check-many-μ-loop
-check-many-returns-2 t c = walk-stopped _ _ _ _ _ _ _ _ (c .before .before .before .before .before .before .before .before .loop .inv) (c .before .before .before .before .before .before .before .loop-test .taken) _ (c .before .before .before .before .before .before .field-at .ensures) _ (c .before .before .before .before .field .given .1) _ (c .before .before .many-field .ensures) _ (c .enum-told2 .given .1)
+check-items-returns-2 : (t : ℕ) → check-items-lts.Need-returns-2 (calls-check-items t) (check-items-at t) check-items.Post check-items-Inv-loop check-items-μ-loop
+check-items-returns-2 t c = walk-stopped _ _ _ _ _ _ _ _ (c .before .before .before .before .before .before .before .before .loop .inv) (c .before .before .before .before .before .before .before .loop-test .taken) _ (c .before .before .before .before .before .before .field-at .ensures) _ (c .before .before .before .before .field .given .1) _ (c .before .before .item-field .ensures) _ (c .enum-told2 .given .1)
 
-check-many-loop-less : (t : ℕ) → check-many-lts.Need-loop-less (calls-check-many t) (check-many-at t) check-many.Post check-many-Inv-loop check-many-μ-loop
-check-many-loop-less t c = less-left _ _ _ _ _ (c .before .before .before .before .before .before .field-at .ensures) (c .before .before .before .before .field .given .1) (c .before .before .before .before .before .before .before .loop-test .taken)
+check-items-loop-less : (t : ℕ) → check-items-lts.Need-loop-less (calls-check-items t) (check-items-at t) check-items.Post check-items-Inv-loop check-items-μ-loop
+check-items-loop-less t c = less-left _ _ _ _ _ (c .before .before .before .before .before .before .field-at .ensures) (c .before .before .before .before .field .given .1) (c .before .before .before .before .before .before .before .loop-test .taken)
 
-check-many-loop-again : (t : ℕ) → check-many-lts.Need-loop-again (calls-check-many t) (check-many-at t) check-many.Post check-many-Inv-loop check-many-μ-loop
-check-many-loop-again t c = walk-on _ _ _ _ _ _ _ _ (c .before .before .before .before .before .before .before .before .loop .inv) (c .before .before .before .before .before .before .before .loop-test .taken) _ (c .before .before .before .before .before .before .field-at .ensures) _ (c .before .before .before .before .field .given .1) _ (c .before .before .many-field .ensures) (c .enum-told .given .1)
+check-items-loop-again : (t : ℕ) → check-items-lts.Need-loop-again (calls-check-items t) (check-items-at t) check-items.Post check-items-Inv-loop check-items-μ-loop
+check-items-loop-again t c = walk-on _ _ _ _ _ _ _ _ (c .before .before .before .before .before .before .before .before .loop .inv) (c .before .before .before .before .before .before .before .loop-test .taken) _ (c .before .before .before .before .before .before .field-at .ensures) _ (c .before .before .before .before .field .given .1) _ (c .before .before .item-field .ensures) (c .enum-told .given .1)
 
-check-many-returns-3 : (t : ℕ) → check-many-lts.Need-returns-3 (calls-check-many t) (check-many-at t) check-many.Post check-many-Inv-loop check-many-μ-loop
-check-many-returns-3 t c = walk-done _ _ _ _ _ _ _ _ (c .before .loop .inv) (c .loop-test .left)
+check-items-returns-3 : (t : ℕ) → check-items-lts.Need-returns-3 (calls-check-items t) (check-items-at t) check-items.Post check-items-Inv-loop check-items-μ-loop
+check-items-returns-3 t c = walk-done _ _ _ _ _ _ _ _ (c .before .loop .inv) (c .loop-test .left)
 
 abbrev check-value-Inv-loop : check-value-lts.InvT-loop
 check-value-Inv-loop s from to levels at₀ held₀ at held =
@@ -304,32 +304,32 @@ entry-field-returns-3 : (t : ℕ) → entry-field-lts.Need-returns-3 (calls-entr
 unfolding entryField
 entry-field-returns-3 t c = passed _ _ _ (rw (c .before .before .before .before .before .before .seen-of .ensures) at (c .before .before .before .before .before .bytes-rule .ensures)) (c .before .before .before .enum-told .given .1) (simp (ne-eqb _ _ (c .before .if1 .left)) (c .check-value .ensures))
 
-many-field-bytes-rule-requires : (t : ℕ) → many-field-lts.Need-bytes-rule-requires (calls-many-field t) (many-field-at t) many-field.Post
-many-field-bytes-rule-requires t c κs = search needs
+item-field-bytes-rule-requires : (t : ℕ) → item-field-lts.Need-bytes-rule-requires (calls-item-field t) (item-field-at t) item-field.Post
+item-field-bytes-rule-requires t c κs = search needs
 
-many-field-enum-told : (t : ℕ) → many-field-lts.Need-enum-told (calls-many-field t) (many-field-at t) many-field.Post
-many-field-enum-told t c = search needs
+item-field-enum-told : (t : ℕ) → item-field-lts.Need-enum-told (calls-item-field t) (item-field-at t) item-field.Post
+item-field-enum-told t c = search needs
 
-many-field-enum-told-2 : (t : ℕ) → many-field-lts.Need-enum-told-2 (calls-many-field t) (many-field-at t) many-field.Post
-many-field-enum-told-2 t c = search needs
+item-field-enum-told-2 : (t : ℕ) → item-field-lts.Need-enum-told-2 (calls-item-field t) (item-field-at t) item-field.Post
+item-field-enum-told-2 t c = search needs
 
-many-field-returns : (t : ℕ) → many-field-lts.Need-returns (calls-many-field t) (many-field-at t) many-field.Post
-unfolding manyField
-many-field-returns t c = stopped _ _ _ (c .before .before .bytes-rule .ensures) _ (c .enum-told2 .given .1)
+item-field-returns : (t : ℕ) → item-field-lts.Need-returns (calls-item-field t) (item-field-at t) item-field.Post
+unfolding itemField
+item-field-returns t c = stopped _ _ _ (c .before .before .bytes-rule .ensures) _ (c .enum-told2 .given .1)
 
-many-field-check-value-requires : (t : ℕ) → many-field-lts.Need-check-value-requires (calls-many-field t) (many-field-at t) many-field.Post
-many-field-check-value-requires t c κs = search needs
+item-field-check-value-requires : (t : ℕ) → item-field-lts.Need-check-value-requires (calls-item-field t) (item-field-at t) item-field.Post
+item-field-check-value-requires t c κs = search needs
 
-many-field-returns-2 : (t : ℕ) → many-field-lts.Need-returns-2 (calls-many-field t) (many-field-at t) many-field.Post
-unfolding manyField
-many-field-returns-2 t c = passed _ _ _ (c .before .before .before .before .bytes-rule .ensures) (c .before .before .enum-told .given .1) (simp (c .before .if1 .taken) (c .check-value .ensures))
+item-field-returns-2 : (t : ℕ) → item-field-lts.Need-returns-2 (calls-item-field t) (item-field-at t) item-field.Post
+unfolding itemField
+item-field-returns-2 t c = passed _ _ _ (c .before .before .before .before .bytes-rule .ensures) (c .before .before .enum-told .given .1) (simp (c .before .if1 .taken) (c .check-value .ensures))
 
-many-field-check-entry-requires : (t : ℕ) → many-field-lts.Need-check-entry-requires (calls-many-field t) (many-field-at t) many-field.Post
-many-field-check-entry-requires t c κs = search needs
+item-field-check-entry-requires : (t : ℕ) → item-field-lts.Need-check-entry-requires (calls-item-field t) (item-field-at t) item-field.Post
+item-field-check-entry-requires t c κs = search needs
 
-many-field-returns-3 : (t : ℕ) → many-field-lts.Need-returns-3 (calls-many-field t) (many-field-at t) many-field.Post
-unfolding manyField
-many-field-returns-3 t c = passed _ _ _ (c .before .before .before .before .bytes-rule .ensures) (c .before .before .enum-told .given .1) (simp (c .before .if1 .left) (c .check-entry .ensures))
+item-field-returns-3 : (t : ℕ) → item-field-lts.Need-returns-3 (calls-item-field t) (item-field-at t) item-field.Post
+unfolding itemField
+item-field-returns-3 t c = passed _ _ _ (c .before .before .before .before .bytes-rule .ensures) (c .before .before .enum-told .given .1) (simp (c .before .if1 .left) (c .check-entry .ensures))
 
 value-field-value-rule-requires : (t : ℕ) → value-field-lts.Need-value-rule-requires (calls-value-field t) (value-field-at t) value-field.Post
 value-field-value-rule-requires t c κs = search needs
@@ -355,25 +355,25 @@ value-field-returns-3 : (t : ℕ) → value-field-lts.Need-returns-3 (calls-valu
 unfolding valueField
 value-field-returns-3 t c = passed _ _ _ (c .before .before .before .before .before .before .value-rule .ensures) (c .before .before .before .before .enum-told .given .1) (simp (le-ltb _ _ (c .before .before .if1 .left)) (c .fault-of .ensures ∙ inside-none _ _ _ (c .before .if2 .taken)))
 
-value-field-sub-check-many : (t : ℕ) → value-field-lts.Need-sub-check-many (calls-value-field t) (value-field-at t) value-field.Post
-value-field-sub-check-many t c = search needs
+value-field-sub-check-items : (t : ℕ) → value-field-lts.Need-sub-check-items (calls-value-field t) (value-field-at t) value-field.Post
+value-field-sub-check-items t c = search needs
 
-value-field-check-many-requires : (t : ℕ) → value-field-lts.Need-check-many-requires (calls-value-field t) (value-field-at t) value-field.Post
-value-field-check-many-requires t c κs = search needs
+value-field-check-items-requires : (t : ℕ) → value-field-lts.Need-check-items-requires (calls-value-field t) (value-field-at t) value-field.Post
+value-field-check-items-requires t c κs = search needs
 
 value-field-returns-4 : (t : ℕ) → value-field-lts.Need-returns-4 (calls-value-field t) (value-field-at t) value-field.Post
 unfolding valueField
-value-field-returns-4 t c = passed _ _ _ (c .before .before .before .before .before .before .before .value-rule .ensures) (c .before .before .before .before .before .enum-told .given .1) (simp (le-ltb _ _ (c .before .before .before .if1 .left)) (c .check-many .ensures ∙ inside-more _ _ _ (c .before .before .if2 .left)))
+value-field-returns-4 t c = passed _ _ _ (c .before .before .before .before .before .before .before .value-rule .ensures) (c .before .before .before .before .before .enum-told .given .1) (simp (le-ltb _ _ (c .before .before .before .if1 .left)) (c .check-items .ensures ∙ inside-more _ _ _ (c .before .before .if2 .left)))
 
-pub +check-entry+check-many+check-value+entry-field+many-field+value-field-spec :
+pub +check-entry+check-items+check-value+entry-field+item-field+value-field-spec :
     {M : Type 1} → statement M
-+check-entry+check-many+check-value+entry-field+many-field+value-field-spec =
++check-entry+check-items+check-value+entry-field+item-field+value-field-spec =
     close
     μ-check-entry
-    μ-check-many
+    μ-check-items
     μ-check-value
     μ-entry-field
-    μ-many-field
+    μ-item-field
     μ-value-field
     (λ t. check-entry-lts.spec (calls-check-entry t) (check-entry-at t) check-entry.Post
     check-entry-Inv-loop
@@ -391,21 +391,21 @@ pub +check-entry+check-many+check-value+entry-field+many-field+value-field-spec 
     (check-entry-loop-again t)
     (check-entry-entry-done-requires t)
     (check-entry-returns-3 t))
-    (λ t. check-many-lts.spec (calls-check-many t) (check-many-at t) check-many.Post
-    check-many-Inv-loop
-    check-many-μ-loop
-    (check-many-loop-holds t)
-    (check-many-field-at-requires t)
-    (check-many-enum-known-why t)
-    (check-many-returns t)
-    (check-many-enum-known-field t)
-    (check-many-many-field-requires t)
-    (check-many-enum-told t)
-    (check-many-enum-told-2 t)
-    (check-many-returns-2 t)
-    (check-many-loop-less t)
-    (check-many-loop-again t)
-    (check-many-returns-3 t))
+    (λ t. check-items-lts.spec (calls-check-items t) (check-items-at t) check-items.Post
+    check-items-Inv-loop
+    check-items-μ-loop
+    (check-items-loop-holds t)
+    (check-items-field-at-requires t)
+    (check-items-enum-known-why t)
+    (check-items-returns t)
+    (check-items-enum-known-field t)
+    (check-items-item-field-requires t)
+    (check-items-enum-told t)
+    (check-items-enum-told-2 t)
+    (check-items-returns-2 t)
+    (check-items-loop-less t)
+    (check-items-loop-again t)
+    (check-items-returns-3 t))
     (λ t. check-value-lts.spec (calls-check-value t) (check-value-at t) check-value.Post
     check-value-Inv-loop
     check-value-μ-loop
@@ -432,15 +432,15 @@ pub +check-entry+check-many+check-value+entry-field+many-field+value-field-spec 
     (entry-field-returns-2 t)
     (entry-field-check-value-requires t)
     (entry-field-returns-3 t))
-    (λ t. many-field-lts.spec (calls-many-field t) (many-field-at t) many-field.Post
-    (many-field-bytes-rule-requires t)
-    (many-field-enum-told t)
-    (many-field-enum-told-2 t)
-    (many-field-returns t)
-    (many-field-check-value-requires t)
-    (many-field-returns-2 t)
-    (many-field-check-entry-requires t)
-    (many-field-returns-3 t))
+    (λ t. item-field-lts.spec (calls-item-field t) (item-field-at t) item-field.Post
+    (item-field-bytes-rule-requires t)
+    (item-field-enum-told t)
+    (item-field-enum-told-2 t)
+    (item-field-returns t)
+    (item-field-check-value-requires t)
+    (item-field-returns-2 t)
+    (item-field-check-entry-requires t)
+    (item-field-returns-3 t))
     λ t. value-field-lts.spec (calls-value-field t) (value-field-at t) value-field.Post
     (value-field-value-rule-requires t)
     (value-field-enum-told t)
@@ -449,6 +449,6 @@ pub +check-entry+check-many+check-value+entry-field+many-field+value-field-spec 
     (value-field-returns-2 t)
     (value-field-fault-of-requires t)
     (value-field-returns-3 t)
-    (value-field-sub-check-many t)
-    (value-field-check-many-requires t)
+    (value-field-sub-check-items t)
+    (value-field-check-items-requires t)
     (value-field-returns-4 t)

@@ -1,8 +1,8 @@
--- `wire::group_of` meets its contract, by whether higher bits follow. Assumes nothing.
+-- `wire::digit_of` meets its contract, by whether higher bits follow. Assumes nothing.
 use borrow.Author.Tests.{lt-ltb, le-ltb}
 use borrow.Author.Needs.{needs}
-use Rattle.wire.proofs.group_of.Statement.{statement}
-use Rattle.wire.proofs.group_of.Tie as tie
+use Rattle.wire.proofs.digit_of.Statement.{statement}
+use Rattle.wire.proofs.digit_of.Tie as tie
 
 cast-result : tie.Need-cast-result
 cast-result c = search needs
@@ -19,5 +19,5 @@ cast-result-2 c = search needs
 returns-2 : tie.Need-returns-2
 returns-2 c = simp (le-ltb _ _ (c .if1 .left))
 
-pub group-of-spec : {M : Type 1} → statement M
-group-of-spec = tie.close (tie.spec cast-result returns add-result cast-result-2 returns-2)
+pub digit-of-spec : {M : Type 1} → statement M
+digit-of-spec = tie.close (tie.spec cast-result returns add-result cast-result-2 returns-2)
