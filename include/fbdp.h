@@ -2,8 +2,8 @@
  *
  * Every function returns a number: FBDP_ACCEPTED, or the refusal that applies first. No function keeps a pointer,
  * allocates, or calls anything. A slice is a pointer and a length; an empty one may come with a null pointer. The
- * slices of one call lie apart. Outputs that are numbers are never null; every call writes all their slots, with
- * zeros where there is nothing to say. */
+ * slices of one call must lie apart, and an output of numbers must not be null. Every call writes all its slots; a
+ * refusal writes the zeros, or for fbdp_lookup the place, that stand beside the function. */
 #ifndef FBDP_H
 #define FBDP_H
 
@@ -54,8 +54,9 @@ enum {
     FBDP_LIST = 6
 };
 
-/* Says what a Value holds, given its bytes without tag and length, as fbdp_lookup places them.
- * All of it is checked, at every level; read alone, its own Struct or list is level 1 of at most 8.
+/* Says what a Value holds: protobuf's google.protobuf.Value, its bytes without tag and length, as fbdp_lookup places
+ * them. All of it is checked, at every level; read alone, its own Struct or list is level 1 of at most 8. Of a Struct
+ * or a list only the kind is told.
  * Refuses FBDP_UNREADABLE, with three zeros: bytes that break a rule, or none at all. */
 uint32_t fbdp_value(const uint8_t *bytes, size_t bytes_length, uint64_t value[FBDP_VALUE_SLOTS]);
 
@@ -71,9 +72,11 @@ enum {
 enum { FBDP_IN_CLIENT = 1, FBDP_IN_DEFAULTS = 2 };
 
 /* Looks a term up by its key: in the client's parameters, an empty slice where it sent none, and failing that in the
- * default Struct. The place is that of the Value's bytes, without tag and length; a null that is found is an answer.
- * Both Structs are read whole first, whichever has the term. The key is only compared, byte by byte; an empty one
- * finds an entry without a key.
+ * default Struct. Both are protobuf's google.protobuf.Struct, without tag and length, and only their outermost entries
+ * are looked at. The place is that of the Value's bytes, without tag and length; a null that is found is an answer.
+ * Both Structs are read whole at each call, whichever has the term, in a time that grows with the square of the number
+ * of entries of one Struct. The key is only compared, byte by byte; an empty one finds an entry with no key or an empty
+ * one. A Value that was found is one that fbdp_value reads.
  * Refuses FBDP_UNREADABLE, FBDP_DEFAULTS_UNREADABLE, FBDP_NO_SUCH_TERM, in this order, with FBDP_IN_CLIENT, 0, 0. */
 uint32_t fbdp_lookup(const uint8_t *client, size_t client_length, const uint8_t *defaults, size_t defaults_length,
                      const uint8_t *key, size_t key_length, uint64_t term[FBDP_TERM_SLOTS]);

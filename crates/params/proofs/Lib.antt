@@ -1,5 +1,7 @@
--- `Walks` has the steps of a message that is judged field by field, `Finds` those of a search for a field and for a key, `Examples` what
--- some Structs come to.
+-- `Walks` has the steps of a message that is judged field by field, `Finds` those of a search for a field and for a key, `Alone` that a
+-- Value is readable as a part of its own, `Readable` what a readable message holds, `Examples` what some Structs come to.
 pub mod Walks
 pub mod Finds
+pub mod Alone
+pub mod Readable
 pub mod Examples

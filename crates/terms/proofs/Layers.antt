@@ -43,13 +43,13 @@ module _ (client defaults key : List ℕ) (first : Check) (read : first ≡ stru
 
 -- ---- a term lies in its layer
 
-unreadable-not-in : {A : Type 0} {layer other : ℕ} {why : Fault} {place : Place} → Unreadable layer why ≡ In other place → A
+pub unreadable-not-in : {A : Type 0} {layer other : ℕ} {why : Fault} {place : Place} → Unreadable layer why ≡ In other place → A
 unreadable-not-in e = let z : _≡_ {A = ℕ} 0 1 = cc in absurd (omega arith)
 
-absent-not-in : {A : Type 0} {layer : ℕ} {place : Place} → Absent ≡ In layer place → A
+pub absent-not-in : {A : Type 0} {layer : ℕ} {place : Place} → Absent ≡ In layer place → A
 absent-not-in e = let z : _≡_ {A = ℕ} 0 1 = cc in absurd (omega arith)
 
-same-layer : {layer other : ℕ} {place there : Place} → In layer place ≡ In other there → (layer ≡ other) × (place ≡ there)
+pub same-layer : {layer other : ℕ} {place there : Place} → In layer place ≡ In other there → (layer ≡ other) × (place ≡ there)
 same-layer e = (cc, cc)
 
 pub term-lies : (client defaults key : List ℕ) (layer : ℕ) (place : Place) → lookUp (client ∷ defaults ∷ []) key ≡ In layer place

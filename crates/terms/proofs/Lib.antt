@@ -1,2 +1,3 @@
--- `Layers` has the cases of a lookup, and that what it finds lies in its layer.
+-- `Layers` has the cases of a lookup, and that what it finds lies in its layer, `Answers` that what it finds is a Value that is read.
 pub mod Layers
+pub mod Answers

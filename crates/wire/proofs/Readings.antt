@@ -7,7 +7,8 @@ use lib.ListN.{length}
 use lib.Dec.{ltb, leb, eqb}
 use native.Mathlib.Numerals.{sub-one}
 use native.Mathlib.Omega.{arith}
-use borrow.Author.Tests.{le-ltb, lt-ltb, ne-eqb, ltb-false}
+use borrow.Author.Tests.{le-ltb, lt-ltb, ne-eqb, ltb-false, leb-true}
+use Rattle.bytes_be.proofs.Tests.{both-true}
 use Rattle.wire.specs.declared.Kind.the-variants.{CutShort as Kind·CutShort, BadVarint, WireType}
 use Rattle.wire.specs.declared.Varint.{Varint}
 use Rattle.wire.specs.declared.Varint.the-variants.{Number, CutShort, Bad}
@@ -68,9 +69,10 @@ module _ (s : List ℕ) (at end : ℕ) {r : Reading} where
 
 -- ---- a field lies within its message
 
--- its payload stands behind its tag and ends within the message, which ends within the bytes
+-- it is no field 0, its payload stands behind its tag and ends within the message, which ends within the bytes
 pub record Within (s : List ℕ) (at end : ℕ) (field : Field) : Type 0 where
   pub first : field .tag ≡ at
+  pub counted : 0 < field .number
   pub behind : at < field .at
   pub ends : field .at ≤ field .next
   pub inside : field .next ≤ end
@@ -91,31 +93,33 @@ by-varint P tag then CutShort f g h = g
 by-varint P tag then Bad f g h = h
 
 module _ (s : List ℕ) (tag end : ℕ) (there : end ≤ length s) where
-  sized-lies : (number wire at size : ℕ) → tag < at → at ≤ end → Lies s tag end (sized tag number wire at end size)
-  sized-lies number wire at size h l =
+  sized-lies : (number wire at size : ℕ) → 0 < number → tag < at → at ≤ end → Lies s tag end (sized tag number wire at end size)
+  sized-lies number wire at size some h l =
       by-cond (Lies s tag end) (ltb (end - at) size) _ _ (λ _. tt) (λ q. let k = ltb-false (end - at) size q in record {
         first = refl;
+        counted = some;
         behind = h;
         ends = omega arith;
         inside = omega arith;
         there = there;
       })
 
-  payload-lies : (number wire at : ℕ) → tag < at → at ≤ end → Lies s tag end (payloadAt s tag number wire at end)
+  payload-lies : (number wire at : ℕ) → 0 < number → tag < at → at ≤ end → Lies s tag end (payloadAt s tag number wire at end)
   unfolding payloadAt
-  payload-lies number wire at h l =
+  payload-lies number wire at some h l =
       by-cond (Lies s tag end) (eqb wire 0) _ _
       (λ _. by-varint (Lies s tag end) tag (numbered tag number at) (varintAt s at end) (λ v n q. let k = varint-within s at end v n q in record {
         first = refl;
+        counted = some;
         behind = h;
         ends = omega arith;
         inside = k .1;
         there = there;
       }) tt tt)
-      (λ _. by-cond (Lies s tag end) (eqb wire 1) _ _ (λ _. sized-lies number 1 at 8 h l)
+      (λ _. by-cond (Lies s tag end) (eqb wire 1) _ _ (λ _. sized-lies number 1 at 8 some h l)
       (λ _. by-cond (Lies s tag end) (eqb wire 2) _ _
-      (λ _. by-varint (Lies s tag end) tag (λ size from. sized tag number 2 from end size) (varintAt s at end) (λ v n q. let k = varint-within s at end v n q in sized-lies number 2 n v (omega arith) (k .1)) tt tt)
-      (λ _. by-cond (Lies s tag end) (eqb wire 5) _ _ (λ _. sized-lies number 5 at 4 h l) (λ _. tt))))
+      (λ _. by-varint (Lies s tag end) tag (λ size from. sized tag number 2 from end size) (varintAt s at end) (λ v n q. let k = varint-within s at end v n q in sized-lies number 2 n v some (omega arith) (k .1)) tt tt)
+      (λ _. by-cond (Lies s tag end) (eqb wire 5) _ _ (λ _. sized-lies number 5 at 4 some h l) (λ _. tt))))
 
 field-lies : (s : List ℕ) (at end : ℕ) → Lies s at end (fieldAt s at end)
 unfolding fieldAt
@@ -123,7 +127,7 @@ field-lies s at end =
     by-cond (Lies s at end) (ltb (length s) end) _ _ (λ _. tt)
     (λ p. let there = ltb-false (length s) end p in
     by-varint (Lies s at end) at (tagged s at end) (varintAt s at end) (λ v n q. let k = varint-within s at end v n q in
-    by-cond (Lies s at end) (leb 8 v && leb v 0xFFFF_FFFF) _ _ (λ _. payload-lies s at end there (v / 8) (v % 8) n (k .0) (k .1)) (λ _. tt)) tt tt)
+    by-cond (Lies s at end) (leb 8 v && leb v 0xFFFF_FFFF) _ _ (λ t. let legal = leb-true 8 v (both-true (leb 8 v) (leb v 0xFFFF_FFFF) t .0) in payload-lies s at end there (v / 8) (v % 8) n (omega arith) (k .0) (k .1)) (λ _. tt)) tt tt)
 
 pub field-within : (s : List ℕ) (at end : ℕ) (field : Field) → fieldAt s at end ≡ Read field → Within s at end field
 field-within s at end field e = subst (Lies s at end) e (field-lies s at end)

@@ -1,0 +1,78 @@
+-- A readable Value is answered as one of its six kinds, and so is the Value of every term that is found. Assumes nothing.
+use Prim.Native.Nat.{ℕ, zero, suc, _≤_, _<_}
+use mathlib.Core.Path.{_≡_, refl, sym, ap, _∙_}
+use mathlib.Core.List.{List, [], _∷_}
+use mathlib.Core.Bool.{cond}
+use lib.ListN.{length}
+use lib.Dec.{eqb}
+use lib.Ieee.{binary64, ofBits}
+use native.Mathlib.Omega.{arith}
+use Rattle.bytes_be.specs.Part.{partAt}
+use Rattle.bytes_be.specs.declared.Place.{Place}
+use Rattle.wire.specs.declared.Field.{Field}
+use Rattle.wire.specs.Fields.{fieldAt}
+use Rattle.double.specs.Double.{bitsAt}
+use Rattle.params.specs.declared.Check.{Check}
+use Rattle.params.specs.declared.Check.the-variants.{Good, Refused}
+use Rattle.params.specs.declared.Found.{Found}
+use Rattle.params.specs.declared.Found.the-variants.{At, Nothing}
+use Rattle.params.specs.Message.{placeOf}
+use Rattle.params.specs.Keys.{findIn}
+use Rattle.params.specs.Rules.{inside, structCheck, aloneCheck}
+use Rattle.params.proofs.Readable.{one-field, only-read, found-readable}
+use Rattle.terms.specs.declared.Term.{Term}
+use Rattle.terms.specs.declared.Term.the-variants.{In, Absent}
+use Rattle.terms.specs.Value.{heldBy, fromReading, valueAt, ifGood, valueOf, valueNumber}
+use Rattle.terms.specs.Lookup.{ifReadable, inLayer, readLayers, findLayers, lookUp}
+use Rattle.terms.proofs.Layers.{unreadable-not-in, absent-not-in, same-layer}
+
+held-answered : (s : List ℕ) (field : Field) → 0 < field .number → field .number ≤ 6 → valueNumber (heldBy s field) ≡ 0
+unfolding heldBy
+held-answered s field h l = go (field .number) h l
+  where
+    go : (n : ℕ) → 0 < n → n ≤ 6 → valueNumber (heldBy s (record { tag = field .tag; number = n; wire = field .wire; value = field .value; at = field .at; next = field .next })) ≡ 0
+    go zero h l = absurd (omega arith)
+    go (suc zero) h l = refl
+    go (suc (suc zero)) h l = refl
+    go (suc (suc (suc zero))) h l = refl
+    go (suc (suc (suc (suc zero)))) h l = refl
+    go (suc (suc (suc (suc (suc zero))))) h l = refl
+    go (suc (suc (suc (suc (suc (suc zero)))))) h l = refl
+    go (suc (suc (suc (suc (suc (suc (suc n))))))) h l = absurd (omega arith)
+
+-- a readable Value is answered
+pub readable-answered : (s : List ℕ) → aloneCheck s ≡ Good → valueNumber (valueOf s) ≡ 0
+unfolding valueOf valueAt aloneCheck
+readable-answered s good =
+    let one = one-field (inside 8 s) s 0 (length s) good in
+    let read = only-read (inside 8 s) s 0 (length s) (one .field) (one .only) in
+    ap (λ (check : Check). valueNumber (ifGood check (fromReading s (fieldAt s 0 (length s))))) good
+    ∙ ap (λ r. valueNumber (fromReading s r)) read
+    ∙ held-answered s (one .field) (one .counted) (one .kind)
+
+-- the Value of a term that is found is readable alone, and so it is answered
+pub term-readable : (client defaults key : List ℕ) (layer : ℕ) (place : Place) → lookUp (client ∷ defaults ∷ []) key ≡ In layer place
+    → aloneCheck (partAt (cond (eqb layer 0) client defaults) place) ≡ Good
+unfolding lookUp readLayers findLayers
+term-readable client defaults key layer place e =
+    go (structCheck client 0 (length client)) refl (structCheck defaults 0 (length defaults)) refl (findIn client 0 (length client) key) refl
+    (findIn defaults 0 (length defaults) key) refl e
+  where
+    moved : (other : ℕ) (there : Place) → In other there ≡ In layer place → aloneCheck (partAt (cond (eqb other 0) client defaults) there) ≡ Good
+        → aloneCheck (partAt (cond (eqb layer 0) client defaults) place) ≡ Good
+    moved other there e h = let same = same-layer e in rw (← same .0, ← same .1) h
+
+    go : (first : Check) → structCheck client 0 (length client) ≡ first → (second : Check) → structCheck defaults 0 (length defaults) ≡ second
+        → (found : Found) → findIn client 0 (length client) key ≡ found → (other : Found) → findIn defaults 0 (length defaults) key ≡ other
+        → ifReadable 0 first (ifReadable 1 second (inLayer 0 found (inLayer 1 other Absent))) ≡ In layer place
+        → aloneCheck (partAt (cond (eqb layer 0) client defaults) place) ≡ Good
+    go (Refused why) a second b found p other q e = unreadable-not-in e
+    go Good a (Refused why) b found p other q e = unreadable-not-in e
+    go Good a Good b (At there) p other q e = moved 0 there e (found-readable client key there a p)
+    go Good a Good b Nothing p (At there) q e = moved 1 there e (found-readable defaults key there b q)
+    go Good a Good b Nothing p Nothing q e = absent-not-in e
+
+pub term-answered : (client defaults key : List ℕ) (layer : ℕ) (place : Place) → lookUp (client ∷ defaults ∷ []) key ≡ In layer place
+    → valueNumber (valueOf (partAt (cond (eqb layer 0) client defaults) place)) ≡ 0
+term-answered client defaults key layer place e =
+    readable-answered (partAt (cond (eqb layer 0) client defaults) place) (term-readable client defaults key layer place e)
