@@ -1,8 +1,8 @@
 -- A Value that is readable where it stands is readable as a part of its own, in which no fewer levels may nest. Assumes nothing.
-use Prim.Native.Nat.{ℕ, zero, suc, _+_, _-_, _≤_, _<_}
-use mathlib.Core.Path.{_≡_, refl, sym, ap, ap₂, _∙_, subst}
-use mathlib.Core.List.{List, [], _∷_, map}
-use mathlib.Core.Bool.{Bool, true, false, cond, not, _&&_, _||_}
+use Prim.Native.Nat.{ℕ, zero, suc, _+_, _-_, _≤_}
+use mathlib.Core.Path.{_≡_, refl, sym, ap, _∙_, subst}
+use mathlib.Core.List.{List, [], map}
+use mathlib.Core.Bool.{Bool, true, false, cond, not, _&&_}
 use lib.ListN.{length}
 use lib.Dec.{ltb, leb, eqb}
 use native.Mathlib.Nat.{add-zero}
@@ -12,7 +12,7 @@ use Rattle.bytes_be.specs.declared.Place.{Place}
 use Rattle.bytes_be.proofs.Parts.{length-part, part-part}
 use Rattle.utf8.specs.Text.{wellFormed}
 use Rattle.wire.specs.declared.Kind.{Kind}
-use Rattle.wire.specs.declared.Kind.the-variants.{WireType, Repeated, BadText, Other, TooDeep}
+use Rattle.wire.specs.declared.Kind.the-variants.{WireType, Repeated, BadText, Other}
 use Rattle.wire.specs.declared.Fault.{Fault}
 use Rattle.wire.specs.declared.Field.{Field}
 use Rattle.wire.specs.declared.Reading.{Reading}
@@ -23,10 +23,10 @@ use Rattle.wire.proofs.Moved.{fieldBy, readingBy, fields-by}
 use Rattle.params.specs.declared.Check.{Check}
 use Rattle.params.specs.declared.Check.the-variants.{Good, Refused}
 use Rattle.params.specs.declared.Found.{Found}
-use Rattle.params.specs.declared.Found.the-variants.{At, Nothing}
-use Rattle.params.specs.Message.{fault, refuseIf, lackingOf, andThen, walk, firstOf, hasNumber, placeOf, nowhere, placeIn}
-use Rattle.params.specs.Keys.{keyOf, valuePlace, hasKey, valueFound, findIn, isFound}
-use Rattle.params.specs.Rules.{valueWire, valueText, valueAllowed, valueRule, valueField, valueMove, valueDone, valueCheck, bytesRule, keyRule, Seen, seenOf, entryField, entryMove, entryDone, entryCheck, itemField, itemJudge, itemMove, itemDone, itemsCheck, inside, aloneCheck}
+use Rattle.params.specs.declared.Found.the-variants.{Nothing}
+use Rattle.params.specs.Message.{refuseIf, andThen, walk, firstOf, hasNumber, placeOf, nowhere, placeIn}
+use Rattle.params.specs.Keys.{keyOf, hasKey, valueFound, findIn, isFound}
+use Rattle.params.specs.Rules.{valueWire, valueText, valueAllowed, valueRule, valueField, valueMove, valueDone, valueCheck, bytesRule, keyRule, Seen, seenOf, entryField, entryMove, entryDone, entryCheck, itemField, itemJudge, itemMove, itemDone, itemsCheck, inside}
 
 -- ---- one check that is good whenever another is
 

@@ -1,35 +1,34 @@
 -- What a readable message holds: a Value has one field and no other, and the Value of a term that is found is readable, also as a part of
 -- its own. Assumes nothing.
 use Prim.Native.Nat.{ℕ, zero, suc, _+_, _-_, _≤_, _<_}
-use mathlib.Core.Path.{_≡_, refl, sym, ap, _∙_, subst}
+use mathlib.Core.Path.{_≡_, refl, ap, subst}
 use mathlib.Core.List.{List, [], _∷_}
 use mathlib.Core.Bool.{Bool, true, false, cond, not, _&&_}
 use lib.ListN.{length}
 use lib.Dec.{ltb, leb, eqb}
 use native.Mathlib.Omega.{arith}
-use borrow.Author.Tests.{eq-eqb, ne-eqb, eqb-true, eqb-false, ltb-true, ltb-false, leb-true}
+use borrow.Author.Tests.{eq-eqb, ne-eqb, eqb-true, eqb-false, ltb-false, leb-true}
 use Rattle.bytes_be.specs.Part.{partAt}
 use Rattle.bytes_be.specs.declared.Place.{Place}
 use Rattle.bytes_be.proofs.Tests.{both-true}
 use Rattle.wire.specs.declared.Kind.{Kind}
 use Rattle.wire.specs.declared.Kind.the-variants.{WireType, Repeated, BadText, Other}
-use Rattle.wire.specs.declared.Fault.{Fault}
 use Rattle.wire.specs.declared.Field.{Field}
 use Rattle.wire.specs.declared.Reading.{Reading}
 use Rattle.wire.specs.declared.Reading.the-variants.{Read, Refused as Reading·Refused}
 use Rattle.wire.specs.Fields.{fieldAt, andBehind, fieldsWithin, fieldsOf}
-use Rattle.wire.proofs.Readings.{field-within, no-fields, first-field, first-fault}
+use Rattle.wire.proofs.Readings.{field-within}
 use Rattle.params.specs.declared.Check.{Check}
-use Rattle.params.specs.declared.Check.the-variants.{Good, Refused}
+use Rattle.params.specs.declared.Check.the-variants.{Good}
 use Rattle.params.specs.declared.Found.{Found}
 use Rattle.params.specs.declared.Found.the-variants.{At, Nothing}
-use Rattle.params.specs.Message.{refuseIf, andThen, walk, firstOf, placeOf, placeIn}
+use Rattle.params.specs.Message.{refuseIf, walk, firstOf, placeOf, placeIn}
 use Rattle.params.specs.Keys.{valuePlace, hasKey, valueFound, findIn, isFound}
 use Rattle.params.specs.Rules.{valueWire, valueText, valueAllowed, valueRule, valueField, valueMove, valueDone, valueCheck, bytesRule, keyRule, Seen, seenOf, entryField, entryMove, entryDone, entryCheck, itemField, itemJudge, itemMove, itemDone, itemsCheck, inside, structCheck, aloneCheck}
 use Rattle.params.proofs.Finds.{find-lies}
 use Rattle.params.proofs.Alone.{refused-not-good, then-good, alone-implies}
 
-refuse-good : (t : Bool) (kind : Kind) (at : ℕ) (behind : Check) → refuseIf t kind at behind ≡ Good → (t ≡ false) × (behind ≡ Good)
+pub refuse-good : (t : Bool) (kind : Kind) (at : ℕ) (behind : Check) → refuseIf t kind at behind ≡ Good → (t ≡ false) × (behind ≡ Good)
 refuse-good true kind at behind e = refused-not-good e
 refuse-good false kind at behind e = (refl, e)
 
@@ -127,24 +126,6 @@ module _ (inner : Field → Check) (s : List ℕ) where
   pub one-field : (from to : ℕ) → valueCheck inner s from to ≡ Good → OneField (fieldsOf s from to)
   unfolding valueCheck
   one-field from to e = one-field-of to (fieldsOf s from to) (sound s from to) e
-
-  none-not-one : {A : Type 0} {field : Field} → [] ≡ Read field ∷ [] → A
-  none-not-one e = let z = ap length e in absurd (omega arith)
-
-  fault-not-field : {A : Type 0} {why : Fault} {field : Field} {rest : List Reading} → Reading·Refused why ∷ [] ≡ Read field ∷ rest → A
-  fault-not-field e = let z : _≡_ {A = ℕ} 0 1 = cc in absurd (omega arith)
-
-  same-first : {here there : Field} {rest behind : List Reading} → Read here ∷ rest ≡ Read there ∷ behind → Read here ≡ Read there
-  same-first e = cc
-
-  -- the field of a message that has one alone is the one that is read at its start
-  pub only-read : (from to : ℕ) (field : Field) → fieldsOf s from to ≡ Read field ∷ [] → fieldAt s from to ≡ Read field
-  only-read from to field e = go (ltb from to) refl (fieldAt s from to) refl
-    where
-      go : (t : Bool) → ltb from to ≡ t → (r : Reading) → fieldAt s from to ≡ r → r ≡ Read field
-      go false p r q = none-not-one (sym (no-fields s from to (ltb-false from to p)) ∙ e)
-      go true p (Reading·Refused why) q = fault-not-field (sym (first-fault s from to (ltb-true from to p) (Reading·Refused why) (sym q) why refl) ∙ e)
-      go true p (Read here) q = same-first (sym (first-field s from to (ltb-true from to p) (Read here) (sym q) here refl) ∙ e)
 
   -- ---- the Value of an entry, and of a term
 

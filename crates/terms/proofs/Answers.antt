@@ -1,26 +1,23 @@
 -- A readable Value is answered as one of its six kinds, and so is the Value of every term that is found. Assumes nothing.
 use Prim.Native.Nat.{ℕ, zero, suc, _≤_, _<_}
-use mathlib.Core.Path.{_≡_, refl, sym, ap, _∙_}
+use mathlib.Core.Path.{_≡_, refl, ap, _∙_}
 use mathlib.Core.List.{List, [], _∷_}
 use mathlib.Core.Bool.{cond}
 use lib.ListN.{length}
 use lib.Dec.{eqb}
-use lib.Ieee.{binary64, ofBits}
 use native.Mathlib.Omega.{arith}
 use Rattle.bytes_be.specs.Part.{partAt}
 use Rattle.bytes_be.specs.declared.Place.{Place}
 use Rattle.wire.specs.declared.Field.{Field}
 use Rattle.wire.specs.Fields.{fieldAt}
-use Rattle.double.specs.Double.{bitsAt}
+use Rattle.wire.proofs.Front.{begins}
 use Rattle.params.specs.declared.Check.{Check}
 use Rattle.params.specs.declared.Check.the-variants.{Good, Refused}
 use Rattle.params.specs.declared.Found.{Found}
 use Rattle.params.specs.declared.Found.the-variants.{At, Nothing}
-use Rattle.params.specs.Message.{placeOf}
 use Rattle.params.specs.Keys.{findIn}
 use Rattle.params.specs.Rules.{inside, structCheck, aloneCheck}
-use Rattle.params.proofs.Readable.{one-field, only-read, found-readable}
-use Rattle.terms.specs.declared.Term.{Term}
+use Rattle.params.proofs.Readable.{one-field, found-readable}
 use Rattle.terms.specs.declared.Term.the-variants.{In, Absent}
 use Rattle.terms.specs.Value.{heldBy, fromReading, valueAt, ifGood, valueOf, valueNumber}
 use Rattle.terms.specs.Lookup.{ifReadable, inLayer, readLayers, findLayers, lookUp}
@@ -45,7 +42,7 @@ pub readable-answered : (s : List ℕ) → aloneCheck s ≡ Good → valueNumber
 unfolding valueOf valueAt aloneCheck
 readable-answered s good =
     let one = one-field (inside 8 s) s 0 (length s) good in
-    let read = only-read (inside 8 s) s 0 (length s) (one .field) (one .only) in
+    let read = begins s (length s) 0 (one .field) [] (one .only) .read in
     ap (λ (check : Check). valueNumber (ifGood check (fromReading s (fieldAt s 0 (length s))))) good
     ∙ ap (λ r. valueNumber (fromReading s r)) read
     ∙ held-answered s (one .field) (one .counted) (one .kind)

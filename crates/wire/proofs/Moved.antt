@@ -1,6 +1,6 @@
 -- A message that is read alone, as a part, has the same fields as where it stands, each moved to there. Assumes nothing.
-use Prim.Native.Nat.{ℕ, zero, suc, _+_, _-_, _/_, _%_, _^_, _≤_, _<_}
-use mathlib.Core.Path.{_≡_, refl, sym, ap, ap₂, _∙_, subst}
+use Prim.Native.Nat.{ℕ, zero, suc, _+_, _-_, _/_, _%_, _^_, _≤_}
+use mathlib.Core.Path.{_≡_, refl, ap, _∙_}
 use mathlib.Core.List.{List, [], _∷_, map}
 use mathlib.Core.Bool.{Bool, true, false, cond, _&&_}
 use lib.ListN.{length, getD}
@@ -13,7 +13,6 @@ use Rattle.bytes_be.proofs.Parts.{length-part, getD-part}
 use Rattle.wire.specs.declared.Varint.{Varint}
 use Rattle.wire.specs.declared.Varint.the-variants.{Number, CutShort, Bad}
 use Rattle.wire.specs.declared.Field.{Field}
-use Rattle.wire.specs.declared.Fault.{Fault}
 use Rattle.wire.specs.declared.Reading.{Reading}
 use Rattle.wire.specs.declared.Reading.the-variants.{Read, Refused}
 use Rattle.wire.specs.Varint.{below, bounded, saidAt, varintAt}

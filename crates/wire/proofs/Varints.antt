@@ -80,17 +80,17 @@ module _ (left : ℕ) (s : List ℕ) (at end : ℕ) where
           pub more-bad : r ≡ Bad → Bad ≡ bounded (saidAt left s at end)
           more-bad p = cc said
 
-cut-not-read : {A : Type 0} {value next : ℕ} → CutShort ≡ Number value next → A
+pub cut-not-read : {A : Type 0} {value next : ℕ} → CutShort ≡ Number value next → A
 cut-not-read e = let z : _≡_ {A = ℕ} 0 1 = cc in absurd (omega arith)
 
-bad-not-read : {A : Type 0} {value next : ℕ} → Bad ≡ Number value next → A
+pub bad-not-read : {A : Type 0} {value next : ℕ} → Bad ≡ Number value next → A
 bad-not-read e = let z : _≡_ {A = ℕ} 0 1 = cc in absurd (omega arith)
 
-read-next : {v w x y : ℕ} → Number v x ≡ Number w y → x ≡ y
+pub read-next : {v w x y : ℕ} → Number v x ≡ Number w y → x ≡ y
 read-next p = cc
 
 -- a varint that was read ends behind its start and within the message
-said-within : (left : ℕ) (s : List ℕ) (at end value next : ℕ) → saidAt left s at end ≡ Number value next → (at < next) × (next ≤ end)
+pub said-within : (left : ℕ) (s : List ℕ) (at end value next : ℕ) → saidAt left s at end ≡ Number value next → (at < next) × (next ≤ end)
 unfolding saidAt
 said-within zero s at end value next e = bad-not-read e
 said-within (suc left) s at end value next e =

@@ -4,79 +4,58 @@ use Rattle.terms.proofs.Layers.{client-unreadable, defaults-unreadable,
 use borrow.Author.Needs.{needs}
 use Rattle.terms.proofs.term_of.Statement.{statement}
 use Rattle.terms.proofs.term_of.Tie as tie
-use Rattle.terms.proofs.term_of.Reads as reads
-use Rattle.terms.proofs.term_of.Lts as lts
-use Rattle.params.proofs.check_struct.Reads as check-struct-reads
-use Rattle.params.proofs.find.Reads as find-reads
-use Rattle.terms.proofs.in_layer.Reads as in-layer-reads
-use Rattle.terms.proofs.unreadable.Reads as unreadable-reads
 
--- src/lib.rt:136:9
 check-struct-requires : tie.Need-check-struct-requires
 check-struct-requires c κs = search needs
 
 enum-told : tie.Need-enum-told
 enum-told c = search needs
 
--- src/lib.rt:138:9
 enum-told-2 : tie.Need-enum-told-2
 enum-told-2 c = search needs
 
--- src/lib.rt:138:9
 unreadable-requires : tie.Need-unreadable-requires
 unreadable-requires c κs = search needs
 
--- src/lib.rt:138:9
 returns : tie.Need-returns
 returns c = client-unreadable _ _ _ _ (c .before .before .before .check-struct .ensures) _ (c .before .enum-told2 .given .1) _ (c .unreadable .ensures)
 
--- src/lib.rt:140:9
 check-struct-requires-2 : tie.Need-check-struct-requires-2
 check-struct-requires-2 c κs = search needs
 
 enum-told-3 : tie.Need-enum-told-3
 enum-told-3 c = search needs
 
--- src/lib.rt:142:9
 enum-told-4 : tie.Need-enum-told-4
 enum-told-4 c = search needs
 
--- src/lib.rt:142:9
 unreadable-requires-2 : tie.Need-unreadable-requires-2
 unreadable-requires-2 c κs = search needs
 
--- src/lib.rt:142:9
 returns-2 : tie.Need-returns-2
 returns-2 c = defaults-unreadable _ _ _ _ (c .before .before .before .before .before .before .check-struct .ensures) (c .before .before .before .before .enum-told .given .1) _ (c .before .before .before .check-struct2 .ensures) _ (c .before .enum-told4 .given .1) _ (c .unreadable2 .ensures)
 
--- src/lib.rt:144:9
 find-requires : tie.Need-find-requires
 find-requires c κs = search needs
 
 enum-told-5 : tie.Need-enum-told-5
 enum-told-5 c = search needs
 
--- src/lib.rt:146:9
 enum-told-6 : tie.Need-enum-told-6
 enum-told-6 c = search needs
 
--- src/lib.rt:146:9
 in-layer-requires : tie.Need-in-layer-requires
 in-layer-requires c κs = search needs
 
--- src/lib.rt:146:9
 returns-3 : tie.Need-returns-3
 returns-3 c = in-client _ _ _ _ (c .before .before .before .before .before .before .before .before .before .check-struct .ensures) (c .before .before .before .before .before .before .before .enum-told .given .1) _ (c .before .before .before .before .before .before .check-struct2 .ensures) (c .before .before .before .before .enum-told3 .given .1) _ (c .before .before .before .find .ensures) _ (c .in-layer .ensures) _ (c .before .enum-told6 .given .1)
 
--- src/lib.rt:148:17
 find-requires-2 : tie.Need-find-requires-2
 find-requires-2 c κs = search needs
 
--- src/lib.rt:148:5
 in-layer-requires-2 : tie.Need-in-layer-requires-2
 in-layer-requires-2 c κs = search needs
 
--- src/lib.rt:133:1
 returns-4 : tie.Need-returns-4
 returns-4 c = in-defaults _ _ _ _ (c .before .before .before .before .before .before .before .before .before .before .check-struct .ensures) (c .before .before .before .before .before .before .before .before .enum-told .given .1) _ (c .before .before .before .before .before .before .before .check-struct2 .ensures) (c .before .before .before .before .before .enum-told3 .given .1) _ (c .before .before .before .before .find .ensures) (c .before .before .enum-told5 .given .1) _ (c .before .find2 .ensures) _ (c .in-layer2 .ensures)
 

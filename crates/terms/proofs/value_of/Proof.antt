@@ -5,33 +5,23 @@ use Rattle.terms.specs.Value.{valueOf}
 use borrow.Author.Needs.{needs}
 use Rattle.terms.proofs.value_of.Statement.{statement}
 use Rattle.terms.proofs.value_of.Tie as tie
-use Rattle.terms.proofs.value_of.Reads as reads
-use Rattle.terms.proofs.value_of.Lts as lts
-use Rattle.params.proofs.check_alone.Reads as check-alone-reads
-use Rattle.terms.proofs.value_at.Reads as value-at-reads
 
--- src/lib.rt:75:11
 check-alone-requires : tie.Need-check-alone-requires
 check-alone-requires c κs = search needs
 
--- src/lib.rt:76:39
 enum-told : tie.Need-enum-told
 enum-told c = search needs
 
--- src/lib.rt:76:24
 value-at-requires : tie.Need-value-at-requires
 value-at-requires c κs = search needs
 
--- src/lib.rt:77:24
 enum-known-why : tie.Need-enum-known-why
 enum-known-why c = search needs
 
--- src/lib.rt:72:1
 returns : tie.Need-returns
 unfolding valueOf
 returns c = c .value-at .ensures ∙ sym (rw (← c .before .before .before .check-alone .ensures, c .before .enum-told .given .1))
 
--- src/lib.rt:72:1
 returns-2 : tie.Need-returns-2
 unfolding valueOf
 returns-2 c = sym (rw (← c .before .before .before .check-alone .ensures, c .before .why .given .1))

@@ -1,6 +1,5 @@
 -- `wire::sized_field` meets its contract, by whether the message has room for the payload. Assumes nothing.
 use Prim.Native.Nat.{_-_}
-use native.Mathlib.Omega.{arith}
 use borrow.Author.Tests.{lt-ltb, le-ltb}
 use borrow.Author.Needs.{needs}
 use Rattle.wire.proofs.sized_field.Statement.{statement}
