@@ -310,7 +310,7 @@ static uint64_t call_line(struct call *call)
 static uint64_t call_value(struct call *call)
 {
     const struct input bytes = lend_input(call);
-    uint64_t *value = lend_numbers(call, 3);
+    uint64_t *value = lend_numbers(call, FBDP_VALUE_SLOTS);
     return fbdp_value(bytes.bytes, bytes.length, value);
 }
 
@@ -319,7 +319,7 @@ static uint64_t call_lookup(struct call *call)
     const struct input client = lend_input(call);
     const struct input defaults = lend_input(call);
     const struct input key = lend_input(call);
-    uint64_t *place = lend_numbers(call, 3);
+    uint64_t *place = lend_numbers(call, FBDP_TERM_SLOTS);
     return fbdp_lookup(client.bytes, client.length, defaults.bytes, defaults.length, key.bytes, key.length, place);
 }
 

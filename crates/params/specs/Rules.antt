@@ -17,16 +17,20 @@ use Rattle.params.specs.Keys.{findIn, isFound}
 
 -- ---- "A Value holds exactly one of 1 null (0), 2 number (8 bytes, little-endian double), 3 string, 4 bool (0 or 1), 5 Struct, 6 list"
 
--- each "with its own wire type"
+-- "1 null .. 2 number .. 3 string, 4 bool .. 5 Struct, 6 list", or none of them
+abbrev pub byKind : {A : Type 0} → ℕ → A → A → A → A → A → A → A → A
+byKind kind null number text bool struct list other =
+    cond (eqb kind 1) null
+    (cond (eqb kind 2) number
+    (cond (eqb kind 3) text
+    (cond (eqb kind 4) bool
+    (cond (eqb kind 5) struct
+    (cond (eqb kind 6) list
+    other)))))
+
+-- each "with its own wire type": a varint, eight bytes, or a length and so many bytes
 unfoldable pub valueWire : ℕ → ℕ → Bool
-valueWire number wire =
-    cond (eqb number 1) (eqb wire 0)
-    (cond (eqb number 2) (eqb wire 1)
-    (cond (eqb number 3) (eqb wire 2)
-    (cond (eqb number 4) (eqb wire 0)
-    (cond (eqb number 5) (eqb wire 2)
-    (cond (eqb number 6) (eqb wire 2)
-    true)))))
+valueWire number wire = byKind number (eqb wire 0) (eqb wire 1) (eqb wire 2) (eqb wire 0) (eqb wire 2) (eqb wire 2) true
 
 -- "bad UTF-8 in any string"
 unfoldable pub valueText : List ℕ → ℕ → ℕ → ℕ → Bool
@@ -134,10 +138,10 @@ unfoldable pub inside : ℕ → List ℕ → Field → Check
 inside zero s field = fault TooDeep (field .tag)
 inside (suc levels) s field = itemsCheck (inside levels s) s (eqb (field .number) 6) (field .at) (field .next)
 
--- the outermost Struct
+-- the outermost Struct is level 1, and seven more may nest inside it
 unfoldable pub structCheck : List ℕ → ℕ → ℕ → Check
 structCheck s from to = itemsCheck (inside 7 s) s false from to
 
--- "read alone, its own Struct or list is level 1"
+-- "read alone, its own Struct or list is level 1": all eight may still nest
 unfoldable pub aloneCheck : List ℕ → Check
 aloneCheck s = valueCheck (inside 8 s) s 0 (length s)

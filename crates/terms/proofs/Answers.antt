@@ -12,16 +12,13 @@ use Rattle.wire.specs.declared.Field.{Field}
 use Rattle.wire.specs.Fields.{fieldAt}
 use Rattle.wire.proofs.Front.{begins}
 use Rattle.params.specs.declared.Check.{Check}
-use Rattle.params.specs.declared.Check.the-variants.{Good, Refused}
-use Rattle.params.specs.declared.Found.{Found}
-use Rattle.params.specs.declared.Found.the-variants.{At, Nothing}
-use Rattle.params.specs.Keys.{findIn}
-use Rattle.params.specs.Rules.{inside, structCheck, aloneCheck}
+use Rattle.params.specs.declared.Check.the-variants.{Good}
+use Rattle.params.specs.Rules.{inside, aloneCheck}
 use Rattle.params.proofs.Readable.{one-field, found-readable}
-use Rattle.terms.specs.declared.Term.the-variants.{In, Absent}
+use Rattle.terms.specs.declared.Term.the-variants.{In}
 use Rattle.terms.specs.Value.{heldBy, fromReading, valueAt, ifGood, valueOf, valueNumber}
-use Rattle.terms.specs.Lookup.{ifReadable, inLayer, readLayers, findLayers, lookUp}
-use Rattle.terms.proofs.Layers.{unreadable-not-in, absent-not-in, same-layer}
+use Rattle.terms.specs.Lookup.{lookUp}
+use Rattle.terms.proofs.Layers.{of-its-layer}
 
 held-answered : (s : List ℕ) (field : Field) → 0 < field .number → field .number ≤ 6 → valueNumber (heldBy s field) ≡ 0
 unfolding heldBy
@@ -50,24 +47,8 @@ readable-answered s good =
 -- the Value of a term that is found is readable alone, and so it is answered
 pub term-readable : (client defaults key : List ℕ) (layer : ℕ) (place : Place) → lookUp (client ∷ defaults ∷ []) key ≡ In layer place
     → aloneCheck (partAt (cond (eqb layer 0) client defaults) place) ≡ Good
-unfolding lookUp readLayers findLayers
-term-readable client defaults key layer place e =
-    go (structCheck client 0 (length client)) refl (structCheck defaults 0 (length defaults)) refl (findIn client 0 (length client) key) refl
-    (findIn defaults 0 (length defaults) key) refl e
-  where
-    moved : (other : ℕ) (there : Place) → In other there ≡ In layer place → aloneCheck (partAt (cond (eqb other 0) client defaults) there) ≡ Good
-        → aloneCheck (partAt (cond (eqb layer 0) client defaults) place) ≡ Good
-    moved other there e h = let same = same-layer e in rw (← same .0, ← same .1) h
-
-    go : (first : Check) → structCheck client 0 (length client) ≡ first → (second : Check) → structCheck defaults 0 (length defaults) ≡ second
-        → (found : Found) → findIn client 0 (length client) key ≡ found → (other : Found) → findIn defaults 0 (length defaults) key ≡ other
-        → ifReadable 0 first (ifReadable 1 second (inLayer 0 found (inLayer 1 other Absent))) ≡ In layer place
-        → aloneCheck (partAt (cond (eqb layer 0) client defaults) place) ≡ Good
-    go (Refused why) a second b found p other q e = unreadable-not-in e
-    go Good a (Refused why) b found p other q e = unreadable-not-in e
-    go Good a Good b (At there) p other q e = moved 0 there e (found-readable client key there a p)
-    go Good a Good b Nothing p (At there) q e = moved 1 there e (found-readable defaults key there b q)
-    go Good a Good b Nothing p Nothing q e = absent-not-in e
+term-readable client defaults key =
+    of-its-layer (λ (s : List ℕ) (place : Place). aloneCheck (partAt s place) ≡ Good) client defaults key (λ s there. found-readable s key there)
 
 pub term-answered : (client defaults key : List ℕ) (layer : ℕ) (place : Place) → lookUp (client ∷ defaults ∷ []) key ≡ In layer place
     → valueNumber (valueOf (partAt (cond (eqb layer 0) client defaults) place)) ≡ 0

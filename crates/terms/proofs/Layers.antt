@@ -43,34 +43,41 @@ module _ (client defaults key : List ℕ) (first : Check) (read : first ≡ stru
 
 -- ---- a term lies in its layer
 
-pub unreadable-not-in : {A : Type 0} {layer other : ℕ} {why : Fault} {place : Place} → Unreadable layer why ≡ In other place → A
+unreadable-not-in : {A : Type 0} {layer other : ℕ} {why : Fault} {place : Place} → Unreadable layer why ≡ In other place → A
 unreadable-not-in e = let z : _≡_ {A = ℕ} 0 1 = cc in absurd (omega arith)
 
-pub absent-not-in : {A : Type 0} {layer : ℕ} {place : Place} → Absent ≡ In layer place → A
+absent-not-in : {A : Type 0} {layer : ℕ} {place : Place} → Absent ≡ In layer place → A
 absent-not-in e = let z : _≡_ {A = ℕ} 0 1 = cc in absurd (omega arith)
 
-pub same-layer : {layer other : ℕ} {place there : Place} → In layer place ≡ In other there → (layer ≡ other) × (place ≡ there)
+same-layer : {layer other : ℕ} {place there : Place} → In layer place ≡ In other there → (layer ≡ other) × (place ≡ there)
 same-layer e = (cc, cc)
+
+-- what holds of every term that a readable Struct has holds of the term that a lookup finds in its layer
+pub of-its-layer : (P : List ℕ → Place → Type 0) (client defaults key : List ℕ)
+    → ((s : List ℕ) (there : Place) → structCheck s 0 (length s) ≡ Good → findIn s 0 (length s) key ≡ At there → P s there)
+    → (layer : ℕ) (place : Place) → lookUp (client ∷ defaults ∷ []) key ≡ In layer place → P (cond (eqb layer 0) client defaults) place
+unfolding lookUp readLayers findLayers
+of-its-layer P client defaults key each layer place e =
+    go (structCheck client 0 (length client)) refl (structCheck defaults 0 (length defaults)) refl (findIn client 0 (length client) key) refl
+    (findIn defaults 0 (length defaults) key) refl e
+  where
+    moved : (other : ℕ) (there : Place) → In other there ≡ In layer place → P (cond (eqb other 0) client defaults) there → P (cond (eqb layer 0) client defaults) place
+    moved other there e h = let same = same-layer e in rw (← same .0, ← same .1) h
+
+    go : (first : Check) → structCheck client 0 (length client) ≡ first → (second : Check) → structCheck defaults 0 (length defaults) ≡ second
+        → (found : Found) → findIn client 0 (length client) key ≡ found → (other : Found) → findIn defaults 0 (length defaults) key ≡ other
+        → ifReadable 0 first (ifReadable 1 second (inLayer 0 found (inLayer 1 other Absent))) ≡ In layer place → P (cond (eqb layer 0) client defaults) place
+    go (Refused why) a second b found p other q e = unreadable-not-in e
+    go Good a (Refused why) b found p other q e = unreadable-not-in e
+    go Good a Good b (At there) p other q e = moved 0 there e (each client there a p)
+    go Good a Good b Nothing p (At there) q e = moved 1 there e (each defaults there b q)
+    go Good a Good b Nothing p Nothing q e = absent-not-in e
 
 pub term-lies : (client defaults key : List ℕ) (layer : ℕ) (place : Place) → lookUp (client ∷ defaults ∷ []) key ≡ In layer place
     → place .at + place .length ≤ length (cond (eqb layer 0) client defaults)
-unfolding lookUp readLayers findLayers
-term-lies client defaults key layer place e =
-    go (structCheck client 0 (length client)) (structCheck defaults 0 (length defaults)) (findIn client 0 (length client) key) refl
-    (findIn defaults 0 (length defaults) key) refl e
-  where
-    moved : (other : ℕ) (there : Place) → In other there ≡ In layer place → there .at + there .length ≤ length (cond (eqb other 0) client defaults)
-        → place .at + place .length ≤ length (cond (eqb layer 0) client defaults)
-    moved other there e h = let same = same-layer e in rw (← same .0, ← same .1) h
-
-    go : (first second : Check) (found : Found) → findIn client 0 (length client) key ≡ found → (other : Found) → findIn defaults 0 (length defaults) key ≡ other
-        → ifReadable 0 first (ifReadable 1 second (inLayer 0 found (inLayer 1 other Absent))) ≡ In layer place
-        → place .at + place .length ≤ length (cond (eqb layer 0) client defaults)
-    go (Refused why) second found p other q e = unreadable-not-in e
-    go Good (Refused why) found p other q e = unreadable-not-in e
-    go Good Good (At there) p other q e = moved 0 there e (find-lies client 0 (length client) key there p)
-    go Good Good Nothing p (At there) q e = moved 1 there e (find-lies defaults 0 (length defaults) key there q)
-    go Good Good Nothing p Nothing q e = absent-not-in e
+term-lies client defaults key =
+    of-its-layer (λ (s : List ℕ) (place : Place). place .at + place .length ≤ length s) client defaults key
+    (λ s there good e. find-lies s 0 (length s) key there e)
 
 -- ---- the part that a lookup gives
 

@@ -36,3 +36,15 @@ fromFound s Found·Nothing = Nothing
 -- the limit that the Struct from `from` to `to` announces, or nothing
 unfoldable pub limitIn : List ℕ → ℕ → ℕ → Announced
 limitIn s from to = fromFound s (findIn s from to (ascii "max_message_bytes"))
+
+-- "19 .. bad limit"
+abbrev pub announcedNumber : Announced → ℕ
+announcedNumber Nothing = 0
+announcedNumber (Announced·Limit limit) = 0
+announcedNumber Bad = 19
+
+-- "with the limit announced, or 50,000,000 where none is"; 0 beside a refusal
+abbrev pub announcedLimit : Announced → ℕ
+announcedLimit Nothing = 50000000
+announcedLimit (Announced·Limit limit) = limit
+announcedLimit Bad = 0

@@ -2,7 +2,6 @@
 -- one as 18; read alone, its own Struct or list is level 1."
 use Prim.Native.Nat.{ℕ}
 use mathlib.Core.List.{List}
-use mathlib.Core.Bool.{cond}
 use lib.ListN.{length}
 use lib.Dec.{eqb}
 use lib.Ieee.{binary64, ofBits}
@@ -15,20 +14,21 @@ use Rattle.double.specs.Double.{bitsAt}
 use Rattle.params.specs.declared.Check.{Check}
 use Rattle.params.specs.declared.Check.the-variants.{Good, Refused as Check·Refused}
 use Rattle.params.specs.Message.{faultNumber, placeOf}
-use Rattle.params.specs.Rules.{aloneCheck}
+use Rattle.params.specs.Rules.{byKind, aloneCheck}
 use Rattle.terms.specs.declared.Value.{Value}
 use Rattle.terms.specs.declared.Value.the-variants.{Null, Number, Text, Boolean, Struct, List as Value·List, Unreadable}
 
 -- "1 null (0), 2 number (8 bytes, little-endian double), 3 string, 4 bool (0 or 1), 5 Struct, 6 list"
 unfoldable pub heldBy : List ℕ → Field → Value
 heldBy s field =
-    cond (eqb (field .number) 1) Null
-    (cond (eqb (field .number) 2) (Number (ofBits binary64 (bitsAt s (field .at))) (bitsAt s (field .at)))
-    (cond (eqb (field .number) 3) (Text (placeOf field))
-    (cond (eqb (field .number) 4) (Boolean (eqb (field .value) 1))
-    (cond (eqb (field .number) 5) Struct
-    (cond (eqb (field .number) 6) Value·List
-    (Unreadable (record { kind = Other; at = field .tag })))))))
+    byKind (field .number)
+    Null
+    (Number (ofBits binary64 (bitsAt s (field .at))) (bitsAt s (field .at)))
+    (Text (placeOf field))
+    (Boolean (eqb (field .value) 1))
+    Struct
+    Value·List
+    (Unreadable (record { kind = Other; at = field .tag }))
 
 abbrev pub fromReading : List ℕ → Reading → Value
 fromReading s (Read field) = heldBy s field

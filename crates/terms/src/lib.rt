@@ -5,7 +5,7 @@ ghost use Prim.Native.Nat.{_+_, _≤_};
 ghost use lib.ListN.{length};
 ghost use Rattle.terms.specs.Value.{heldBy, valueAt, valueOf, valueNumber};
 ghost use Rattle.terms.specs.Lookup.{ifReadable, inLayer, lookUp, termNumber, IsPart, PartOf};
-ghost use Rattle.terms.specs.Announced.{fromDouble, fromValue, limitIn};
+ghost use Rattle.terms.specs.Announced.{fromDouble, fromValue, limitIn, announcedNumber, announcedLimit};
 use bytes_be::Place;
 use double::Limit;
 use params::Check;
@@ -232,5 +232,27 @@ pub fn limit_in(s: &[u8], from: usize, to: usize) -> Announced
     match params::find(s, from, to, b"max_message_bytes") {
         Found::At(place) => from_value(value_at(s, place.at, place.at + place.length)),
         Found::Nothing => Announced::Nothing,
+    }
+}
+
+// The number of 01 for an announced limit: 0, or 19.
+pub fn announced_number(announced: Announced) -> u8
+    ensures { λ r. ⌜ r ≡ announcedNumber announced ⌝ }
+{
+    match announced {
+        Announced::Nothing => 0,
+        Announced::Limit(_) => 0,
+        Announced::Bad => 19,
+    }
+}
+
+// The limit that holds from there on: 50,000,000 where none is announced, and 0 where it is refused.
+pub fn announced_limit(announced: Announced) -> u32
+    ensures { λ r. ⌜ r ≡ announcedLimit announced ⌝ }
+{
+    match announced {
+        Announced::Nothing => 50000000,
+        Announced::Limit(limit) => limit,
+        Announced::Bad => 0,
     }
 }

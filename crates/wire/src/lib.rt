@@ -187,7 +187,7 @@ fn digit_of(number: u64) -> u8
     (number % 128 + 128) as u8
 }
 
-// The shortest varint of a number, and zeros behind it.
+// Ten bytes that begin with the shortest varint of a number.
 fn digits_of(number: u64) -> [u8; 10]
     ensures { λ r. ⌜ take (varintLength number) r ≡ shortestOf number ⌝ }
 {

@@ -1,5 +1,5 @@
 -- `params::value_wire` meets its contract, by the number. Assumes nothing.
-use borrow.Author.Tests.{ne-eqb}
+use Rattle.params.proofs.Neither.{no-kind}
 use Rattle.params.specs.Rules.{valueWire}
 use Rattle.params.proofs.value_wire.Statement.{statement}
 use Rattle.params.proofs.value_wire.Tie as tie
@@ -30,15 +30,7 @@ returns-6 c = simp (c .match .keys6)
 
 returns-7 : tie.Need-returns-7
 unfolding valueWire
-returns-7 c =
-    simp (
-      ne-eqb _ 1 (c .match .rest .0 .0 .0 .0 .0 .1),
-      ne-eqb _ 2 (c .match .rest .0 .0 .0 .0 .1),
-      ne-eqb _ 3 (c .match .rest .0 .0 .0 .1),
-      ne-eqb _ 4 (c .match .rest .0 .0 .1),
-      ne-eqb _ 5 (c .match .rest .0 .1),
-      ne-eqb _ 6 (c .match .rest .1),
-    )
+returns-7 c = no-kind _ _ _ _ _ _ _ _ (c .match .rest)
 
 pub value-wire-spec : {M : Type 1} → statement M
 value-wire-spec =

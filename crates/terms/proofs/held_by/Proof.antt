@@ -1,7 +1,7 @@
 -- `terms::held_by` meets its contract, by the number of the field. Assumes nothing.
 use mathlib.Core.Path.{refl}
 use borrow.Author.Needs.{needs}
-use borrow.Author.Tests.{ne-eqb}
+use Rattle.params.proofs.Neither.{no-kind}
 use Rattle.terms.specs.Value.{heldBy}
 use borrow.Author.Needs.{needs}
 use Rattle.terms.proofs.held_by.Statement.{statement}
@@ -42,15 +42,7 @@ returns-6 c = simp (c .match .keys6)
 
 returns-7 : tie.Need-returns-7
 unfolding heldBy
-returns-7 c =
-    simp (
-      ne-eqb _ 1 (c .match .rest .0 .0 .0 .0 .0 .1),
-      ne-eqb _ 2 (c .match .rest .0 .0 .0 .0 .1),
-      ne-eqb _ 3 (c .match .rest .0 .0 .0 .1),
-      ne-eqb _ 4 (c .match .rest .0 .0 .1),
-      ne-eqb _ 5 (c .match .rest .0 .1),
-      ne-eqb _ 6 (c .match .rest .1),
-    )
+returns-7 c = no-kind _ _ _ _ _ _ _ _ (c .match .rest)
 
 pub held-by-spec : {M : Type 1} → statement M
 held-by-spec =
