@@ -42,7 +42,7 @@ pub fn check_number(check: Check) -> u8
     }
 }
 
-fn fault_of(kind: Kind, at: usize) -> Check
+pub fn fault_of(kind: Kind, at: usize) -> Check
     ensures { λ r. ⌜ r ≡ fault kind at ⌝ }
 {
     Check::Refused(Fault { kind: kind, at: at })

@@ -27,7 +27,13 @@ use Rattle.params.specs.Message.{checkNumber}
 use Rattle.params.specs.Rules.{structCheck, aloneCheck}
 use Rattle.terms.specs.declared.Announced.{Announced}
 use Rattle.terms.specs.declared.Announced.the-variants.{Nothing, Limit, Bad}
-use Rattle.terms.specs.Announced.{limitIn}
+use Rattle.terms.specs.Announced.{limitIn, announcedLimit}
+use Rattle.open.specs.declared.Opening.{Opening}
+use Rattle.open.specs.declared.Refusal.{Refusal}
+use Rattle.open.specs.declared.Refusal.the-variants.{Unreadable, OutOfRange, UnknownSocket, OtherPipe, OtherFormat}
+use Rattle.open.specs.declared.Open.{Open}
+use Rattle.open.specs.declared.Open.the-variants.{Heard, Refused as Open·Refused}
+use Rattle.open.specs.Open.{openNumber}
 
 -- frame count, the control frame's place and length, the message's size
 abbrev pub contentsSlots : Contents → List ℕ
@@ -113,3 +119,36 @@ ifReadable (Refused why) slots = 0 ∷ 0 ∷ []
 pub record LimitAnswer (parameters : List ℕ) (number : ℕ) (slots : List ℕ) : Type 0 where
   pub numbered : number ≡ checkNumber (checkOf false parameters)
   pub told : slots ≡ ifReadable (checkOf false parameters) (announcedSlots (limitIn parameters 0 (length parameters)))
+
+-- 1 producer, 2 consumer
+abbrev pub flowOf : Bool → ℕ
+flowOf producer = cond producer 1 2
+
+-- socket, the places of name, format and parameters, the limit
+abbrev pub openingSlots : Opening → List ℕ
+openingSlots opening =
+    opening .socket
+    ∷ opening .name .at ∷ opening .name .length
+    ∷ opening .format .at ∷ opening .format .length
+    ∷ opening .parameters .at ∷ opening .parameters .length
+    ∷ announcedLimit (opening .announced)
+    ∷ 0 ∷ 0 ∷ []
+
+-- behind eight zeros the kind of the fault, and where it is
+abbrev pub noOpening : ℕ → ℕ → List ℕ
+noOpening kind at = 0 ∷ 0 ∷ 0 ∷ 0 ∷ 0 ∷ 0 ∷ 0 ∷ 0 ∷ kind ∷ at ∷ []
+
+abbrev pub refusalSlots : Refusal → List ℕ
+refusalSlots (Unreadable why) = noOpening (kindNumber (why .kind)) (why .at)
+refusalSlots OutOfRange = noOpening 0 0
+refusalSlots UnknownSocket = noOpening 0 0
+refusalSlots OtherPipe = noOpening 0 0
+refusalSlots OtherFormat = noOpening 0 0
+
+abbrev pub openSlots : Open → List ℕ
+openSlots (Heard opening) = openingSlots opening
+openSlots (Open·Refused refusal) = refusalSlots refusal
+
+pub record OpenAnswer (said : Open) (number : ℕ) (slots : List ℕ) : Type 0 where
+  pub numbered : number ≡ openNumber said
+  pub told : slots ≡ openSlots said

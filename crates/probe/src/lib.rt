@@ -9,13 +9,19 @@ ghost use Rattle.bytes_be.specs.Number.{numberAt, toBytes};
 ghost use Rattle.control.specs.Frame.{knownTypeOf};
 ghost use Rattle.double.specs.Double.{bytesOf};
 ghost use Rattle.line.specs.Report.{reportOf, lineOf, Put};
+ghost use Rattle.open.specs.declared.Refusal.the-variants.{Unreadable};
+ghost use Rattle.open.specs.Open.{openOf, offered};
 ghost use Rattle.utf8.specs.Text.{wellFormed};
-ghost use Rattle.probe.specs.Entries.{contentsSlots, ContentsAnswer, controlSlots, ControlAnswer, bodies, Wrote, kindNumber, readingNumber, readingSlots, FieldAnswer, Stored, checkOf, checkSlots, CheckAnswer, announcedSlots, ifReadable, LimitAnswer};
+ghost use Rattle.probe.specs.Entries.{contentsSlots, ContentsAnswer, controlSlots, ControlAnswer, bodies, Wrote, kindNumber, readingNumber, readingSlots, FieldAnswer, Stored, checkOf, checkSlots, CheckAnswer, announcedSlots, ifReadable, LimitAnswer, flowOf, openingSlots, refusalSlots, openSlots, OpenAnswer};
 use bundle::Contents;
 use control::Control;
 use control::KnownType;
+use open::Open;
+use open::Opening;
+use open::Refusal;
 use params::Check;
 use terms::Announced;
+use wire::Fault;
 use wire::Field;
 use wire::Kind;
 use wire::Reading;
@@ -299,4 +305,77 @@ pub extern "C" fn probe_limit(parameters: &[u8], slots: &mut [u64; 2]) -> u32
     let announced = terms::limit_in(parameters, 0, parameters.len());
     *slots = if_readable(check, announced_slots(announced));
     params::check_number(check) as u32
+}
+
+fn flow_of(producer: bool) -> u8
+    ensures { λ r. ⌜ r ≡ flowOf producer ⌝ }
+{
+    if producer {
+        return 1;
+    }
+    2
+}
+
+fn opening_slots(opening: Opening) -> [u64; 10]
+    ensures { λ r. ⌜ r ≡ openingSlots opening ⌝ }
+{
+    let announced = opening.announced;
+    let limit = terms::announced_limit(announced);
+    [
+        opening.socket,
+        opening.name.at as u64,
+        opening.name.length as u64,
+        opening.format.at as u64,
+        opening.format.length as u64,
+        opening.parameters.at as u64,
+        opening.parameters.length as u64,
+        limit as u64,
+        0,
+        0,
+    ]
+}
+
+fn fault_slots(why: Fault) -> [u64; 10]
+    ensures { λ r. ⌜ r ≡ refusalSlots (Unreadable why) ⌝ }
+{
+    let kind = why.kind;
+    [0, 0, 0, 0, 0, 0, 0, 0, kind_number(kind) as u64, why.at as u64]
+}
+
+fn refusal_slots(refusal: Refusal) -> [u64; 10]
+    ensures { λ r. ⌜ r ≡ refusalSlots refusal ⌝ }
+{
+    match refusal {
+        Refusal::Unreadable(why) => fault_slots(why),
+        Refusal::OutOfRange => [0, 0, 0, 0, 0, 0, 0, 0, 0, 0],
+        Refusal::UnknownSocket => [0, 0, 0, 0, 0, 0, 0, 0, 0, 0],
+        Refusal::OtherPipe => [0, 0, 0, 0, 0, 0, 0, 0, 0, 0],
+        Refusal::OtherFormat => [0, 0, 0, 0, 0, 0, 0, 0, 0, 0],
+    }
+}
+
+fn open_slots(said: Open) -> [u64; 10]
+    ensures { λ r. ⌜ r ≡ openSlots said ⌝ }
+{
+    match said {
+        Open::Heard(opening) => opening_slots(opening),
+        Open::Refused(refusal) => refusal_slots(refusal),
+    }
+}
+
+#[no_mangle]
+pub extern "C" fn probe_open(
+    message: &[u8],
+    at: usize,
+    end: usize,
+    producer: bool,
+    name: &[u8],
+    format: &[u8],
+    slots: &mut [u64; 10],
+) -> u32
+    ensures { λ r. ⌜ OpenAnswer (offered (now (message .entry)) (flowOf producer) (now (name .entry)) (now (format .entry)) (openOf (now (message .entry)) at end)) r (now (slots .exit)) ⌝ }
+{
+    let said = open::hear(message, at, end, flow_of(producer), name, format);
+    *slots = open_slots(said);
+    open::open_number(said) as u32
 }

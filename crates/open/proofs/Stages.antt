@@ -1,0 +1,84 @@
+-- One stage behind another, and what is heard lies in the bytes. Assumes nothing.
+use Prim.Native.Nat.{ℕ, _+_, _≤_}
+use mathlib.Core.Path.{_≡_, sym, _∙_, subst}
+use mathlib.Core.List.{List}
+use mathlib.Core.Bool.{Bool, true, false, cond, _&&_}
+use lib.ListN.{length}
+use lib.Dec.{leb, eqb}
+use Rattle.bytes_be.specs.Part.{partAt, same}
+use Rattle.wire.specs.declared.Fault.{Fault}
+use Rattle.params.specs.declared.Check.{Check}
+use Rattle.params.specs.declared.Check.the-variants.{Good, Refused as Check·Refused}
+use Rattle.open.specs.declared.Frame.{Frame}
+use Rattle.open.specs.declared.Opening.{Opening}
+use Rattle.open.specs.declared.Refusal.{Refusal}
+use Rattle.open.specs.declared.Refusal.the-variants.{Unreadable}
+use Rattle.open.specs.declared.Open.{Open}
+use Rattle.open.specs.declared.Open.the-variants.{Heard, Refused}
+use Rattle.open.specs.Frame.{frameCheck, frameOf}
+use Rattle.open.specs.Open.{openingOf, ifGood, readable, outOfRange, inRange, knownSocket, offeredSocket, offeredPipe, behind, openOf}
+use Rattle.open.proofs.Kept.{Placed, frame-lies}
+
+-- what the stages before came to, as a call has found it
+module _ (r said : Open) (is : r ≡ said) (stage : Opening → Open) where
+  pub refused : (refusal : Refusal) → r ≡ Refused refusal → r ≡ behind said stage
+  refused refusal e =
+      let stops : said ≡ Refused refusal = sym is ∙ e in
+      e ∙ sym (rw stops)
+
+  pub heard : (opening : Opening) → r ≡ Heard opening → {result : Open} → result ≡ stage opening → result ≡ behind said stage
+  heard opening e h =
+      let goes : said ≡ Heard opening = sym is ∙ e in
+      rw goes h
+
+module _ (s : List ℕ) (from to : ℕ) where
+  pub unreadable : (why : Fault) → Check·Refused why ≡ frameCheck s from to → Refused (Unreadable why) ≡ readable s from to
+  unfolding readable
+  unreadable why e = rw (← e)
+
+  pub read-whole : Good ≡ frameCheck s from to → (frame : Frame) → frame ≡ frameOf s from to → (opening : Opening) → opening ≡ openingOf s frame → Heard opening ≡ readable s from to
+  unfolding readable
+  read-whole e frame held opening is = rw (← e, ← held, ← is)
+
+-- ---- what is heard lies in the bytes
+
+abbrev HeardLies : List ℕ → Open → Type 0
+HeardLies s (Heard opening) = (opening .name .at + opening .name .length ≤ length s) × (opening .format .at + opening .format .length ≤ length s)
+HeardLies s (Refused refusal) = Unit {0}
+
+module _ (s : List ℕ) where
+  -- a stage that hears the opening or refuses it
+  either-lies : (t : Bool) (one other : Open) → HeardLies s one → HeardLies s other → HeardLies s (cond t one other)
+  either-lies true one other h g = h
+  either-lies false one other h g = g
+
+  behind-lies : (said : Open) (stage : Opening → Open) → ((opening : Opening) → HeardLies s (Heard opening) → HeardLies s (stage opening))
+      → HeardLies s said → HeardLies s (behind said stage)
+  behind-lies (Heard opening) stage f h = f opening h
+  behind-lies (Refused refusal) stage f h = tt
+
+  readable-lies : (from to : ℕ) → HeardLies s (readable s from to)
+  unfolding readable openingOf
+  readable-lies from to = go (frameCheck s from to)
+    where
+      go : (check : Check) → HeardLies s (ifGood check (openingOf s (frameOf s from to)))
+      go Good = let lies = frame-lies s from to in (lies .name, lies .format)
+      go (Check·Refused why) = tt
+
+  open-lies : (from to : ℕ) → HeardLies s (openOf s from to)
+  unfolding openOf inRange knownSocket
+  open-lies from to =
+      behind-lies (behind (readable s from to) inRange) knownSocket (λ opening h. either-lies (leb 3 (opening .socket)) _ (Heard opening) tt h)
+      (behind-lies (readable s from to) inRange (λ opening h. either-lies (outOfRange opening) _ (Heard opening) tt h) (readable-lies from to))
+
+  -- the name that is compared, and the format behind it
+  pub name-lies : (from to : ℕ) (r : Open) → r ≡ openOf s from to → (opening : Opening) → r ≡ Heard opening → opening .name .at + opening .name .length ≤ length s
+  name-lies from to r is opening e = subst (HeardLies s) (sym is ∙ e) (open-lies from to) .0
+
+  pub format-lies : (from to : ℕ) (r : Open) → r ≡ openOf s from to → (opening : Opening) → r ≡ Heard opening
+      → (flow : ℕ) (name : List ℕ) (r′ : Open) → r′ ≡ offeredPipe s flow name opening → (named : Opening) → r′ ≡ Heard named
+      → named .format .at + named .format .length ≤ length s
+  unfolding offeredPipe
+  format-lies from to r is opening e flow name r′ is′ named e′ =
+      subst (HeardLies s) (sym is′ ∙ e′)
+      (either-lies (same (partAt s (opening .name)) name && eqb (opening .socket) (offeredSocket flow)) (Heard opening) _ (subst (HeardLies s) (sym is ∙ e) (open-lies from to)) tt) .1

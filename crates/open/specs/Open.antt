@@ -1,0 +1,90 @@
+-- "Checks run in the order of the numbers", here 18 to 22: each stage hears the opening or refuses it, and the first refusal is the answer.
+use Prim.Native.Nat.{ℕ, _+_}
+use mathlib.Core.List.{List}
+use mathlib.Core.Bool.{Bool, cond, not, _&&_, _||_}
+use lib.Dec.{ltb, leb, eqb}
+use Rattle.bytes_be.specs.Part.{partAt, same}
+use Rattle.params.specs.declared.Check.{Check}
+use Rattle.params.specs.declared.Check.the-variants.{Good, Refused as Check·Refused}
+use Rattle.params.specs.Message.{faultNumber}
+use Rattle.terms.specs.Announced.{limitIn, announcedNumber}
+use Rattle.open.specs.declared.Frame.{Frame}
+use Rattle.open.specs.declared.Opening.{Opening}
+use Rattle.open.specs.declared.Open.{Open}
+use Rattle.open.specs.declared.Open.the-variants.{Heard, Refused}
+use Rattle.open.specs.declared.Refusal.{Refusal}
+use Rattle.open.specs.declared.Refusal.the-variants.{Unreadable, OutOfRange, UnknownSocket, OtherPipe, OtherFormat}
+use Rattle.open.specs.Frame.{frameCheck, frameOf}
+
+-- "Heard too are its socket and the places of name, format and parameters", and the limit that the parameters announce
+unfoldable pub openingOf : List ℕ → Frame → Opening
+openingOf s frame =
+    record {
+      socket = frame .number;
+      name = frame .name;
+      format = frame .format;
+      parameters = frame .parameters;
+      announced = limitIn s (frame .parameters .at) (frame .parameters .at + frame .parameters .length);
+    }
+
+abbrev pub ifGood : Check → Opening → Open
+ifGood Good opening = Heard opening
+ifGood (Check·Refused why) opening = Refused (Unreadable why)
+
+-- "18 OPEN frame unreadable"
+unfoldable pub readable : List ℕ → ℕ → ℕ → Open
+readable s from to = ifGood (frameCheck s from to) (openingOf s (frameOf s from to))
+
+-- "19 name empty or over 255, format over 255, socket 0 or absent, bad limit"
+unfoldable pub outOfRange : Opening → Bool
+outOfRange opening =
+    eqb (opening .name .length) 0
+    || ltb 255 (opening .name .length)
+    || ltb 255 (opening .format .length)
+    || eqb (opening .socket) 0
+    || not (eqb (announcedNumber (opening .announced)) 0)
+
+unfoldable pub inRange : Opening → Open
+inRange opening = cond (outOfRange opening) (Refused OutOfRange) (Heard opening)
+
+-- "20 socket 3 or more"
+unfoldable pub knownSocket : Opening → Open
+knownSocket opening = cond (leb 3 (opening .socket)) (Refused UnknownSocket) (Heard opening)
+
+-- "A consumer-flow server offers socket 1, a producer-flow server socket 2."
+abbrev pub offeredSocket : ℕ → ℕ
+offeredSocket flow = cond (eqb flow 2) 1 2
+
+-- "21 pipe name or socket not the offered one"; "only compared, never tested"
+unfoldable pub offeredPipe : List ℕ → ℕ → List ℕ → Opening → Open
+offeredPipe s flow name opening =
+    cond (same (partAt s (opening .name)) name && eqb (opening .socket) (offeredSocket flow)) (Heard opening) (Refused OtherPipe)
+
+-- "22 format not empty and not the offered one"
+unfoldable pub offeredFormat : List ℕ → List ℕ → Opening → Open
+offeredFormat s format opening =
+    cond (eqb (opening .format .length) 0 || same (partAt s (opening .format)) format) (Heard opening) (Refused OtherFormat)
+
+-- a stage, where those before it have heard the opening
+abbrev pub behind : Open → (Opening → Open) → Open
+behind (Heard opening) stage = stage opening
+behind (Refused refusal) stage = Refused refusal
+
+-- what the frame from `from` to `to` says by itself: 18, 19, 20
+unfoldable pub openOf : List ℕ → ℕ → ℕ → Open
+openOf s from to = behind (behind (readable s from to) inRange) knownSocket
+
+-- and to a server of this flow that offers this name and this format: 21, 22
+unfoldable pub offered : List ℕ → ℕ → List ℕ → List ℕ → Open → Open
+offered s flow name format said = behind (behind said (offeredPipe s flow name)) (offeredFormat s format)
+
+abbrev pub refusalNumber : Refusal → ℕ
+refusalNumber (Unreadable why) = faultNumber why
+refusalNumber OutOfRange = 19
+refusalNumber UnknownSocket = 20
+refusalNumber OtherPipe = 21
+refusalNumber OtherFormat = 22
+
+abbrev pub openNumber : Open → ℕ
+openNumber (Heard opening) = 0
+openNumber (Refused refusal) = refusalNumber refusal
