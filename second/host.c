@@ -368,6 +368,32 @@ static uint64_t call_limit(struct call *call)
     return probe_limit(parameters.bytes, parameters.length, limit);
 }
 
+static uint64_t call_open(struct call *call)
+{
+    const struct input message = lend_input(call);
+    const size_t at = (size_t)number(call);
+    const size_t end = (size_t)number(call);
+    const bool producer = number(call) != 0;
+    const struct input name = lend_input(call);
+    const struct input format = lend_input(call);
+    uint64_t *heard = lend_numbers(call, 10);
+    return probe_open(message.bytes, message.length, at, end, producer, name.bytes, name.length, format.bytes,
+                      format.length, heard);
+}
+
+static uint64_t call_open_frame(struct call *call)
+{
+    const struct room out = lend_room(call);
+    const size_t at = (size_t)number(call);
+    const bool producer = number(call) != 0;
+    const struct input name = lend_input(call);
+    const struct input format = lend_input(call);
+    const uint32_t limit = (uint32_t)number(call);
+    uint64_t *frame_length = lend_numbers(call, 1);
+    return probe_open_frame(out.bytes, out.length, at, producer, name.bytes, name.length, format.bytes, format.length,
+                            limit, frame_length);
+}
+
 /* A function's code is its place in this table, as in the second program's own. */
 static uint64_t (*const calls[])(struct call *call) = {
     call_frame,
@@ -392,6 +418,8 @@ static uint64_t (*const calls[])(struct call *call) = {
     call_check,
     call_limit_bytes,
     call_limit,
+    call_open,
+    call_open_frame,
 };
 
 /* The first lent argument, counted from 1, that is an input and is no longer what it was; 0 for none. */

@@ -62,4 +62,20 @@ void probe_limit_bytes(uint32_t number, uint8_t bytes[8]);
  * a good one; 2, 0 where it is anything else. 18 and zeros where the parameters are unreadable. */
 uint32_t probe_limit(const uint8_t *parameters, size_t length, uint64_t limit[2]);
 
+/* Reads the OPEN frame that stands in `message` from place `at` up to place `end`, as a server of this flow that offers
+ * this name and this format. Returns 0, or 18 to 22. heard = socket, place and length of name, of format and of
+ * parameters, and the limit announced or 50,000,000; all zeros where it is refused. Behind them, slots 8 and 9, stand
+ * the kind of the fault and its offset where it is refused as 18 (kinds as for probe_check), else zeros. Places and the
+ * offset are into `message`. An `at` at or behind the `end` is a frame without fields; one in front of an `end` that is
+ * behind the slice is cut short at `at`. */
+uint32_t probe_open(const uint8_t *message, size_t length, size_t at, size_t end, bool producer, const uint8_t *name,
+                    size_t name_length, const uint8_t *format, size_t format_length, uint64_t heard[10]);
+
+/* Stores the OPEN frame of a client of this flow from place `at` of `out` on; changes no byte where it does not all
+ * fit. Returns 0 and its length (also where it does not fit), or 34 and 0, changing no byte, for a bad name or format.
+ * The limit is any number, and is left out where it is 50,000,000. */
+uint32_t probe_open_frame(uint8_t *out, size_t out_length, size_t at, bool producer, const uint8_t *name,
+                          size_t name_length, const uint8_t *format, size_t format_length, uint32_t limit,
+                          uint64_t *frame_length);
+
 #endif

@@ -1,7 +1,9 @@
 //! The calls that are compared: what each lends to the library, and what the model answers to it.
 
+mod open;
 mod parameters;
 
+pub use open::{ReadOpen, WriteOpen};
 pub use parameters::{Check, FieldAt, Limit, LimitBytes, Lookup, ReadValue, StoreVarint, Text};
 
 use crate::bundle;
@@ -34,9 +36,11 @@ pub enum Function {
     Check,
     LimitBytes,
     Limit,
+    Open,
+    OpenFrame,
 }
 
-pub const FUNCTION_NAMES: [&str; 22] = [
+pub const FUNCTION_NAMES: [&str; 24] = [
     "fbdp_frame",
     "probe_read8",
     "probe_read16",
@@ -59,6 +63,8 @@ pub const FUNCTION_NAMES: [&str; 22] = [
     "probe_check",
     "probe_limit_bytes",
     "probe_limit",
+    "probe_open",
+    "probe_open_frame",
 ];
 
 impl Function {

@@ -106,7 +106,8 @@ pub fn parts(call: &dyn Call) -> Vec<Part> {
 #[cfg(test)]
 mod tests {
     use super::*;
-    use crate::calls::{Contents, Store, Width};
+    use crate::calls::{Contents, Store, Width, WriteOpen};
+    use crate::open::Opening;
 
     fn expected(call: &dyn Call) -> Vec<u8> {
         let mut answers = Vec::new();
@@ -116,9 +117,11 @@ mod tests {
 
     #[test]
     fn an_answer_is_as_long_as_its_parts() {
-        let calls: [Box<dyn Call>; 2] = [
+        let opening = Opening { producer: true, name: b"n".to_vec(), format: Vec::new(), limit: 0 };
+        let calls: [Box<dyn Call>; 3] = [
             Box::new(Contents { bundle: vec![0, 0] }),
             Box::new(Store { width: Width::Two, room: 5, at: 1, number: 0x1234 }),
+            Box::new(WriteOpen { room: 7, at: 0, opening }),
         ];
         for call in calls {
             let length: usize = parts(call.as_ref()).iter().map(|part| part.length).sum();

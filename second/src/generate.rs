@@ -10,6 +10,7 @@ mod limits;
 mod lines;
 mod lookups;
 mod messages;
+mod open;
 mod small;
 mod stored;
 mod structs;
@@ -42,7 +43,8 @@ pub const EXHAUSTIVE: &[Set] = &[
     Set { kind: "every room for a control frame and a long body", make: writers::every_room_for_long_bodies },
     Set { kind: "bodies with lengths around powers of two", make: writers::bodies_around_powers },
     Set { kind: "inputs around the longest", make: lines::around_the_longest_input },
-    Set { kind: "vectors serialized by Google's protobuf", make: stored::every_vector },
+    Set { kind: "Structs and Values serialized by Google's protobuf", make: stored::every_struct },
+    Set { kind: "OPEN frames serialized by Google's protobuf", make: stored::every_open },
     Set { kind: "every text of up to two bytes", make: texts::up_to_two_bytes },
     Set { kind: "texts of three boundary bytes", make: texts::three_boundary_bytes },
     Set { kind: "texts of four boundary bytes", make: texts::four_boundary_bytes },
@@ -59,7 +61,19 @@ pub const EXHAUSTIVE: &[Set] = &[
     Set { kind: "long lists and texts", make: structs::long_lists },
     Set { kind: "every pair of small Structs", make: lookups::every_small_pair },
     Set { kind: "limits around every boundary", make: limits::every_limit },
-    Set { kind: "doubles around powers of two", make: limits::bytes_around_powers },
+    Set { kind: "doubles around powers of two", make: limits::every_limit_bytes },
+    Set { kind: "every OPEN frame of a few fields", make: open::every::few_fields },
+    Set { kind: "every subset and order of the fields of OPEN", make: open::every::subsets_and_orders },
+    Set { kind: "every refusal of OPEN with every other", make: open::every::numbers_in_order },
+    Set { kind: "names and formats of every length", make: open::every::lengths },
+    Set { kind: "sockets of every form", make: open::every::sockets },
+    Set { kind: "limits of OPEN around every boundary", make: open::every::announced_limits },
+    Set { kind: "offers that differ at every byte", make: open::every::offers },
+    Set { kind: "OPEN frames of hundreds of parameters", make: open::every::many_parameters },
+    Set { kind: "every place and end of an OPEN frame", make: open::every::places },
+    Set { kind: "every room for an OPEN frame", make: open::writers::every_room },
+    Set { kind: "OPEN frames of every length to write", make: open::writers::every_length },
+    Set { kind: "OPEN frames of every limit, written and read", make: open::writers::every_limit },
 ];
 
 pub const GENERATED: &[Set] = &[
@@ -104,6 +118,17 @@ pub const GENERATED: &[Set] = &[
     Set { kind: "limits among other parameters", make: limits::random_limits },
     Set { kind: "parameters without a good limit", make: limits::no_limits },
     Set { kind: "random doubles", make: limits::random_limit_bytes },
+    Set { kind: "valid OPEN frames", make: open::valid_frames },
+    Set { kind: "OPEN frames with one rule broken", make: open::broken::one_rule_broken },
+    Set { kind: "OPEN frames refused for one cause", make: open::broken::one_cause },
+    Set { kind: "OPEN frames with some causes and broken rules", make: open::broken::some_causes_and_rules },
+    Set { kind: "OPEN frames damaged at every byte", make: open::damaged::damaged },
+    Set { kind: "OPEN frames with a byte moved", make: open::damaged::shifted },
+    Set { kind: "OPEN frames cut at every byte", make: open::damaged::cut },
+    Set { kind: "random bytes read as an OPEN frame", make: open::damaged::random_bytes },
+    Set { kind: "random fields read as an OPEN frame", make: open::damaged::random_fields },
+    Set { kind: "random OPEN frames to write", make: open::writers::random_writes },
+    Set { kind: "OPEN frames written and read", make: open::writers::round_trips },
 ];
 
 /// Adds a call.

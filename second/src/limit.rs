@@ -1,6 +1,7 @@
 //! The model of the limit parameter: a number that is whole, 1,000,000 to 50,000,000.
 
-use crate::structs::{self, Value, UNREADABLE};
+use crate::structs::{self, Entry, Value, NUMBER, UNREADABLE, VALUE};
+use crate::wire;
 
 /// The key of the limit among the outermost of the parameters.
 pub const KEY: &[u8] = b"max_message_bytes";
@@ -10,18 +11,29 @@ pub const LEAST: f64 = 1_000_000.0;
 pub const MOST: f64 = 50_000_000.0;
 
 /// How the parameters say a limit: not at all, well, or badly.
-const ABSENT: u64 = 0;
-const GOOD: u64 = 1;
-const BAD: u64 = 2;
+pub enum Announced {
+    Absent,
+    Good(u64),
+    Bad,
+}
+
+/// How the entries of the parameters say a limit.
+pub fn announced(parameters: &[Entry]) -> Announced {
+    match parameters.iter().find(|entry| entry.key == KEY) {
+        None => Announced::Absent,
+        Some(entry) => good_limit(&entry.value).map_or(Announced::Bad, Announced::Good),
+    }
+}
 
 /// The number answered for parameters, and how they say a limit with the limit itself where it is good.
 pub fn limit(parameters: &[u8]) -> (u64, [u64; 2]) {
     let Ok(entries) = structs::read_struct(parameters) else {
         return (UNREADABLE, [0, 0]);
     };
-    let answer = match entries.iter().find(|entry| entry.key == KEY) {
-        None => [ABSENT, 0],
-        Some(entry) => good_limit(&entry.value).map_or([BAD, 0], |limit| [GOOD, limit]),
+    let answer = match announced(&entries) {
+        Announced::Absent => [0, 0],
+        Announced::Good(limit) => [1, limit],
+        Announced::Bad => [2, 0],
     };
     (0, answer)
 }
@@ -32,13 +44,25 @@ fn good_limit(value: &Value) -> Option<u64> {
         return None;
     };
     let number = f64::from_bits(*bits);
+    is_good(number).then_some(number as u64)
+}
+
+/// Whether this number is a good limit.
+pub fn is_good(number: f64) -> bool {
     let whole = number.fract() == 0.0;
-    (whole && (LEAST..=MOST).contains(&number)).then_some(number as u64)
+    whole && (LEAST..=MOST).contains(&number)
 }
 
 /// The eight bytes of the double of this number, low byte first.
 pub fn limit_bytes(number: u32) -> [u8; 8] {
     f64::from(number).to_le_bytes()
+}
+
+/// The parameters that announce this number as the limit and nothing else, as a client writes them.
+pub fn parameters(number: u32) -> Vec<u8> {
+    let value = wire::eight_bytes_field(NUMBER, limit_bytes(number));
+    let entry = [wire::delimited_field(structs::KEY, KEY), wire::delimited_field(VALUE, &value)].concat();
+    wire::delimited_field(structs::ENTRY, &entry)
 }
 
 #[cfg(test)]
@@ -57,6 +81,13 @@ mod tests {
     #[test]
     fn k5_the_double_1000000() {
         assert_eq!(limit_bytes(1_000_000), [0x00, 0x00, 0x00, 0x00, 0x80, 0x84, 0x2E, 0x41]);
+    }
+
+    #[test]
+    fn written_parameters_announce_the_limit_alone() {
+        for number in [0, 1_000_000, 33_554_433, u32::MAX] {
+            assert_eq!(parameters(number), with_limit(f64::from(number)));
+        }
     }
 
     #[test]

@@ -15,6 +15,7 @@ mod host;
 mod limit;
 mod line;
 mod lookup;
+mod open;
 mod random;
 mod report;
 mod speed;

@@ -32,6 +32,9 @@ pub struct Entry {
     pub place: Range<usize>,
 }
 
+/// The field of a Struct.
+pub const ENTRY: u64 = 1;
+
 /// The fields of an entry.
 pub const KEY: u64 = 1;
 pub const VALUE: u64 = 2;
@@ -45,9 +48,9 @@ pub const STRUCT: u64 = 5;
 pub const LIST: u64 = 6;
 
 /// The fields that may stand in a message of each form: number and wire type.
-type Rules = [(u64, u64)];
+pub type Rules = [(u64, u64)];
 
-const IN_STRUCT: &Rules = &[(1, LENGTH_DELIMITED)];
+const IN_STRUCT: &Rules = &[(ENTRY, LENGTH_DELIMITED)];
 const IN_ENTRY: &Rules = &[(KEY, LENGTH_DELIMITED), (VALUE, LENGTH_DELIMITED)];
 const IN_LIST: &Rules = &[(1, LENGTH_DELIMITED)];
 const IN_VALUE: &Rules = &[
@@ -61,7 +64,12 @@ const IN_VALUE: &Rules = &[
 
 /// The entries of a lent Struct, in order.
 pub fn read_struct(bytes: &[u8]) -> Result<Vec<Entry>, Fault> {
-    Reader { bytes }.entries(0..bytes.len(), 1)
+    read_struct_at(bytes, 0..bytes.len())
+}
+
+/// The entries of the Struct at this place, in order; all their places and that of a fault are offsets into the bytes.
+pub fn read_struct_at(bytes: &[u8], place: Range<usize>) -> Result<Vec<Entry>, Fault> {
+    Reader { bytes }.entries(place, 1)
 }
 
 /// What a lent Value holds; its own Struct or list is level 1.
@@ -188,7 +196,7 @@ impl Reader<'_> {
 }
 
 /// Refuses a field with a number that has no place in its message, or with another wire type than its own.
-fn stands_in(rules: &Rules, field: &Field) -> Result<(), Fault> {
+pub fn stands_in(rules: &Rules, field: &Field) -> Result<(), Fault> {
     match rules.iter().find(|(number, _)| *number == field.number) {
         None => Err(field.fault(FaultKind::Other)),
         Some((_, wire_type)) if *wire_type != field.wire_type => Err(field.fault(FaultKind::WireType)),

@@ -1,9 +1,13 @@
-//! The stored Structs and Values that Google's protobuf serialized; the head of the file says how they stand there.
+//! What Google's protobuf serialized: stored Structs and Values, and OPEN frames; the head of each file says how they
+//! stand there.
 
-/// What the stored file holds.
-const STORED: &str = include_str!("../vectors/structs.txt");
+use crate::open::{Offer, Opening, INPUT, OUTPUT};
 
-/// A line of the file: a serialized Struct or Value, and the words behind its bytes.
+/// What the stored files hold.
+const STRUCTS: &str = include_str!("../vectors/structs.txt");
+const OPENS: &str = include_str!("../vectors/opens.txt");
+
+/// A line of a file: what was serialized, and the words behind its bytes.
 pub struct Vector {
     form: &'static str,
     pub bytes: Vec<u8>,
@@ -22,11 +26,46 @@ impl Vector {
         let pairs = terms.split(',').filter_map(|pair| pair.split_once(':'));
         pairs.map(|(key, value)| (from_hex(key), from_hex(value))).collect()
     }
+
+    /// Whether an OPEN frame is the very one that a client writes.
+    pub fn is_written(&self) -> bool {
+        self.form == "written"
+    }
+
+    /// What was put into an OPEN frame that is not refused.
+    pub fn opening(&self) -> Opening {
+        let Offer { name, format, .. } = self.offer();
+        Opening { producer: self.number(0) == INPUT, name, format, limit: self.number(3) as u32 }
+    }
+
+    /// The offer of the very name, format and socket that were put into an OPEN frame, if there is such a socket.
+    pub fn offer(&self) -> Offer {
+        Offer { producer: self.number(0) == OUTPUT, name: from_hex(self.words[1]), format: from_hex(self.words[2]) }
+    }
+
+    /// The number with which an OPEN frame is refused and the kind of its fault, 0 where that is none; nothing where
+    /// the frame is not refused.
+    pub fn refusal(&self) -> Option<(u64, u64)> {
+        (self.form == "refused-open").then(|| (self.number(3), self.number(4)))
+    }
+
+    fn number(&self, word: usize) -> u64 {
+        self.words[word].parse().expect("a number stands in decimal")
+    }
 }
 
-/// All vectors, in the order of the file.
-pub fn vectors() -> Vec<Vector> {
-    STORED.lines().filter(|line| !line.starts_with('#')).map(vector).collect()
+/// All Structs and Values, in the order of their file.
+pub fn structs() -> Vec<Vector> {
+    vectors(STRUCTS)
+}
+
+/// All OPEN frames, in the order of their file.
+pub fn opens() -> Vec<Vector> {
+    vectors(OPENS)
+}
+
+fn vectors(stored: &'static str) -> Vec<Vector> {
+    stored.lines().filter(|line| !line.starts_with('#')).map(vector).collect()
 }
 
 fn vector(line: &'static str) -> Vector {
@@ -46,7 +85,9 @@ fn from_hex(digits: &str) -> Vec<u8> {
 #[cfg(test)]
 mod tests {
     use super::*;
+    use crate::limit;
     use crate::lookup;
+    use crate::open;
     use crate::structs::{self, Entry, Value};
 
     fn to_hex(bytes: &[u8]) -> String {
@@ -89,7 +130,8 @@ mod tests {
     }
 
     fn vectors_of(forms: [&str; 2]) -> Vec<Vector> {
-        let of_them: Vec<Vector> = vectors().into_iter().filter(|vector| forms.contains(&vector.form)).collect();
+        let of_them: Vec<Vector> =
+            structs().into_iter().chain(opens()).filter(|vector| forms.contains(&vector.form)).collect();
         assert!(of_them.len() > 10);
         of_them
     }
@@ -127,8 +169,28 @@ mod tests {
     }
 
     #[test]
+    fn the_parameters_of_an_open_frame_are_what_google_wrote() {
+        for vector in vectors_of(["written", "open"]) {
+            let bytes = &vector.bytes;
+            let (number, heard) = open::heard(bytes, 0, bytes.len() as u64, &vector.offer());
+            if !limit::is_good(f64::from(vector.opening().limit)) {
+                assert_eq!(number, open::OUT_OF_RANGE);
+                continue;
+            }
+            let place = heard[5] as usize..(heard[5] + heard[6]) as usize;
+            let contents = match structs::read_struct_at(bytes, place.clone()) {
+                Ok(entries) if place != (0..0) => struct_contents(bytes, &entries),
+                _ => "-".to_string(),
+            };
+            assert_eq!((number, contents.as_str()), (0, vector.words[4]));
+        }
+    }
+
+    #[test]
     fn every_line_is_of_a_known_form() {
         let known = vectors_of(["struct", "value"]).len() + vectors_of(["refused-struct", "refused-value"]).len();
-        assert_eq!(vectors().len(), known);
+        assert_eq!(structs().len(), known);
+        let known = vectors_of(["written", "open"]).len() + vectors_of(["refused-open", "refused-open"]).len();
+        assert_eq!(opens().len(), known);
     }
 }

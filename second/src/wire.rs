@@ -72,6 +72,26 @@ pub fn store_varint(out: &[u8], at: u64, number: u64) -> (u64, Vec<u8>) {
     (varint.len() as u64, bytes::copy(out, at, &varint))
 }
 
+/// The tag of a field, as the shortest varint.
+fn tag(number: u64, wire_type: u64) -> Vec<u8> {
+    varint(8 * number + wire_type)
+}
+
+/// A field that holds a varint, as it is written.
+pub fn varint_field(number: u64, value: u64) -> Vec<u8> {
+    [tag(number, VARINT), varint(value)].concat()
+}
+
+/// A field that holds eight bytes, as it is written.
+pub fn eight_bytes_field(number: u64, bytes: [u8; 8]) -> Vec<u8> {
+    [&tag(number, EIGHT_BYTES)[..], &bytes].concat()
+}
+
+/// A field that holds these bytes behind their length, as it is written.
+pub fn delimited_field(number: u64, bytes: &[u8]) -> Vec<u8> {
+    [&tag(number, LENGTH_DELIMITED)[..], &varint(bytes.len() as u64), bytes].concat()
+}
+
 /// A field that was read.
 #[derive(Clone, Debug, PartialEq)]
 pub struct Field {

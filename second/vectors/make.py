@@ -1,15 +1,18 @@
 #!/usr/bin/python3
-"""Makes structs.txt: Structs and Values as Google's protobuf serializes them, each with what it holds.
+"""Makes structs.txt and opens.txt: Structs, Values and OPEN frames as Google's protobuf serializes them, each with what
+it holds.
 
-Needs Debian's python3-protobuf. The seed is fixed, and the same version gives the same file:
+Needs Debian's python3-protobuf. The seed is fixed, and the same version gives the same files:
 
-    /usr/bin/python3 make.py > structs.txt
+    /usr/bin/python3 make.py structs > structs.txt
+    /usr/bin/python3 make.py opens > opens.txt
 """
 
 import random
 import struct
+import sys
 
-from google.protobuf import struct_pb2
+from google.protobuf import descriptor_pb2, descriptor_pool, message_factory, struct_pb2
 
 SEED = 20261115
 
@@ -189,7 +192,7 @@ def print_refused(maker):
     print("refused-value", in_hex(serialized(value)), OTHER)
 
 
-def main():
+def print_structs():
     maker = Maker(SEED)
     print(HEAD)
     print_fixed_values()
@@ -203,6 +206,171 @@ def main():
             maker.fill_value(value, levels)
             print_value(value)
     print_refused(maker)
+
+
+OPENS_HEAD = """\
+# OPEN frames serialized by Google's protobuf; made by make.py.
+# written BYTES SOCKET NAME FORMAT LIMIT PARAMETERS   the very bytes that a client writes for these
+# open BYTES SOCKET NAME FORMAT LIMIT PARAMETERS      a frame that says these, with other parameters or further fields
+# refused-open BYTES SOCKET NAME FORMAT NUMBER KIND   a frame that says these, refused with this number, and where that
+#                                                     is 18 with this kind of fault, else 0
+# Bytes, names and formats stand in hexadecimal, where there are none as '-'. The limit is 50000000 where none is in the
+# parameters; these stand as contents do in structs.txt, where there are none as '-'."""
+
+UNREADABLE, OUT_OF_RANGE, NO_SUCH_SOCKET = 18, 19, 20
+
+LIMIT_KEY = "max_message_bytes"
+DEFAULT_LIMIT = 50000000
+
+NAMES = [text for text in TEXTS if text] + ["n" * 254, "n" * 255, "\u00e9" * 127 + "e", "\U0010ffff" * 63 + "\u20ac"]
+FORMATS = ["", "text/csv", "\u00e9", "f" * 127, "f" * 128, "f" * 255]
+LIMITS = [1000000, 1000001, 16777217, 33554433, 49999999, 0, 1, 999999, 50000001, 2147483648, 4294967295]
+
+
+def open_classes():
+    """The classes of OPEN messages: as they are today, and as a client may send them that knows further fields."""
+    field = descriptor_pb2.FieldDescriptorProto
+    today = [
+        (1, "data_pipe", field.TYPE_STRING), (2, "pipe_socket", field.TYPE_UINT32),
+        (3, "data_format", field.TYPE_STRING), (4, "parameters", field.TYPE_MESSAGE),
+    ]
+    further = [
+        (5, "varint", field.TYPE_UINT64), (6, "eight_bytes", field.TYPE_DOUBLE), (7, "delimited", field.TYPE_BYTES),
+        (8, "four_bytes", field.TYPE_FIXED32), (16, "texts", field.TYPE_STRING), (536870911, "last", field.TYPE_INT32),
+    ]
+    file = descriptor_pb2.FileDescriptorProto(name="open.proto", package="fbdp", syntax="proto3")
+    file.dependency.append(struct_pb2.DESCRIPTOR.name)
+    for message_name, fields in [("Open", today), ("FurtherOpen", today + further)]:
+        message = file.message_type.add(name=message_name)
+        for number, name, kind in fields:
+            label = field.LABEL_REPEATED if name == "texts" else field.LABEL_OPTIONAL
+            type_name = ".google.protobuf.Struct" if kind == field.TYPE_MESSAGE else None
+            message.field.add(number=number, name=name, type=kind, label=label, type_name=type_name)
+    pool = descriptor_pool.Default()
+    pool.AddSerializedFile(file.SerializeToString())
+    classes = message_factory.MessageFactory(pool)
+    return [classes.GetPrototype(pool.FindMessageTypeByName("fbdp." + name)) for name in ["Open", "FurtherOpen"]]
+
+
+Open, FurtherOpen = open_classes()
+
+
+def limit_of(message):
+    """The limit that was put into the parameters."""
+    if LIMIT_KEY in message.parameters.fields:
+        return int(message.parameters.fields[LIMIT_KEY].number_value)
+    return DEFAULT_LIMIT
+
+
+def open_words(message):
+    """The bytes, socket, name and format of an OPEN message."""
+    texts = [in_hex(message.data_pipe.encode()), in_hex(message.data_format.encode())]
+    return [in_hex(serialized(message)), message.pipe_socket, *texts]
+
+
+def print_open(form, message):
+    parameters = struct_contents(message.parameters) if message.HasField("parameters") else "-"
+    print(form, *open_words(message), limit_of(message), parameters)
+
+
+def print_refused_open(message, number, kind=0):
+    print("refused-open", *open_words(message), number, kind)
+
+
+def print_written(name, socket, text, limit):
+    message = Open(data_pipe=name, pipe_socket=socket, data_format=text)
+    if limit != DEFAULT_LIMIT:
+        message.parameters.fields[LIMIT_KEY].number_value = limit
+    print_open("written", message)
+
+
+def print_all_written(maker):
+    print_written("press7", 1, "", DEFAULT_LIMIT)
+    print_written("press7", 1, "", 1000000)
+    choose = maker.random.choice
+    for name in NAMES:
+        print_written(name, choose([1, 2]), choose(FORMATS), DEFAULT_LIMIT)
+    for text in FORMATS:
+        for socket in [1, 2]:
+            print_written("press7", socket, text, choose(LIMITS[:5] + [DEFAULT_LIMIT]))
+    for limit in LIMITS:
+        print_written("press7", choose([1, 2]), choose(FORMATS[:3]), limit)
+    for _ in range(40):
+        limit = maker.random.randint(1000000, 50000000)
+        print_written(choose(NAMES[:15]), choose([1, 2]), choose(FORMATS[:3]), limit)
+
+
+def fill_open(maker, message, levels):
+    """A frame with parameters of so many levels, and now and then a good limit among them."""
+    message.data_pipe = maker.random.choice(NAMES[:15])
+    message.pipe_socket = maker.random.choice([1, 2])
+    message.data_format = maker.random.choice(FORMATS[:3])
+    message.parameters.SetInParent()
+    maker.fill_struct(message.parameters, levels)
+    message.parameters.fields.pop(LIMIT_KEY, None)
+    if maker.one_in(2):
+        limit = maker.random.choice([maker.random.randint(1000000, 50000000), 1000000, DEFAULT_LIMIT])
+        message.parameters.fields[LIMIT_KEY].number_value = limit
+
+
+def fill_further(maker, message):
+    """Some fields that a server of today skips."""
+    message.varint = maker.random.getrandbits(64)
+    message.eight_bytes = maker.double()
+    message.delimited = maker.random.choice([b"", b"\xff\x80", b"\x0a\x01n"])
+    message.four_bytes = maker.random.getrandbits(32)
+    message.texts.extend(maker.text() for _ in range(maker.random.randrange(4)))
+    message.last = maker.random.choice([0, 1, -1])
+
+
+def print_refused_opens(maker):
+    named = {"data_pipe": "press7", "pipe_socket": 1}
+    print_refused_open(Open(), OUT_OF_RANGE)
+    print_refused_open(Open(data_pipe="press7"), OUT_OF_RANGE)
+    print_refused_open(Open(pipe_socket=1), OUT_OF_RANGE)
+    print_refused_open(Open(data_pipe="n" * 256, pipe_socket=1), OUT_OF_RANGE)
+    print_refused_open(Open(data_pipe="\u00e9" * 128, pipe_socket=2), OUT_OF_RANGE)
+    print_refused_open(Open(data_format="f" * 256, **named), OUT_OF_RANGE)
+    for socket in [3, 4, 258, 4294967295]:
+        print_refused_open(Open(data_pipe="press7", pipe_socket=socket), NO_SUCH_SOCKET)
+    for limit in [0, 999999, 1000000.5, 50000001, float("inf"), float("nan"), None, True, "2000000", [2000000]]:
+        message = Open(**named)
+        message.parameters[LIMIT_KEY] = limit
+        print_refused_open(message, OUT_OF_RANGE)
+    for levels in [9, 10]:
+        message = Open(**named)
+        maker.fill_struct(message.parameters, levels)
+        print_refused_open(message, UNREADABLE, TOO_DEEP)
+    message = Open(**named)
+    message.parameters.fields["no kind"].SetInParent()
+    print_refused_open(message, UNREADABLE, OTHER)
+
+
+def print_opens():
+    maker = Maker(SEED)
+    print(OPENS_HEAD)
+    print_all_written(maker)
+    message = Open(data_pipe="press7", pipe_socket=1)
+    message.parameters.SetInParent()
+    print_open("open", message)
+    for levels in range(1, 9):
+        for _ in range(12):
+            message = Open()
+            fill_open(maker, message, levels)
+            print_open("open", message)
+        for _ in range(4):
+            message = FurtherOpen()
+            fill_open(maker, message, levels)
+            fill_further(maker, message)
+            print_open("open", message)
+    print_refused_opens(maker)
+
+
+def main():
+    makers = {"structs": print_structs, "opens": print_opens}
+    if len(sys.argv) != 2 or sys.argv[1] not in makers:
+        sys.exit("usage: make.py structs|opens")
+    makers[sys.argv[1]]()
 
 
 if __name__ == "__main__":

@@ -1,12 +1,12 @@
 -- Laws of parts of a list, and of a list after a part of it was written. Assumes nothing.
 use mathlib.Core.Path.{_≡_, refl, sym, ap, ap₂, _∙_}
-use mathlib.Core.List.{List, [], _∷_, _++_, append-assoc}
+use mathlib.Core.List.{List, [], _∷_, _++_, append-assoc, append-nil}
 use mathlib.Core.Bool.{Bool, true, false}
 use Prim.Native.Nat.{ℕ, zero, suc, _+_, _-_, _≤_, _<_}
 use native.Mathlib.Nat.{add-zero}
 use native.Mathlib.Numerals.{add-one}
 use native.Mathlib.Omega.{arith}
-use lib.ListN.{length, getD, take, drop, length-append, length-drop}
+use lib.ListN.{length, getD, take, drop, length-append, length-drop, take-append-drop}
 use lib.Seq.{take-add, take-append-le, drop-append-le, take-suc, take-take, take-at, drop-at, getD-take, getD-drop, length-take-le, drop-drop, take-length, paste, length-paste}
 use lib.Dec.{leb}
 use borrow.Author.Tests.{le-leb, lt-leb, leb-true, leb-false}
@@ -76,6 +76,13 @@ module _ {A : Type 0} where
   pub part-front : (xs ys : List A) (n : ℕ) → length xs ≡ n → part (xs ++ ys) 0 n ≡ xs
   part-front xs ys n e = take-at xs ys n e
 
+  -- where a list stands in another, and what follows it
+  pub part-there : (s : List A) (at : ℕ) (xs ys : List A) → drop at s ≡ xs ++ ys → part s at (length xs) ≡ xs
+  part-there s at xs ys e = ap (take (length xs)) e ∙ take-at xs ys (length xs) refl
+
+  pub drop-past : (s : List A) (at : ℕ) (xs ys : List A) → drop at s ≡ xs ++ ys → drop (at + length xs) s ≡ ys
+  drop-past s at xs ys e = sym (drop-drop (length xs) at s) ∙ ap (drop (length xs)) e ∙ drop-at xs ys (length xs) refl
+
   module _ (out : List A) (at : ℕ) (ys : List A) where
     -- what is written where it fits
     pub put-fits : at + length ys ≤ length out → putAt out at ys ≡ take at out ++ ys ++ drop (at + length ys) out
@@ -106,6 +113,16 @@ module _ {A : Type 0} where
         let rest : List A = drop (at + length ys) out in
         let there = part-behind (take at out) (ys ++ rest) at 0 (length ys) front ∙ part-front ys rest (length ys) refl in
         simp (put-fits h, append-assoc) (rw add-zero at there)
+
+  -- writing nothing changes nothing
+  pub put-nothing : (out : List A) (at : ℕ) → putAt out at [] ≡ out
+  put-nothing out at = go (leb at (length out)) refl
+    where
+      go : (t : Bool) → leb at (length out) ≡ t → putAt out at [] ≡ out
+      go true e =
+          let fits : at + 0 ≤ length out = omega (arith, leb-true at (length out) e) in
+          put-fits out at [] fits ∙ rw (add-zero at, append-nil (take at out)) (take-append-drop at out)
+      go false e = put-none out at [] (omega (arith, leb-false at (length out) e))
 
   -- two writes, the second right behind the first, are one
   pub put-then : (out : List A) (at : ℕ) (xs ys : List A) (next : ℕ) → at + length xs ≡ next → next + length ys ≤ length out →

@@ -96,10 +96,20 @@ fn varint_within(s: &[u8], at: usize, end: usize, left: usize) -> Varint
     }
 }
 
+// The varint at place `at` of a message that ends at `end`. Nearly all have one byte, and need no call.
 fn varint_at(s: &[u8], at: usize, end: usize) -> Varint
     requires { ⌜ end ≤ length (now s) ⌝ }
     ensures { λ r. ⌜ r ≡ varintAt (now (s .entry)) at end ⌝ }
 {
+    if at < end {
+        let byte = s[at];
+        if byte < 128 {
+            return Varint::Number {
+                value: wide(byte),
+                next: at + 1,
+            };
+        }
+    }
     varint_within(s, at, end, 10)
 }
 

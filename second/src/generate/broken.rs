@@ -1,17 +1,18 @@
-//! Structs and Values in which exactly one rule is broken, at a place that is marked.
+//! Messages in which exactly one rule is broken, at a place that is marked; the rules are those of Structs and Values.
 
 use super::fields::bad_varint;
 use super::messages::{long, long_varint, Field, Form, Message, Part, Payload, Written};
 use super::{texts, trees};
+use crate::open::SOCKET;
 use crate::random::Random;
 use crate::structs::{BOOL, KEY, LIST, MOST_LEVELS, NULL, NUMBER, STRUCT, TEXT, VALUE};
 use crate::wire::{self, FaultKind, EIGHT_BYTES, FOUR_BYTES, LENGTH_DELIMITED, VARINT};
 
 /// A message in which a rule is to be broken, and the Structs and lists that it lies in, itself included.
 pub struct Place<'a> {
-    message: &'a mut Message,
+    pub message: &'a mut Message,
     level: usize,
-    random: &'a mut Random,
+    pub random: &'a mut Random,
 }
 
 /// A rule, the fault that its breach is, and how it is broken in a message: false where that cannot be done there.
@@ -69,7 +70,7 @@ pub fn broken(rule: &Rule, random: &mut Random) -> (Form, Written) {
 }
 
 /// A payload of this wire type that can be read whatever field it is in.
-fn payload(random: &mut Random, wire_type: u64) -> Payload {
+pub fn payload(random: &mut Random, wire_type: u64) -> Payload {
     match wire_type {
         VARINT => Payload::Varint { value: random.number() >> random.between(0, 63), long: long(random) },
         EIGHT_BYTES => Payload::Eight(random.number().to_le_bytes()),
@@ -84,7 +85,7 @@ fn payload(random: &mut Random, wire_type: u64) -> Payload {
 
 impl Place<'_> {
     /// Puts a broken part somewhere into the message, now and then in place of another part.
-    fn insert(&mut self, part: Part) {
+    pub fn insert(&mut self, part: Part) {
         let parts = &mut self.message.parts;
         let place = self.random.between(0, parts.len());
         if place < parts.len() && self.random.one_in(2) {
@@ -94,13 +95,13 @@ impl Place<'_> {
     }
 
     /// Puts a broken part behind the part at `place`, at any distance.
-    fn insert_behind(&mut self, place: usize, part: Part) {
+    pub fn insert_behind(&mut self, place: usize, part: Part) {
         let place = self.random.between(place + 1, self.message.parts.len());
         self.message.parts.splice(place..place, [Part::Mark, part]);
     }
 
     /// A field in a form of its own.
-    fn field(&mut self, number: u64, payload: Payload) -> Part {
+    pub fn field(&mut self, number: u64, payload: Payload) -> Part {
         Part::Field(Field { number, long_tag: long(self.random), payload })
     }
 
@@ -109,6 +110,7 @@ impl Place<'_> {
         match self.message.form {
             Form::Struct | Form::List => 1,
             Form::Entry => 2,
+            Form::Open => 4,
             Form::Value => 6,
         }
     }
@@ -133,7 +135,7 @@ impl Place<'_> {
     }
 
     /// The place of the field with this number in a message of this form.
-    fn find_in(&self, form: Form, number: u64) -> Option<usize> {
+    pub fn find_in(&self, form: Form, number: u64) -> Option<usize> {
         if self.message.form == form {
             self.find(number)
         } else {
@@ -142,7 +144,7 @@ impl Place<'_> {
     }
 
     /// Gives the field at `place` another payload, and marks it.
-    fn replace(&mut self, place: usize, payload: Payload) {
+    pub fn replace(&mut self, place: usize, payload: Payload) {
         if let Part::Field(field) = &mut self.message.parts[place] {
             field.payload = payload;
         }
@@ -223,7 +225,7 @@ fn no_wire_type(place: &mut Place) -> bool {
 fn other_wire_type(place: &mut Place) -> bool {
     let number = place.number();
     let own = match (place.message.form, number) {
-        (Form::Value, NULL | BOOL) => VARINT,
+        (Form::Value, NULL | BOOL) | (Form::Open, SOCKET) => VARINT,
         (Form::Value, NUMBER) => EIGHT_BYTES,
         _ => LENGTH_DELIMITED,
     };
@@ -237,6 +239,9 @@ fn other_wire_type(place: &mut Place) -> bool {
 }
 
 fn number_without_place(place: &mut Place) -> bool {
+    if place.message.form == Form::Open {
+        return false;
+    }
     let first = place.most_number() + 1;
     let number = match place.random.between(0, 3) {
         0 => first as u64,

@@ -56,7 +56,7 @@ const STRANGE: [u64; 14] = [
 ];
 
 /// The bits of every double that is tried: with its neighbours, with a half added, and each with the other sign.
-fn every_double() -> Vec<u64> {
+pub fn every_double() -> Vec<u64> {
     let mut doubles = STRANGE.to_vec();
     for whole in WHOLE {
         let bits = whole.to_bits();
@@ -68,12 +68,12 @@ fn every_double() -> Vec<u64> {
 }
 
 /// The Value of this double.
-fn number(random: &mut Random, bits: u64) -> Message {
+pub fn number(random: &mut Random, bits: u64) -> Message {
     trees::value_of(random, NUMBER, Payload::Eight(bits.to_le_bytes()))
 }
 
 /// Adds an entry with the limit's key to a Struct, at any place among the others.
-fn add_limit(random: &mut Random, parameters: &mut Message, value: Message) {
+pub fn add_limit(random: &mut Random, parameters: &mut Message, value: Message) {
     trees::add_entry(random, parameters, limit::KEY.to_vec(), value);
     let last = parameters.parts.len() - 1;
     let place = random.between(0, last);
@@ -81,7 +81,7 @@ fn add_limit(random: &mut Random, parameters: &mut Message, value: Message) {
 }
 
 /// A Struct of a few entries, none of them the limit.
-fn other_parameters(random: &mut Random) -> Message {
+pub fn other_parameters(random: &mut Random) -> Message {
     loop {
         let parameters = trees::any_struct(random);
         if !trees::keys(&parameters).iter().any(|key| key == limit::KEY) {
@@ -103,7 +103,7 @@ pub fn every_limit(random: &mut Random) -> Calls {
 }
 
 /// A double that is near the range or in it, whole or nearly so.
-fn double(random: &mut Random) -> u64 {
+pub fn double(random: &mut Random) -> u64 {
     match random.between(0, 5) {
         0 => random.number(),
         1 => (random.between(0, 60_000_000) as f64).to_bits() ^ 1 << random.between(0, 63),
@@ -127,7 +127,7 @@ pub fn random_limits(random: &mut Random) -> Calls {
 }
 
 /// A Value that holds the good limit of 2,000,000 somewhere inside, but is not a number.
-fn hidden_limit(random: &mut Random) -> Message {
+pub fn hidden_limit(random: &mut Random) -> Message {
     let value = number(random, 2_000_000f64.to_bits());
     match random.between(0, 2) {
         0 => {
@@ -171,15 +171,19 @@ pub fn no_limits(random: &mut Random) -> Calls {
     calls
 }
 
-/// The bytes of the doubles of whole numbers around every power of two and at the ends of the range.
-pub fn bytes_around_powers(_: &mut Random) -> Calls {
-    let mut calls = Calls::new();
+/// Whole numbers around every power of two and at the ends of the range.
+pub fn whole_numbers() -> Vec<u32> {
+    let mut numbers = Vec::new();
     for power in 0..32 {
-        for number in [(1 << power) - 1, 1 << power, (1 << power) + 1, u32::MAX - (1 << power), u32::MAX >> power] {
-            add(&mut calls, LimitBytes { number });
-        }
+        numbers.extend([(1 << power) - 1, 1 << power, (1 << power) + 1, u32::MAX - (1 << power), u32::MAX >> power]);
     }
-    for number in [999_999, 1_000_000, 1_000_001, 49_999_999, 50_000_000, 50_000_001, u32::MAX] {
+    numbers.extend([999_999, 1_000_000, 1_000_001, 49_999_999, 50_000_000, 50_000_001, u32::MAX]);
+    numbers
+}
+
+pub fn every_limit_bytes(_: &mut Random) -> Calls {
+    let mut calls = Calls::new();
+    for number in whole_numbers() {
         add(&mut calls, LimitBytes { number });
     }
     calls

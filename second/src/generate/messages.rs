@@ -6,6 +6,7 @@ use crate::wire::{self, EIGHT_BYTES, FOUR_BYTES, LENGTH_DELIMITED, MOST_VARINT, 
 /// What a message is read as.
 #[derive(Clone, Copy, Debug, PartialEq)]
 pub enum Form {
+    Open,
     Struct,
     Entry,
     Value,
@@ -80,6 +81,25 @@ pub fn long(random: &mut Random) -> usize {
         1 => random.between(3, 9),
         _ => 0,
     }
+}
+
+/// The bytes with the one at `place` changed, in every way that is likely to matter.
+pub fn damages(random: &mut Random, bytes: &[u8], place: usize) -> Vec<Vec<u8>> {
+    let right = bytes[place];
+    let wrong = [random.byte(), right.wrapping_add(1), right.wrapping_sub(1), right ^ 0x80, right ^ 0x08, 0, 255];
+    let damaged = wrong.map(|wrong| [&bytes[..place], &[wrong], &bytes[place + 1..]].concat());
+    damaged.to_vec()
+}
+
+/// The bytes with one of them left out, moved to another place, and one more put in.
+pub fn shifts(random: &mut Random, bytes: &[u8]) -> [Vec<u8>; 3] {
+    let place = random.between(0, bytes.len() - 1);
+    let mut left_out = bytes.to_vec();
+    let taken = left_out.remove(place);
+    let mut moved = left_out.clone();
+    moved.insert(random.between(0, moved.len()), taken);
+    let put_in = random.choose(&[0, 1, 2, 0x0A, 0x12, 0x80, 0xFF]);
+    [left_out, moved, [&bytes[..place], &[put_in], &bytes[place..]].concat()]
 }
 
 impl Message {

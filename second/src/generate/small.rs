@@ -32,12 +32,17 @@ fn delimited(tag: u8, bytes: &[u8]) -> Vec<u8> {
     [&[tag, bytes.len() as u8], bytes].concat()
 }
 
+/// Each of the first pieces with each of the last behind it.
+pub fn pairs(first: &[Vec<u8>], last: &[Vec<u8>]) -> Vec<Vec<u8>> {
+    first.iter().flat_map(|first| last.iter().map(move |last| [&first[..], last].concat())).collect()
+}
+
 /// All sequences of one to so many of the pieces.
-fn sequences(pieces: &[Vec<u8>], most: usize) -> Vec<Vec<u8>> {
+pub fn sequences(pieces: &[Vec<u8>], most: usize) -> Vec<Vec<u8>> {
     let mut all: Vec<Vec<u8>> = pieces.to_vec();
     let mut longest = all.clone();
     for _ in 1..most {
-        longest = longest.iter().flat_map(|first| pieces.iter().map(move |last| [&first[..], last].concat())).collect();
+        longest = pairs(&longest, pieces);
         all.extend(longest.clone());
     }
     all

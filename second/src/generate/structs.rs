@@ -2,7 +2,7 @@
 //! random bytes.
 
 use super::broken::{break_rule, broken, RULES};
-use super::messages::{long_varint, Form, Message};
+use super::messages::{damages, long_varint, shifts, Form, Message};
 use super::{add, trees, Calls};
 use crate::calls::{Check, Limit, Lookup, ReadValue};
 use crate::random::Random;
@@ -93,11 +93,7 @@ pub fn damaged(random: &mut Random) -> Calls {
     let mut calls = Calls::new();
     let (form, bytes) = short(random);
     for place in 0..bytes.len() {
-        let right = bytes[place];
-        let wrong = [random.byte(), right.wrapping_add(1), right.wrapping_sub(1), right ^ 0x80, right ^ 0x08, 0, 255];
-        for wrong in wrong {
-            let mut damaged = bytes.clone();
-            damaged[place] = wrong;
+        for damaged in damages(random, &bytes, place) {
             add_message(&mut calls, random, form, damaged);
         }
     }
@@ -109,14 +105,9 @@ pub fn shifted(random: &mut Random) -> Calls {
     let mut calls = Calls::new();
     for _ in 0..40 {
         let (form, bytes) = short(random);
-        let place = random.between(0, bytes.len() - 1);
-        let mut shifted = bytes.clone();
-        let taken = shifted.remove(place);
-        add_message(&mut calls, random, form, shifted.clone());
-        shifted.insert(random.between(0, shifted.len()), taken);
-        add_message(&mut calls, random, form, shifted);
-        let put_in = random.choose(&[0, 1, 2, 0x0A, 0x12, 0x80, 0xFF]);
-        add_message(&mut calls, random, form, [&bytes[..place], &[put_in], &bytes[place..]].concat());
+        for shifted in shifts(random, &bytes) {
+            add_message(&mut calls, random, form, shifted);
+        }
     }
     calls
 }
@@ -157,7 +148,7 @@ pub fn random_bytes(random: &mut Random) -> Calls {
 }
 
 /// Fields of low numbers and any wire type, their lengths mostly right, nested at random.
-fn plausible(random: &mut Random, levels: usize) -> Vec<u8> {
+pub fn plausible(random: &mut Random, levels: usize) -> Vec<u8> {
     let mut bytes = Vec::new();
     for _ in 0..random.choose(&[0, 1, 1, 1, 2]) {
         let number = random.choose(&[1, 1, 1, 2, 2, 3, 4, 5, 6, 7]);
@@ -191,7 +182,7 @@ pub fn plausible_fields(random: &mut Random) -> Calls {
 }
 
 /// Keys that are much alike: of one length and differing in one byte, or of many lengths and with one prefix.
-fn similar_keys(random: &mut Random, count: usize) -> Vec<Vec<u8>> {
+pub fn similar_keys(random: &mut Random, count: usize) -> Vec<Vec<u8>> {
     let length = random.between(4, 24);
     let prefix: Vec<u8> = (0..length).map(|_| b'a' + random.byte() % 26).collect();
     let sort = random.between(0, 2);
@@ -204,7 +195,7 @@ fn similar_keys(random: &mut Random, count: usize) -> Vec<Vec<u8>> {
 }
 
 /// A Struct of these keys, each with a scalar Value.
-fn struct_of_keys(random: &mut Random, keys: &[Vec<u8>]) -> Message {
+pub fn struct_of_keys(random: &mut Random, keys: &[Vec<u8>]) -> Message {
     let mut structure = Message::new(Form::Struct);
     for key in keys {
         let value = trees::value(random, 0);

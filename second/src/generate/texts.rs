@@ -92,6 +92,18 @@ pub fn good(random: &mut Random) -> Vec<u8> {
     characters(random, count).into_bytes()
 }
 
+/// A well-formed text of exactly so many bytes.
+pub fn of_length(random: &mut Random, length: usize) -> Vec<u8> {
+    let mut text = String::new();
+    while text.len() < length {
+        let next = character(random);
+        if text.len() + next.len_utf8() <= length {
+            text.push(next);
+        }
+    }
+    text.into_bytes()
+}
+
 /// A text with one bad sequence in it.
 pub fn bad(random: &mut Random) -> Vec<u8> {
     let sequence = random.choose(&BAD_SEQUENCES);

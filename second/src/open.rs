@@ -1,0 +1,222 @@
+//! The model of the OPEN frame: what a server hears in one, and the one that a client writes.
+
+use std::ops::Range;
+
+use crate::bytes;
+use crate::limit::{self, Announced};
+use crate::structs::{self, Entry, Rules, UNREADABLE};
+use crate::text;
+use crate::wire::{self, Fault, FaultKind, Field, LENGTH_DELIMITED, VARINT};
+
+/// The numbers answered for a frame that can be read and is refused.
+pub const OUT_OF_RANGE: u64 = 19;
+pub const NO_SUCH_SOCKET: u64 = 20;
+pub const NOT_OFFERED: u64 = 21;
+pub const OTHER_FORMAT: u64 = 22;
+
+/// The number answered where a client gives a bad name or format.
+pub const BAD_GIVEN: u64 = 34;
+
+/// The fields of an OPEN frame; those of higher numbers are skipped.
+pub const NAME: u64 = 1;
+pub const SOCKET: u64 = 2;
+pub const FORMAT: u64 = 3;
+pub const PARAMETERS: u64 = 4;
+
+const IN_OPEN: &Rules =
+    &[(NAME, LENGTH_DELIMITED), (SOCKET, VARINT), (FORMAT, LENGTH_DELIMITED), (PARAMETERS, LENGTH_DELIMITED)];
+
+/// The sockets of a pipe.
+pub const INPUT: u64 = 1;
+pub const OUTPUT: u64 = 2;
+
+/// The most bytes of a name and of a format.
+pub const MOST_TEXT: usize = 255;
+
+/// The limit where none is announced.
+pub const DEFAULT_LIMIT: u32 = 50_000_000;
+
+/// What a server offers, and whether its flow is that of a producer.
+#[derive(Clone)]
+pub struct Offer {
+    pub producer: bool,
+    pub name: Vec<u8>,
+    pub format: Vec<u8>,
+}
+
+impl Offer {
+    /// The socket that is offered.
+    pub fn socket(&self) -> u64 {
+        if self.producer {
+            OUTPUT
+        } else {
+            INPUT
+        }
+    }
+}
+
+/// What a client opens a pipe with, and whether its flow is that of a producer.
+#[derive(Clone)]
+pub struct Opening {
+    pub producer: bool,
+    pub name: Vec<u8>,
+    pub format: Vec<u8>,
+    pub limit: u32,
+}
+
+impl Opening {
+    /// The socket that is opened.
+    pub fn socket(&self) -> u64 {
+        if self.producer {
+            INPUT
+        } else {
+            OUTPUT
+        }
+    }
+}
+
+/// The fields of an OPEN frame that can be read, in order and without those that are skipped, and the entries of its
+/// parameters.
+#[derive(Default)]
+struct Frame {
+    fields: Vec<Field>,
+    parameters: Vec<Entry>,
+}
+
+impl Frame {
+    fn field(&self, number: u64) -> Option<&Field> {
+        self.fields.iter().find(|field| field.number == number)
+    }
+
+    /// The place of a field's payload; the empty place at 0 where there is no such field.
+    fn place(&self, number: u64) -> Range<usize> {
+        self.field(number).map_or(0..0, |field| field.payload.clone())
+    }
+
+    /// What the socket says; 0 where it is absent.
+    fn socket(&self) -> u64 {
+        self.field(SOCKET).map_or(0, |field| field.value)
+    }
+}
+
+/// The frame at this place of the message, or its first fault.
+fn read(message: &[u8], place: Range<usize>) -> Result<Frame, Fault> {
+    let mut frame = Frame::default();
+    for field in wire::fields(message, place) {
+        let field = field?;
+        if field.number > PARAMETERS {
+            continue;
+        }
+        allowed(message, &field, &frame)?;
+        if field.number == PARAMETERS {
+            frame.parameters = structs::read_struct_at(message, field.payload.clone())?;
+        }
+        frame.fields.push(field);
+    }
+    Ok(frame)
+}
+
+/// Refuses a field that may not stand behind what the frame holds already.
+fn allowed(message: &[u8], field: &Field, before: &Frame) -> Result<(), Fault> {
+    let oversized = field.value > u64::from(u32::MAX);
+    if field.number == SOCKET && field.wire_type == VARINT && oversized {
+        return Err(field.fault(FaultKind::BadVarint));
+    }
+    structs::stands_in(IN_OPEN, field)?;
+    if before.field(field.number).is_some() {
+        return Err(field.fault(FaultKind::Repeated));
+    }
+    let is_text = matches!(field.number, NAME | FORMAT);
+    if is_text && !text::well_formed(&message[field.payload.clone()]) {
+        return Err(field.fault(FaultKind::BadText));
+    }
+    Ok(())
+}
+
+/// The limit that holds for a frame which the offer meets; else the first of 19 to 22 that applies.
+fn met(message: &[u8], frame: &Frame, offer: &Offer) -> Result<u64, u64> {
+    let (name, format) = (&message[frame.place(NAME)], &message[frame.place(FORMAT)]);
+    let socket = frame.socket();
+    let limit = match limit::announced(&frame.parameters) {
+        Announced::Absent => DEFAULT_LIMIT.into(),
+        Announced::Good(limit) => limit,
+        Announced::Bad => return Err(OUT_OF_RANGE),
+    };
+    if name.is_empty() || name.len() > MOST_TEXT || format.len() > MOST_TEXT || socket == 0 {
+        return Err(OUT_OF_RANGE);
+    }
+    if socket > OUTPUT {
+        return Err(NO_SUCH_SOCKET);
+    }
+    if name != offer.name || socket != offer.socket() {
+        return Err(NOT_OFFERED);
+    }
+    if !format.is_empty() && format != offer.format {
+        return Err(OTHER_FORMAT);
+    }
+    Ok(limit)
+}
+
+/// The place from `at` up to `end`, without bytes where it ends before it begins; one that ends behind the message is
+/// cut short at its first field.
+fn frame_place(message: &[u8], at: u64, end: u64) -> Result<Range<usize>, Fault> {
+    if at >= end {
+        return Ok(0..0);
+    }
+    if end > message.len() as u64 {
+        return Err(Fault { kind: FaultKind::CutShort, at: at as usize });
+    }
+    Ok(at as usize..end as usize)
+}
+
+/// The number answered for the OPEN frame from `at` up to `end`, and what is heard: socket, places of name, format and
+/// parameters, limit, or zeros where it is refused; behind them the kind and place of the fault of an unreadable one.
+pub fn heard(message: &[u8], at: u64, end: u64, offer: &Offer) -> (u64, [u64; 10]) {
+    let frame = match frame_place(message, at, end).and_then(|place| read(message, place)) {
+        Ok(frame) => frame,
+        Err(fault) => return (UNREADABLE, [0, 0, 0, 0, 0, 0, 0, 0, fault.kind as u64, fault.at as u64]),
+    };
+    let limit = match met(message, &frame, offer) {
+        Ok(limit) => limit,
+        Err(refusal) => return (refusal, [0; 10]),
+    };
+    let place = |number| {
+        let place = frame.place(number);
+        [place.start as u64, place.len() as u64]
+    };
+    let places = [NAME, FORMAT, PARAMETERS].map(place).concat();
+    let mut heard = [0; 10];
+    heard[0] = frame.socket();
+    heard[1..7].copy_from_slice(&places);
+    heard[7] = limit;
+    (0, heard)
+}
+
+/// The OPEN frame of a client; nothing where its name or format is bad.
+pub fn frame(opening: &Opening) -> Option<Vec<u8>> {
+    let good = |text: &[u8]| text.len() <= MOST_TEXT && text::well_formed(text);
+    if opening.name.is_empty() || !good(&opening.name) || !good(&opening.format) {
+        return None;
+    }
+    let mut frame = wire::delimited_field(NAME, &opening.name);
+    frame.extend(wire::varint_field(SOCKET, opening.socket()));
+    if !opening.format.is_empty() {
+        frame.extend(wire::delimited_field(FORMAT, &opening.format));
+    }
+    if opening.limit != DEFAULT_LIMIT {
+        frame.extend(wire::delimited_field(PARAMETERS, &limit::parameters(opening.limit)));
+    }
+    Some(frame)
+}
+
+/// The number answered for a client's OPEN frame, its length, and `out` after it is stored from `at` on; `out` is as it
+/// was where the frame does not fit.
+pub fn store_frame(out: &[u8], at: u64, opening: &Opening) -> (u64, u64, Vec<u8>) {
+    match frame(opening) {
+        None => (BAD_GIVEN, 0, out.to_vec()),
+        Some(frame) => (0, frame.len() as u64, bytes::copy(out, at, &frame)),
+    }
+}
+
+#[cfg(test)]
+mod tests;
