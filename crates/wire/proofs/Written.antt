@@ -1,20 +1,39 @@
 -- A field that was written is read back, wherever it stands and whatever follows. Assumes nothing.
 use Prim.Native.Nat.{ℕ, _+_, _-_, _*_, _/_, _%_, _^_, _≤_, _<_}
 use mathlib.Core.Path.{_≡_, refl, sym, ap, _∙_}
-use mathlib.Core.List.{List, _∷_, _++_, append-assoc}
+use mathlib.Core.List.{List, [], _∷_, _++_, append-assoc}
 use lib.ListN.{length, drop, length-append}
 use native.Mathlib.Nat.{add-assoc}
 use native.Mathlib.Omega.{arith}
-use borrow.Author.Tests.{le-ltb, le-leb}
+use borrow.Author.Tests.{le-ltb, lt-ltb, le-leb}
 use Rattle.bytes_be.proofs.Parts.{drop-past}
 use Rattle.wire.specs.declared.Field.{Field}
 use Rattle.wire.specs.declared.Reading.{Reading}
 use Rattle.wire.specs.declared.Reading.the-variants.{Read}
-use Rattle.wire.specs.Varint.{shortestOf, varintLength}
+use Rattle.wire.specs.Varint.{shortestWithin, shortestOf, varintLength}
 use Rattle.wire.specs.Fields.{payloadAt, fieldAt, fieldsOf}
 use Rattle.wire.specs.Written.{tagOf, varintField, eightField, bytesField}
 use Rattle.wire.proofs.Shortest.{varint-back}
 use Rattle.wire.proofs.Readings.{field-within, first-field}
+
+-- ---- how long a field is whose tag has one byte
+
+pub one-byte : (n : ℕ) → n < 128 → shortestOf n ≡ n ∷ []
+unfolding shortestOf shortestWithin
+one-byte n h = simp (lt-ltb n 128 h)
+
+pub length-tag : (number wire : ℕ) → number ≤ 15 → wire < 8 → length (tagOf number wire) ≡ 1
+unfolding tagOf
+length-tag number wire h w = ap length (one-byte (number * 8 + wire) (omega arith))
+
+pub length-bytes-field : (number : ℕ) (bytes : List ℕ) → number ≤ 15 → length (bytesField number bytes) ≡ 1 + varintLength (length bytes) + length bytes
+unfolding bytesField varintLength
+length-bytes-field number bytes h =
+    let sized = shortestOf (length bytes) in
+    length-append (tagOf number 2 ++ sized) bytes
+    ∙ ap (λ (k : ℕ). k + length bytes) (length-append (tagOf number 2) sized ∙ ap (λ (k : ℕ). k + length sized) (length-tag number 2 h (omega arith)))
+
+-- ---- read back
 
 -- a number that a field may have, so that its tag is at most 2^32 - 1
 abbrev pub Numbers : ℕ → Type 0

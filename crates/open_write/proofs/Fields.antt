@@ -1,0 +1,82 @@
+-- The fields of a frame that is written, byte by byte, and their lengths. Assumes nothing.
+use Prim.Native.Nat.{ℕ, _+_, _≤_}
+use mathlib.Core.Path.{_≡_, refl, sym, ap, ap₂, _∙_}
+use mathlib.Core.List.{List, [], _∷_, _++_}
+use mathlib.Core.Bool.{Bool, true, false, cond}
+use lib.ListN.{length, length-append}
+use lib.Dec.{eqb}
+use native.Mathlib.Omega.{arith}
+use borrow.Author.Tests.{eq-eqb, ne-eqb, eqb-true, eqb-false}
+use Rattle.bytes_be.specs.Ascii.{ascii}
+use Rattle.wire.specs.Varint.{shortestWithin, shortestOf, varintLength}
+use Rattle.wire.specs.Written.{tagOf, varintField, eightField, bytesField}
+use Rattle.wire.proofs.Shortest.{varint-at-most}
+use Rattle.wire.proofs.Written.{length-bytes-field}
+use Rattle.double.specs.Double.{bytesOf}
+use Rattle.double.proofs.Order.{length-bytesOf}
+use Rattle.open_write.specs.Frame.{socketOf, nameField, socketField, formatField, limitStruct, parametersField, frameFor}
+
+pub socket-bytes : (flow : ℕ) → 0x10 ∷ socketOf flow ∷ [] ≡ socketField flow
+unfolding varintField tagOf shortestOf shortestWithin
+socket-bytes flow = go (eqb flow 1)
+  where
+    go : (t : Bool) → 0x10 ∷ cond t 1 2 ∷ [] ≡ varintField 2 (cond t 1 2)
+    go true = refl
+    go false = refl
+
+pub length-socket : (flow : ℕ) → length (socketField flow) ≡ 2
+length-socket flow = ap length (sym (socket-bytes flow))
+
+module _ (format : List ℕ) where
+  pub format-none : length format ≡ 0 → formatField format ≡ []
+  unfolding formatField
+  format-none h = simp (eq-eqb (length format) 0 h)
+
+  pub format-some : (length format ≡ 0 → ⊥) → formatField format ≡ bytesField 3 format
+  unfolding formatField
+  format-some h = simp (ne-eqb (length format) 0 h)
+
+  pub format-short : length format ≤ 255 → length (formatField format) ≤ 266
+  unfolding formatField
+  format-short h = go (eqb (length format) 0)
+    where
+      go : (t : Bool) → length (cond t [] (bytesField 3 format)) ≤ 266
+      go true = omega arith
+      go false = omega (arith, length-bytes-field 3 format (omega arith), varint-at-most (length format))
+
+-- the tags and lengths of the Struct, its entry, its key and its Value
+abbrev pub structHead : List ℕ
+structHead = 0x22 ∷ 32 ∷ 0x0A ∷ 30 ∷ 0x0A ∷ 17 ∷ []
+
+abbrev pub valueHead : List ℕ
+valueHead = 0x12 ∷ 9 ∷ 0x11 ∷ []
+
+module _ (limit : ℕ) where
+  pub parameters-none : limit ≡ 50000000 → parametersField limit ≡ []
+  unfolding parametersField
+  parameters-none h = simp (eq-eqb limit 50000000 h)
+
+  pub parameters-some : (limit ≡ 50000000 → ⊥) → parametersField limit ≡ structHead ++ ascii "max_message_bytes" ++ valueHead ++ bytesOf limit
+  unfolding parametersField limitStruct bytesField eightField tagOf shortestOf shortestWithin
+  parameters-some h = simp (ne-eqb limit 50000000 h, length-bytesOf limit)
+
+  pub length-parameters : (limit ≡ 50000000 → ⊥) → length (parametersField limit) ≡ 34
+  length-parameters h =
+      ap length (parameters-some h) ∙ length-append (structHead ++ ascii "max_message_bytes" ++ valueHead) (bytesOf limit) ∙ ap (λ (k : ℕ). 26 + k) (length-bytesOf limit)
+
+  pub parameters-short : length (parametersField limit) ≤ 34
+  parameters-short = go (eqb limit 50000000) refl
+    where
+      go : (t : Bool) → eqb limit 50000000 ≡ t → length (parametersField limit) ≤ 34
+      go true e = rw (parameters-none (eqb-true limit 50000000 e)) (omega arith)
+      go false e = rw (length-parameters (eqb-false limit 50000000 e)) (omega arith)
+
+pub length-frame : (flow : ℕ) (name format : List ℕ) (limit : ℕ)
+    → length (frameFor flow name format limit) ≡ 1 + varintLength (length name) + length name + 2 + length (formatField format) + length (parametersField limit)
+unfolding frameFor
+length-frame flow name format limit =
+    length-append (nameField name ++ socketField flow ++ formatField format) (parametersField limit)
+    ∙ ap (λ (k : ℕ). k + length (parametersField limit))
+    (length-append (nameField name ++ socketField flow) (formatField format)
+    ∙ ap (λ (k : ℕ). k + length (formatField format))
+    (length-append (nameField name) (socketField flow) ∙ ap₂ (λ (j k : ℕ). j + k) (length-bytes-field 1 name (omega arith)) (length-socket flow)))

@@ -1,0 +1,29 @@
+-- `open_write::store_format` meets its contract, by whether the format is empty. Assumes nothing.
+use Prim.Native.Nat.{ℕ, _+_}
+use mathlib.Core.Path.{sym, ap, _∙_}
+use mathlib.Core.List.{List}
+use lib.ListN.{length}
+use native.Mathlib.Nat.{add-zero}
+use native.Mathlib.Omega.{arith}
+use borrow.Author.Needs.{needs}
+use Rattle.bytes_be.specs.Part.{putAt}
+use Rattle.bytes_be.proofs.Parts.{put-nothing}
+use Rattle.open_write.proofs.Fields.{format-none, format-some}
+use denote.Ref.{now}
+use Rattle.open_write.proofs.store_format.Statement.{statement}
+use Rattle.open_write.proofs.store_format.Tie as tie
+
+returns : tie.Need-returns
+returns c = (sym (ap (putAt _ _) (format-none _ (c .if1 .taken)) ∙ put-nothing _ _), sym (ap (λ (l : List ℕ). c .before .before .before .args .at + length l) (format-none _ (c .if1 .taken)) ∙ add-zero _))
+
+store-bytes-requires : tie.Need-store-bytes-requires
+store-bytes-requires c κs = (omega arith, rw (format-some _ (c .before .if1 .left)) at (c .before .before .before .before .pre))
+
+same-length : tie.Need-same-length
+same-length c = search needs
+
+returns-2 : tie.Need-returns-2
+returns-2 c = rw (← format-some _ (c .before .before .before .before .if1 .left)) at (c .before .before .store-bytes .ensures)
+
+pub store-format-spec : {M : Type 1} → statement M
+store-format-spec = tie.close (tie.spec returns store-bytes-requires same-length returns-2)
