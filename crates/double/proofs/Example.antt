@@ -10,7 +10,7 @@ use Rattle.double.specs.declared.Limit.the-variants.{Whole, Bad}
 use Rattle.double.specs.Double.{bitsAt, bytesOf}
 use Rattle.double.specs.Limit.{limitOf}
 
-abbrev million : List ℕ
+abbrev pub million : List ℕ
 million = 0x00 ∷ 0x00 ∷ 0x00 ∷ 0x00 ∷ 0x80 ∷ 0x84 ∷ 0x2E ∷ 0x41 ∷ []
 
 pub million-written : bytesOf 1000000 ≡ million

@@ -16,13 +16,13 @@ use wire::Kind;
 use wire::Reading;
 
 // Where the fields of a frame have their payloads. An absent one is the empty place at 0, where no payload stands.
-struct Frame {
-    name: Place,
-    socket: Place,
-    format: Place,
-    parameters: Place,
+pub struct Frame {
+    pub name: Place,
+    pub socket: Place,
+    pub format: Place,
+    pub parameters: Place,
     // What the socket's varint says; 0 where it is absent.
-    number: u64,
+    pub number: u64,
 }
 
 // What an OPEN frame says. An absent part is the empty place at 0.

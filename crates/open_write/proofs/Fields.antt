@@ -1,20 +1,36 @@
--- The fields of a frame that is written, byte by byte, and their lengths. Assumes nothing.
+-- What a good name and a good format are, and the fields of a frame that is written, byte by byte, with their lengths. Assumes nothing.
 use Prim.Native.Nat.{ℕ, _+_, _≤_}
 use mathlib.Core.Path.{_≡_, refl, sym, ap, ap₂, _∙_}
 use mathlib.Core.List.{List, [], _∷_, _++_}
-use mathlib.Core.Bool.{Bool, true, false, cond}
+use mathlib.Core.Bool.{Bool, true, false, cond, _&&_}
 use lib.ListN.{length, length-append}
-use lib.Dec.{eqb}
+use lib.Dec.{leb, eqb}
 use native.Mathlib.Omega.{arith}
-use borrow.Author.Tests.{eq-eqb, ne-eqb, eqb-true, eqb-false}
+use borrow.Author.Tests.{eq-eqb, ne-eqb, eqb-true, eqb-false, leb-true}
 use Rattle.bytes_be.specs.Ascii.{ascii}
+use Rattle.bytes_be.proofs.Tests.{both-true}
+use Rattle.utf8.specs.Text.{wellFormed}
 use Rattle.wire.specs.Varint.{shortestWithin, shortestOf, varintLength}
 use Rattle.wire.specs.Written.{tagOf, varintField, eightField, bytesField}
 use Rattle.wire.proofs.Shortest.{varint-at-most}
 use Rattle.wire.proofs.Written.{length-bytes-field}
 use Rattle.double.specs.Double.{bytesOf}
 use Rattle.double.proofs.Order.{length-bytesOf}
-use Rattle.open_write.specs.Frame.{socketOf, nameField, socketField, formatField, limitStruct, parametersField, frameFor}
+use Rattle.open_write.specs.Frame.{goodName, goodFormat, socketOf, nameField, socketField, formatField, limitStruct, parametersField, frameFor}
+
+-- what a good name and a good format are
+pub name-says : (name : List ℕ) → goodName name ≡ true → (1 ≤ length name) × (length name ≤ 255) × (wellFormed name ≡ true)
+unfolding goodName
+name-says name e =
+    let both = both-true (leb 1 (length name) && leb (length name) 255) (wellFormed name) e in
+    let ends = both-true (leb 1 (length name)) (leb (length name) 255) (both .0) in
+    (leb-true 1 (length name) (ends .0), leb-true (length name) 255 (ends .1), both .1)
+
+pub format-says : (format : List ℕ) → goodFormat format ≡ true → (length format ≤ 255) × (wellFormed format ≡ true)
+unfolding goodFormat
+format-says format e =
+    let both = both-true (leb (length format) 255) (wellFormed format) e in
+    (leb-true (length format) 255 (both .0), both .1)
 
 pub socket-bytes : (flow : ℕ) → 0x10 ∷ socketOf flow ∷ [] ≡ socketField flow
 unfolding varintField tagOf shortestOf shortestWithin
@@ -56,13 +72,21 @@ module _ (limit : ℕ) where
   unfolding parametersField
   parameters-none h = simp (eq-eqb limit 50000000 h)
 
-  pub parameters-some : (limit ≡ 50000000 → ⊥) → parametersField limit ≡ structHead ++ ascii "max_message_bytes" ++ valueHead ++ bytesOf limit
-  unfolding parametersField limitStruct bytesField eightField tagOf shortestOf shortestWithin
-  parameters-some h = simp (ne-eqb limit 50000000 h, length-bytesOf limit)
+  pub parameters-some : (limit ≡ 50000000 → ⊥) → parametersField limit ≡ bytesField 4 (limitStruct limit)
+  unfolding parametersField
+  parameters-some h = simp (ne-eqb limit 50000000 h)
+
+  pub parameters-bytes : bytesField 4 (limitStruct limit) ≡ structHead ++ ascii "max_message_bytes" ++ valueHead ++ bytesOf limit
+  unfolding bytesField eightField tagOf shortestOf shortestWithin
+  parameters-bytes = simp (length-bytesOf limit)
+
+  pub length-struct : length (limitStruct limit) ≡ 32
+  unfolding bytesField eightField tagOf shortestOf shortestWithin
+  length-struct = simp (length-bytesOf limit)
 
   pub length-parameters : (limit ≡ 50000000 → ⊥) → length (parametersField limit) ≡ 34
   length-parameters h =
-      ap length (parameters-some h) ∙ length-append (structHead ++ ascii "max_message_bytes" ++ valueHead) (bytesOf limit) ∙ ap (λ (k : ℕ). 26 + k) (length-bytesOf limit)
+      ap length (parameters-some h ∙ parameters-bytes) ∙ length-append (structHead ++ ascii "max_message_bytes" ++ valueHead) (bytesOf limit) ∙ ap (λ (k : ℕ). 26 + k) (length-bytesOf limit)
 
   pub parameters-short : length (parametersField limit) ≤ 34
   parameters-short = go (eqb limit 50000000) refl

@@ -15,8 +15,8 @@ use Rattle.wire.specs.Written.{tagOf, bytesField}
 use Rattle.wire.proofs.Written.{length-tag, length-bytes-field}
 use Rattle.double.specs.Double.{bytesOf}
 use Rattle.double.proofs.Order.{length-bytesOf}
-use Rattle.open_write.specs.Frame.{nameField, socketField, formatField, parametersField, frameFor, isWritten, Wrote}
-use Rattle.open_write.proofs.Fields.{length-socket, structHead, valueHead, parameters-some, length-frame}
+use Rattle.open_write.specs.Frame.{nameField, socketField, formatField, parametersField, frameFor, written}
+use Rattle.open_write.proofs.Fields.{length-socket, structHead, valueHead, parameters-some, parameters-bytes, length-frame}
 
 module _ (out : List ℕ) (at : ℕ) where
   pub stored-bytes : (number : ℕ) (bytes : List ℕ) → number ≤ 15 → at + length (bytesField number bytes) ≤ length out
@@ -42,7 +42,7 @@ module _ (out : List ℕ) (at : ℕ) where
       ap (λ (l : List ℕ). putAt (putAt l (at + 23) valueHead) (at + 26) (bytesOf limit)) (put-then out at structHead key (at + 6) refl (omega arith))
       ∙ ap (λ (l : List ℕ). putAt l (at + 26) (bytesOf limit)) (put-then out at (structHead ++ key) valueHead (at + 23) refl (omega arith))
       ∙ put-then out at (structHead ++ key ++ valueHead) (bytesOf limit) (at + 26) refl (omega arith)
-      ∙ ap (putAt out at) (sym (parameters-some limit h))
+      ∙ ap (putAt out at) (sym (parameters-some limit h ∙ parameters-bytes limit))
 
   pub stored-frame : (flow : ℕ) (name format : List ℕ) (limit : ℕ) → at + length (frameFor flow name format limit) ≤ length out
       → (socket parameters : ℕ) → socket ≡ at + length (nameField name) → parameters ≡ socket + 2 + length (formatField format)
@@ -62,7 +62,7 @@ module _ (out : List ℕ) (at : ℕ) where
       ∙ ap (λ (l : List ℕ). putAt l parameters (parametersField limit)) (put-then out at (named ++ asked) (formatField format) (socket + 2) (omega arith) (omega arith))
       ∙ put-then out at (named ++ asked ++ formatField format) (parametersField limit) parameters (omega arith) (omega arith)
 
--- ---- what `write` answers and leaves
+-- ---- what `write` leaves
 
 module _ (flow : ℕ) (name format : List ℕ) (limit at : ℕ) (out : List ℕ) where
   -- the room for a frame is room for each of its fields
@@ -79,17 +79,16 @@ module _ (flow : ℕ) (name format : List ℕ) (limit at : ℕ) (out : List ℕ)
       let first = length-bytes-field 1 name (omega arith) in
       record { named = omega arith; asked = omega arith; formatted = omega arith; all = omega arith }
 
-  -- a frame that is written
+  -- a frame that is written, and one that is not
   module _ (short : leb (length name) 255 && leb (length format) 255 ≡ true) where
-    pub wrote : holds (length out) at (length (frameFor flow name format limit)) ≡ true
-        → Wrote flow name format limit at out (length (frameFor flow name format limit)) (putAt out at (frameFor flow name format limit))
-    unfolding isWritten
-    wrote fits = record { counted = simp (short, fits); left = simp (short, fits) }
+    pub wrote : putAt out at (frameFor flow name format limit) ≡ written flow name format limit at out
+    unfolding written
+    wrote = simp short
 
-    pub no-room : holds (length out) at (length (frameFor flow name format limit)) ≡ false → Wrote flow name format limit at out 0 out
-    unfolding isWritten
-    no-room lacks = record { counted = simp (short, lacks); left = simp (short, lacks) }
+    pub no-room : holds (length out) at (length (frameFor flow name format limit)) ≡ false → out ≡ written flow name format limit at out
+    unfolding written putAt
+    no-room lacks = simp (short, lacks)
 
-  pub too-long : leb (length name) 255 && leb (length format) 255 ≡ false → Wrote flow name format limit at out 0 out
-  unfolding isWritten
-  too-long long = record { counted = simp long; left = simp long }
+  pub too-long : leb (length name) 255 && leb (length format) 255 ≡ false → out ≡ written flow name format limit at out
+  unfolding written
+  too-long long = simp long

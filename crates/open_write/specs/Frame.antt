@@ -2,18 +2,17 @@
 -- for a consumer. Its frame has fields in ascending number, shortest varints, empty format left out, and the limit as parameter
 -- `max_message_bytes` (a double made from the whole number) unless the limit is 50,000,000."
 use Prim.Native.Nat.{ℕ}
-use mathlib.Core.Path.{_≡_}
 use mathlib.Core.List.{List, [], _++_}
 use mathlib.Core.Bool.{Bool, cond, _&&_}
 use lib.ListN.{length}
 use lib.Dec.{leb, eqb}
 use Rattle.bytes_be.specs.Ascii.{ascii}
-use Rattle.bytes_be.specs.Part.{holds, putAt}
+use Rattle.bytes_be.specs.Part.{putAt}
 use Rattle.utf8.specs.Text.{wellFormed}
 use Rattle.wire.specs.Written.{varintField, eightField, bytesField}
 use Rattle.double.specs.Double.{bytesOf}
 use Rattle.open_write.specs.declared.Given.{Given}
-use Rattle.open_write.specs.declared.Given.the-variants.{Good, Bad}
+use Rattle.open_write.specs.declared.Given.the-variants.{Long, Bad}
 
 -- "the pipe name (1..255 bytes of UTF-8)"
 unfoldable pub goodName : List ℕ → Bool
@@ -23,13 +22,8 @@ goodName name = leb 1 (length name) && leb (length name) 255 && wellFormed name
 unfoldable pub goodFormat : List ℕ → Bool
 goodFormat format = leb (length format) 255 && wellFormed format
 
-unfoldable pub givenOf : List ℕ → List ℕ → Given
-givenOf name format = cond (goodName name && goodFormat format) Good Bad
-
--- "34 bad name, format, .."
-abbrev pub givenNumber : Given → ℕ
-givenNumber Good = 0
-givenNumber Bad = 34
+unfoldable pub isGood : List ℕ → List ℕ → Bool
+isGood name format = goodName name && goodFormat format
 
 -- "Its socket is 1 (INPUT) for a producer, 2 (OUTPUT) for a consumer."
 abbrev pub socketOf : ℕ → ℕ
@@ -48,7 +42,7 @@ unfoldable pub formatField : List ℕ → List ℕ
 formatField format = cond (eqb (length format) 0) [] (bytesField 3 format)
 
 -- a Struct with one entry: the key `max_message_bytes`, and as its Value the double
-unfoldable pub limitStruct : ℕ → List ℕ
+abbrev pub limitStruct : ℕ → List ℕ
 limitStruct limit = bytesField 1 (bytesField 1 (ascii "max_message_bytes") ++ bytesField 2 (eightField 2 (bytesOf limit)))
 
 -- 4 parameters: "unless the limit is 50,000,000"
@@ -59,11 +53,15 @@ parametersField limit = cond (eqb limit 50000000) [] (bytesField 4 (limitStruct 
 unfoldable pub frameFor : ℕ → List ℕ → List ℕ → ℕ → List ℕ
 frameFor flow name format limit = nameField name ++ socketField flow ++ formatField format ++ parametersField limit
 
--- a frame is written whole or not at all: where it has room, and neither name nor format is over 255
-unfoldable pub isWritten : ℕ → ℕ → List ℕ → List ℕ → List ℕ → Bool
-isWritten room at frame name format = leb (length name) 255 && leb (length format) 255 && holds room at (length frame)
+-- "34 bad name, format, .."; how long the frame is, is known before a byte of it is written
+unfoldable pub givenOf : ℕ → List ℕ → List ℕ → ℕ → Given
+givenOf flow name format limit = cond (isGood name format) (Long (length (frameFor flow name format limit))) Bad
 
--- how many bytes were written from place `at` on, and what the output is then
-pub record Wrote (flow : ℕ) (name format : List ℕ) (limit at : ℕ) (before : List ℕ) (count : ℕ) (after : List ℕ) : Type 0 where
-  pub counted : count ≡ cond (isWritten (length before) at (frameFor flow name format limit) name format) (length (frameFor flow name format limit)) 0
-  pub left : after ≡ cond (isWritten (length before) at (frameFor flow name format limit) name format) (putAt before at (frameFor flow name format limit)) before
+abbrev pub givenNumber : Given → ℕ
+givenNumber (Long length) = 0
+givenNumber Bad = 34
+
+-- the output with the frame from place `at` on: whole or not at all, and never of a name or a format over 255
+unfoldable pub written : ℕ → List ℕ → List ℕ → ℕ → ℕ → List ℕ → List ℕ
+written flow name format limit at out =
+    cond (leb (length name) 255 && leb (length format) 255) (putAt out at (frameFor flow name format limit)) out

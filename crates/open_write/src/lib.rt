@@ -5,11 +5,12 @@ ghost use lib.ListN.{length};
 ghost use Rattle.bytes_be.specs.Part.{putAt};
 ghost use Rattle.wire.specs.Varint.{varintLength};
 ghost use Rattle.wire.specs.Written.{bytesField};
-ghost use Rattle.open_write.specs.Frame.{goodName, goodFormat, givenOf, givenNumber, socketOf, socketField, formatField, parametersField, frameFor, Wrote};
+ghost use Rattle.open_write.specs.Frame.{goodName, goodFormat, socketOf, socketField, formatField, parametersField, frameFor, givenOf, givenNumber, written};
 
-// Whether a name and a format may be given to an OPEN.
+// What is given to an OPEN.
 pub enum Given {
-    Good,
+    // A good name and a good format, whose frame has so many bytes.
+    Long(usize),
     // 34.
     Bad,
 }
@@ -19,7 +20,7 @@ pub fn given_number(given: Given) -> u8
     ensures { λ r. ⌜ r ≡ givenNumber given ⌝ }
 {
     match given {
-        Given::Good => 0,
+        Given::Long(_) => 0,
         Given::Bad => 34,
     }
 }
@@ -35,17 +36,6 @@ fn good_format(format: &[u8]) -> bool
     ensures { λ r. ⌜ r ≡ goodFormat (now (format .entry)) ⌝ }
 {
     (format.len() <= 255) & utf8::well_formed(format)
-}
-
-// Whether a name has 1 to 255 bytes and a format at most 255, both of UTF-8.
-pub fn given_of(name: &[u8], format: &[u8]) -> Given
-    ensures { λ r. ⌜ r ≡ givenOf (now (name .entry)) (now (format .entry)) ⌝ }
-{
-    let good = good_name(name) & good_format(format);
-    if good {
-        return Given::Good;
-    }
-    Given::Bad
 }
 
 // The socket that a client of this flow asks for: 1 (INPUT) for a producer, 2 (OUTPUT) for a consumer.
@@ -142,22 +132,30 @@ fn store_parameters(out: &mut [u8], at: usize, limit: u32)
     }
 }
 
-// Writes the frame of a client of this flow from place `at` on, and answers its length. Where it has no room there, or the name or the
-// format is over 255, the answer is 0 and `out` stays as it is.
-pub fn write(out: &mut [u8], at: usize, flow: u8, name: &[u8], format: &[u8], limit: u32) -> usize
-    ensures { λ r. ⌜ Wrote flow (now (name .entry)) (now (format .entry)) limit at (now (out .entry)) r (now (out .exit)) ⌝ }
+// Whether a name has 1 to 255 bytes and a format at most 255, all of UTF-8, and how long the frame of a client of this flow is then.
+pub fn given_of(flow: u8, name: &[u8], format: &[u8], limit: u32) -> Given
+    ensures { λ r. ⌜ r ≡ givenOf flow (now (name .entry)) (now (format .entry)) limit ⌝ }
+{
+    let good = good_name(name) & good_format(format);
+    if good {
+        return Given::Long(frame_length(flow, name, format, limit));
+    }
+    Given::Bad
+}
+
+// Writes the frame of a client of this flow from place `at` on. Where it has no room there, or the name or the format is over 255, `out`
+// stays as it is.
+pub fn write(out: &mut [u8], at: usize, flow: u8, name: &[u8], format: &[u8], limit: u32)
+    ensures { λ _. ⌜ now (out .exit) ≡ written flow (now (name .entry)) (now (format .entry)) limit at (now (out .entry)) ⌝ }
 {
     let short = (name.len() <= 255) & (format.len() <= 255);
     if short {
-        let length = frame_length(flow, name, format, limit);
-        let fits = bytes_be::holds(out.len(), at, length);
+        let fits = bytes_be::holds(out.len(), at, frame_length(flow, name, format, limit));
         if fits {
             let socket = store_bytes(out, at, 1, name);
             store_socket(out, socket, flow);
             let parameters = store_format(out, socket + 2, format);
             store_parameters(out, parameters, limit);
-            return length;
         }
     }
-    0
 }

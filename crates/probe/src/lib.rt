@@ -12,13 +12,14 @@ ghost use Rattle.line.specs.Report.{reportOf, lineOf, Put};
 ghost use Rattle.open.specs.declared.Refusal.the-variants.{Unreadable};
 ghost use Rattle.open.specs.Open.{openOf, offered};
 ghost use Rattle.utf8.specs.Text.{wellFormed};
-ghost use Rattle.probe.specs.Entries.{contentsSlots, ContentsAnswer, controlSlots, ControlAnswer, bodies, Wrote, kindNumber, readingNumber, readingSlots, FieldAnswer, Stored, checkOf, checkSlots, CheckAnswer, announcedSlots, ifReadable, LimitAnswer, flowOf, openingSlots, refusalSlots, openSlots, OpenAnswer};
+ghost use Rattle.probe.specs.Entries.{contentsSlots, ContentsAnswer, controlSlots, ControlAnswer, bodies, Wrote, kindNumber, readingNumber, readingSlots, FieldAnswer, Stored, checkOf, checkSlots, CheckAnswer, announcedSlots, ifReadable, LimitAnswer, flowOf, openingSlots, refusalSlots, openSlots, OpenAnswer, givenLength, OpenFrameAnswer};
 use bundle::Contents;
 use control::Control;
 use control::KnownType;
 use open::Open;
 use open::Opening;
 use open::Refusal;
+use open_write::Given;
 use params::Check;
 use terms::Announced;
 use wire::Fault;
@@ -378,4 +379,35 @@ pub extern "C" fn probe_open(
     let said = open::hear(message, at, end, flow_of(producer), name, format);
     *slots = open_slots(said);
     open::open_number(said) as u32
+}
+
+fn given_length(given: Given) -> u64
+    ensures { λ r. ⌜ r ≡ givenLength given ⌝ }
+{
+    match given {
+        Given::Long(length) => length as u64,
+        Given::Bad => 0,
+    }
+}
+
+#[no_mangle]
+pub extern "C" fn probe_open_frame(
+    out: &mut [u8],
+    at: usize,
+    producer: bool,
+    name: &[u8],
+    format: &[u8],
+    limit: u32,
+    length: &mut u64,
+) -> u32
+    ensures { λ r. ⌜ OpenFrameAnswer (flowOf producer) (now (name .entry)) (now (format .entry)) limit at (now (out .entry)) r (now (length .exit)) (now (out .exit)) ⌝ }
+{
+    let flow = flow_of(producer);
+    let given = open_write::given_of(flow, name, format, limit);
+    *length = given_length(given);
+    let Given::Long(_) = given else {
+        return open_write::given_number(given) as u32;
+    };
+    open_write::write(out, at, flow, name, format, limit);
+    0
 }

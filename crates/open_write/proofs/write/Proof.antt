@@ -6,8 +6,6 @@ use borrow.Author.Tests.{leb-true}
 use Rattle.bytes_be.proofs.Tests.{both-true}
 use Rattle.bytes_be.proofs.Parts.{length-put}
 use Rattle.open_write.proofs.Stored.{stored-frame, rooms, wrote, no-room, too-long}
-use Rattle.wire.proofs.Written.{length-bytes-field}
-use Rattle.open_write.proofs.Fields.{length-frame}
 use Rattle.open_write.proofs.write.Statement.{statement}
 use Rattle.open_write.proofs.write.Tie as tie
 
@@ -58,11 +56,10 @@ returns c =
     let a = c .before .before .before .before .before .before .before .before .before .before .before .before .before .before .before .before .before .before .before .before .before .before .before .args in
     let named = c .before .before .before .before .before .before .before .before .before .before .before .before .before .before .store-bytes .ensures in
     let formatted = c .before .before .before .before .before .before .store-format .ensures in
-    let length = c .before .before .before .before .before .before .before .before .before .before .before .before .before .before .before .before .before .before .frame-length .ensures in
-    let fits = rw length at (sym (c .before .before .before .before .before .before .before .before .before .before .before .before .before .before .before .before .before .holds .ensures) ∙ c .before .before .before .before .before .before .before .before .before .before .before .before .before .before .before .before .if2 .taken) in
+    let fits = rw (c .before .before .before .before .before .before .before .before .before .before .before .before .before .before .before .before .before .before .frame-length .ensures) at (sym (c .before .before .before .before .before .before .before .before .before .before .before .before .before .before .before .before .before .holds .ensures) ∙ c .before .before .before .before .before .before .before .before .before .before .before .before .before .before .before .before .if2 .taken) in
     let stored = stored-frame (a .out .now) (a .at) (a .flow) (a .name .now) (a .format .now) (a .limit) (leb-true _ _ fits) _ _ (named .1) (formatted .1) in
-    rw (length, c .before .before .store-parameters .ensures, formatted .0, c .before .before .before .before .before .before .before .before .before .before .store-socket .ensures, named .0, stored)
-    (wrote (a .flow) (a .name .now) (a .format .now) (a .limit) (a .at) (a .out .now) (c .before .before .before .before .before .before .before .before .before .before .before .before .before .before .before .before .before .before .before .if1 .taken) fits)
+    rw (c .before .before .store-parameters .ensures, formatted .0, c .before .before .before .before .before .before .before .before .before .before .store-socket .ensures, named .0, stored)
+    (wrote (a .flow) (a .name .now) (a .format .now) (a .limit) (a .at) (a .out .now) (c .before .before .before .before .before .before .before .before .before .before .before .before .before .before .before .before .before .before .before .if1 .taken))
 
 returns-2 : tie.Need-returns-2
 returns-2 c =
