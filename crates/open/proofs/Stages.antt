@@ -1,10 +1,11 @@
 -- One stage behind another, and what is heard lies in the bytes. Assumes nothing.
 use Prim.Native.Nat.{ℕ, _+_, _≤_}
-use mathlib.Core.Path.{_≡_, sym, _∙_, subst}
+use mathlib.Core.Path.{_≡_, refl, sym, _∙_, subst}
 use mathlib.Core.List.{List}
 use mathlib.Core.Bool.{Bool, true, false, cond, _&&_}
 use lib.ListN.{length}
 use lib.Dec.{leb, eqb}
+use native.Mathlib.Omega.{arith}
 use Rattle.bytes_be.specs.Part.{partAt, same}
 use Rattle.wire.specs.declared.Fault.{Fault}
 use Rattle.params.specs.declared.Check.{Check}
@@ -12,11 +13,11 @@ use Rattle.params.specs.declared.Check.the-variants.{Good, Refused as Check·Re
 use Rattle.open.specs.declared.Frame.{Frame}
 use Rattle.open.specs.declared.Opening.{Opening}
 use Rattle.open.specs.declared.Refusal.{Refusal}
-use Rattle.open.specs.declared.Refusal.the-variants.{Unreadable}
+use Rattle.open.specs.declared.Refusal.the-variants.{Unreadable, OtherPipe}
 use Rattle.open.specs.declared.Open.{Open}
 use Rattle.open.specs.declared.Open.the-variants.{Heard, Refused}
 use Rattle.open.specs.Frame.{frameCheck, frameOf}
-use Rattle.open.specs.Open.{openingOf, ifGood, readable, outOfRange, inRange, knownSocket, offeredSocket, offeredPipe, behind, openOf}
+use Rattle.open.specs.Open.{openingOf, ifGood, readable, outOfRange, inRange, knownSocket, offeredSocket, offeredPipe, offeredFormat, behind, openOf, offered}
 use Rattle.open.proofs.Kept.{Placed, frame-lies}
 
 -- what the stages before came to, as a call has found it
@@ -71,14 +72,27 @@ module _ (s : List ℕ) where
       behind-lies (behind (readable s from to) inRange) knownSocket (λ opening h. either-lies (leb 3 (opening .socket)) _ (Heard opening) tt h)
       (behind-lies (readable s from to) inRange (λ opening h. either-lies (outOfRange opening) _ (Heard opening) tt h) (readable-lies from to))
 
-  -- the name that is compared, and the format behind it
-  pub name-lies : (from to : ℕ) (r : Open) → r ≡ openOf s from to → (opening : Opening) → r ≡ Heard opening → opening .name .at + opening .name .length ≤ length s
-  name-lies from to r is opening e = subst (HeardLies s) (sym is ∙ e) (open-lies from to) .0
+  -- the name and the format that are compared
+  pub heard-lies : (from to : ℕ) (r : Open) → r ≡ openOf s from to → (opening : Opening) → r ≡ Heard opening → HeardLies s (Heard opening)
+  heard-lies from to r is opening e = subst (HeardLies s) (sym is ∙ e) (open-lies from to)
 
-  pub format-lies : (from to : ℕ) (r : Open) → r ≡ openOf s from to → (opening : Opening) → r ≡ Heard opening
-      → (flow : ℕ) (name : List ℕ) (r′ : Open) → r′ ≡ offeredPipe s flow name opening → (named : Opening) → r′ ≡ Heard named
-      → named .format .at + named .format .length ≤ length s
-  unfolding offeredPipe
-  format-lies from to r is opening e flow name r′ is′ named e′ =
-      subst (HeardLies s) (sym is′ ∙ e′)
-      (either-lies (same (partAt s (opening .name)) name && eqb (opening .socket) (offeredSocket flow)) (Heard opening) _ (subst (HeardLies s) (sym is ∙ e) (open-lies from to)) tt) .1
+-- ---- 21 and 22
+
+module _ (s : List ℕ) (flow : ℕ) (name format : List ℕ) (said : Open) (opening : Opening) (opened : said ≡ Heard opening) where
+  pub other-pipe : (r : Open) → r ≡ offeredPipe s flow name opening → (refusal : Refusal) → r ≡ Refused refusal → r ≡ offered s flow name format said
+  unfolding offered
+  other-pipe r is refusal e =
+      let stops : offeredPipe s flow name opening ≡ Refused refusal = sym is ∙ e in
+      e ∙ sym (rw (opened, stops))
+
+  -- the pipe hears the opening itself, or nothing
+  same-pipe : (t : Bool) (heard : Opening) → cond t (Heard opening) (Refused OtherPipe) ≡ Heard heard → t ≡ true
+  same-pipe true heard e = refl
+  same-pipe false heard e = let z : _≡_ {A = ℕ} 0 1 = cc in absurd (omega arith)
+
+  pub its-format : (r : Open) → r ≡ offeredPipe s flow name opening → (heard : Opening) → r ≡ Heard heard
+      → {result : Open} → result ≡ offeredFormat s format opening → result ≡ offered s flow name format said
+  unfolding offered offeredPipe
+  its-format r is heard e h =
+      let taken = same-pipe (same (partAt s (opening .name)) name && eqb (opening .socket) (offeredSocket flow)) heard (sym is ∙ e) in
+      rw (opened, taken) h

@@ -345,8 +345,9 @@ pub fn hear(s: &[u8], from: usize, to: usize, flow: u8, name: &[u8], format: &[u
         return said;
     };
     let pipe = offered_pipe(s, flow, name, opening);
-    let Open::Heard(named) = pipe else {
+    let formatted = offered_format(s, format, opening);
+    let Open::Heard(_) = pipe else {
         return pipe;
     };
-    offered_format(s, format, named)
+    formatted
 }

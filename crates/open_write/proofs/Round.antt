@@ -167,10 +167,10 @@ module _ (s : List ℕ) (to : ℕ) (there : to ≤ length s) (limit : ℕ) (low 
       let few = known-socket flow in
       let parameters = parametersField limit in
       let apart =
-          stands
-          ∙ append-assoc (nameField name ++ socketField flow ++ formatField format) parameters rest
-          ∙ append-assoc (nameField name ++ socketField flow) (formatField format) (parameters ++ rest)
-          ∙ append-assoc (nameField name) (socketField flow) (formatField format ++ (parameters ++ rest)) in
+      stands
+      ∙ append-assoc (nameField name ++ socketField flow ++ formatField format) parameters rest
+      ∙ append-assoc (nameField name ++ socketField flow) (formatField format) (parameters ++ rest)
+      ∙ append-assoc (nameField name) (socketField flow) (formatField format ++ (parameters ++ rest)) in
       let field : Field = bytesFieldAt from 1 name in
       let asked : Field = varintFieldAt (field .next) 2 (socketOf flow) in
       let whole = length-frame flow name format limit in
@@ -181,9 +181,9 @@ module _ (s : List ℕ) (to : ℕ) (there : to ≤ length s) (limit : ℕ) (low 
       let past = drop-past s from (nameField name) (socketField flow ++ (formatField format ++ (parameters ++ rest))) apart in
       let next = varint-first s (field .next) to there 2 (socketOf flow) (formatField format ++ (parameters ++ rest)) (omega arith, omega arith) (omega arith) past (omega arith) in
       let behind =
-          format-back format (asked .next) rest short-format format-text
-          (drop-past s (field .next) (socketField flow) (formatField format ++ (parameters ++ rest)) past) (omega arith)
-          (placeOf field) (placeOf asked) (socketOf flow) in
+      format-back format (asked .next) rest short-format format-text
+      (drop-past s (field .next) (socketField flow) (formatField format ++ (parameters ++ rest)) past) (omega arith)
+      (placeOf field) (placeOf asked) (socketOf flow) in
       record {
         place = placeOf field;
         long = omega arith;

@@ -112,10 +112,10 @@ fn store_format(out: &mut [u8], at: usize, format: &[u8]) -> usize
     ensures stored { λ _. ⌜ now (out .exit) ≡ putAt (now (out .entry)) at (formatField (now (format .entry))) ⌝ }
     ensures behind { λ r. ⌜ r ≡ at + length (formatField (now (format .entry))) ⌝ }
 {
-    if format.len() == 0 {
-        return at;
+    if format.len() != 0 {
+        return store_bytes(out, at, 3, format);
     }
-    store_bytes(out, at, 3, format)
+    at
 }
 
 // Stores the limit as a parameter unless it is 50,000,000: the Struct with its entry, the key, the Value with its number.

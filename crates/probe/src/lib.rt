@@ -340,7 +340,18 @@ fn fault_slots(why: Fault) -> [u64; 10]
     ensures { λ r. ⌜ r ≡ refusalSlots (Unreadable why) ⌝ }
 {
     let kind = why.kind;
-    [0, 0, 0, 0, 0, 0, 0, 0, kind_number(kind) as u64, why.at as u64]
+    [
+        0,
+        0,
+        0,
+        0,
+        0,
+        0,
+        0,
+        0,
+        kind_number(kind) as u64,
+        why.at as u64,
+    ]
 }
 
 fn refusal_slots(refusal: Refusal) -> [u64; 10]

@@ -155,13 +155,13 @@ module _ (s : List ℕ) (at end : ℕ) (there : end ≤ length s) where
       let long : at + length (bytesField number bytes) - start ≡ length bytes = omega arith in
       record {
         first =
-          field-first (bytesFieldAt at number bytes)
-          (tag-back number 2 (sized ++ (bytes ++ rest)) n (omega arith) apart (omega arith)
-          ∙ simp (
-            varint-back (length bytes) s (at + length (tagOf number 2)) end (bytes ++ rest) small behind (omega arith),
-            le-ltb (end - start) (length bytes) (omega arith),
-            ends,
-          ));
+            field-first (bytesFieldAt at number bytes)
+            (tag-back number 2 (sized ++ (bytes ++ rest)) n (omega arith) apart (omega arith)
+            ∙ simp (
+              varint-back (length bytes) s (at + length (tagOf number 2)) end (bytes ++ rest) small behind (omega arith),
+              le-ltb (end - start) (length bytes) (omega arith),
+              ends,
+            ));
         payload = payload;
         ends = ends;
         whole = ap (part s start) long ∙ part-there s start bytes rest payload;

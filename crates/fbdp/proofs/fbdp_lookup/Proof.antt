@@ -1,6 +1,5 @@
 -- `fbdp::fbdp_lookup` meets its contract: number and slots are those of the term that was found. Assumes nothing.
 use borrow.Author.Needs.{needs}
-use borrow.Author.Needs.{needs}
 use Rattle.fbdp.proofs.fbdp_lookup.Statement.{statement}
 use Rattle.fbdp.proofs.fbdp_lookup.Tie as tie
 

@@ -1,6 +1,5 @@
 -- `fbdp::fbdp_value` meets its contract: number and slots are those of the Value that was read. Assumes nothing.
 use borrow.Author.Needs.{needs}
-use borrow.Author.Needs.{needs}
 use Rattle.fbdp.proofs.fbdp_value.Statement.{statement}
 use Rattle.fbdp.proofs.fbdp_value.Tie as tie
 

@@ -1,6 +1,5 @@
 -- `fbdp::term_slots` meets its contract, by the case of the term. Assumes nothing.
 use borrow.Author.Needs.{needs}
-use borrow.Author.Needs.{needs}
 use Rattle.fbdp.proofs.term_slots.Statement.{statement}
 use Rattle.fbdp.proofs.term_slots.Tie as tie
 

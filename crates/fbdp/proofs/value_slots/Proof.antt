@@ -1,6 +1,5 @@
 -- `fbdp::value_slots` meets its contract, by the kind of the Value. Assumes nothing.
 use borrow.Author.Needs.{needs}
-use borrow.Author.Needs.{needs}
 use Rattle.fbdp.proofs.value_slots.Statement.{statement}
 use Rattle.fbdp.proofs.value_slots.Tie as tie
 

@@ -1,7 +1,8 @@
 -- `open::hear` meets its contract: 18 to 20 before 21 before 22. Assumes nothing.
+use mathlib.Core.Path.{sym, _∙_}
 use borrow.Author.Needs.{needs}
 use Rattle.open.specs.Open.{offered}
-use Rattle.open.proofs.Stages.{refused, heard, name-lies, format-lies}
+use Rattle.open.proofs.Stages.{refused, heard-lies, other-pipe, its-format}
 use Rattle.open.proofs.hear.Statement.{statement}
 use Rattle.open.proofs.hear.Tie as tie
 
@@ -19,24 +20,22 @@ unfolding offered
 returns c = refused _ _ (refused _ _ (c .before .before .open-of .ensures) _ _ (c .enum-told .given .1)) _ _ (c .enum-told .given .1)
 
 offered-pipe-requires : tie.Need-offered-pipe-requires
-offered-pipe-requires c κs = name-lies _ _ _ _ (c .before .before .before .open-of .ensures) _ (c .before .said .given .1)
+offered-pipe-requires c κs = heard-lies _ _ _ _ (c .before .before .before .open-of .ensures) _ (c .before .said .given .1) .0
 
-enum-known-pipe : tie.Need-enum-known-pipe
-enum-known-pipe c = search needs
+offered-format-requires : tie.Need-offered-format-requires
+offered-format-requires c κs = heard-lies _ _ _ _ (c .before .before .before .before .open-of .ensures) _ (c .before .before .said .given .1) .1
 
 enum-told-2 : tie.Need-enum-told-2
 enum-told-2 c = search needs
 
-returns-2 : tie.Need-returns-2
-unfolding offered
-returns-2 c = refused _ _ (heard _ _ (c .before .before .before .before .before .before .open-of .ensures) _ _ (c .before .before .before .before .said .given .1) (c .before .before .offered-pipe .ensures)) _ _ (c .enum-told2 .given .1)
+enum-told-3 : tie.Need-enum-told-3
+enum-told-3 c = search needs
 
-offered-format-requires : tie.Need-offered-format-requires
-offered-format-requires c κs = format-lies _ _ _ _ (c .before .before .before .before .before .before .before .open-of .ensures) _ (c .before .before .before .before .before .said .given .1) _ _ _ (c .before .before .before .offered-pipe .ensures) _ (c .before .pipe .given .1)
+returns-2 : tie.Need-returns-2
+returns-2 c = other-pipe _ _ _ _ _ _ (sym (c .before .before .before .before .before .before .before .open-of .ensures) ∙ c .before .before .before .before .before .said .given .1) _ (c .before .before .before .offered-pipe .ensures) _ (c .enum-told3 .given .1)
 
 returns-3 : tie.Need-returns-3
-unfolding offered
-returns-3 c = heard _ _ (heard _ _ (c .before .before .before .before .before .before .before .before .open-of .ensures) _ _ (c .before .before .before .before .before .before .said .given .1) (c .before .before .before .before .offered-pipe .ensures)) _ _ (c .before .before .pipe .given .1) (c .offered-format .ensures)
+returns-3 c = its-format _ _ _ _ _ _ (sym (c .before .before .before .before .before .before .before .open-of .ensures) ∙ c .before .before .before .before .before .said .given .1) _ (c .before .before .before .offered-pipe .ensures) _ (c .enum-told2 .given .1) (c .before .before .offered-format .ensures)
 
 pub hear-spec : {M : Type 1} → statement M
 hear-spec =
@@ -47,8 +46,8 @@ hear-spec =
     enum-told
     returns
     offered-pipe-requires
-    enum-known-pipe
-    enum-told-2
-    returns-2
     offered-format-requires
+    enum-told-2
+    enum-told-3
+    returns-2
     returns-3)

@@ -9,21 +9,22 @@ use borrow.Author.Needs.{needs}
 use Rattle.bytes_be.specs.Part.{putAt}
 use Rattle.bytes_be.proofs.Parts.{put-nothing}
 use Rattle.open_write.proofs.Fields.{format-none, format-some}
-use denote.Ref.{now}
 use Rattle.open_write.proofs.store_format.Statement.{statement}
 use Rattle.open_write.proofs.store_format.Tie as tie
 
-returns : tie.Need-returns
-returns c = (sym (ap (putAt _ _) (format-none _ (c .if1 .taken)) ∙ put-nothing _ _), sym (ap (λ (l : List ℕ). c .before .before .before .args .at + length l) (format-none _ (c .if1 .taken)) ∙ add-zero _))
-
 store-bytes-requires : tie.Need-store-bytes-requires
-store-bytes-requires c κs = (omega arith, rw (format-some _ (c .before .if1 .left)) at (c .before .before .before .before .pre))
+store-bytes-requires c κs = (omega arith, rw (format-some _ (c .before .if1 .taken)) at (c .before .before .before .before .pre))
 
 same-length : tie.Need-same-length
 same-length c = search needs
 
+returns : tie.Need-returns
+returns c = rw (← format-some _ (c .before .before .before .before .if1 .taken)) at (c .before .before .store-bytes .ensures)
+
 returns-2 : tie.Need-returns-2
-returns-2 c = rw (← format-some _ (c .before .before .before .before .if1 .left)) at (c .before .before .store-bytes .ensures)
+returns-2 c =
+    let none = format-none _ (c .if1 .left) in
+    (sym (ap (putAt _ _) none ∙ put-nothing _ _), sym (ap (λ (l : List ℕ). c .before .before .before .args .at + length l) none ∙ add-zero _))
 
 pub store-format-spec : {M : Type 1} → statement M
-store-format-spec = tie.close (tie.spec returns store-bytes-requires same-length returns-2)
+store-format-spec = tie.close (tie.spec store-bytes-requires same-length returns returns-2)

@@ -20,7 +20,7 @@ copy-at-requires : tie.Need-copy-at-requires
 copy-at-requires c κs = search needs
 
 add-copy-at : tie.Need-add-copy-at
-add-copy-at c = let l = length-parameters _ (c .before .before .before .before .before .before .before .if1 .taken) in let r = c .before .before .before .before .before .before .before .before .before .pre in search needs
+add-copy-at c = let r = c .before .before .before .before .before .before .before .before .before .pre in let g = c .before .before .before .before .before .before .before .before .before .good in search needs
 
 slice-aggregate-copy-at-2 : tie.Need-slice-aggregate-copy-at-2
 slice-aggregate-copy-at-2 c = search needs
@@ -29,7 +29,7 @@ copy-at-requires-2 : tie.Need-copy-at-requires-2
 copy-at-requires-2 c κs = search needs
 
 add-copy-at-2 : tie.Need-add-copy-at-2
-add-copy-at-2 c = let l = length-parameters _ (c .before .before .before .before .before .before .before .before .before .before .before .before .if1 .taken) in let r = c .before .before .before .before .before .before .before .before .before .before .before .before .before .before .pre in search needs
+add-copy-at-2 c = let r = c .before .before .before .before .before .before .before .before .before .before .before .before .before .before .pre in let g = c .before .before .before .before .before .before .before .before .before .before .before .before .before .before .good in search needs
 
 slice-aggregate-copy-at-3 : tie.Need-slice-aggregate-copy-at-3
 slice-aggregate-copy-at-3 c = search needs
@@ -38,7 +38,7 @@ copy-at-requires-3 : tie.Need-copy-at-requires-3
 copy-at-requires-3 c κs = search needs
 
 add-copy-at-3 : tie.Need-add-copy-at-3
-add-copy-at-3 c = let l = length-parameters _ (c .before .before .before .before .before .before .before .before .before .before .before .before .before .before .before .before .before .if1 .taken) in let r = c .before .before .before .before .before .before .before .before .before .before .before .before .before .before .before .before .before .before .before .pre in search needs
+add-copy-at-3 c = let r = c .before .before .before .before .before .before .before .before .before .before .before .before .before .before .before .before .before .before .before .pre in let g = c .before .before .before .before .before .before .before .before .before .before .before .before .before .before .before .before .before .before .before .good in search needs
 
 slice-aggregate-copy-at-4 : tie.Need-slice-aggregate-copy-at-4
 slice-aggregate-copy-at-4 c = search needs

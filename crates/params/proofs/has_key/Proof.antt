@@ -8,7 +8,6 @@ use Rattle.bytes_be.specs.Part.{partAt, same}
 use Rattle.bytes_be.specs.declared.Place.{Place}
 use Rattle.params.specs.Keys.{keyOf}
 use Rattle.params.proofs.Finds.{lies}
-use borrow.Author.Needs.{needs}
 use Rattle.params.proofs.has_key.Statement.{statement}
 use Rattle.params.proofs.has_key.Tie as tie
 

@@ -1,7 +1,6 @@
 -- `params::key_rule` meets its contract, test by test. Assumes nothing.
 use borrow.Author.Needs.{needs}
 use Rattle.params.specs.Rules.{keyRule}
-use borrow.Author.Needs.{needs}
 use Rattle.params.proofs.key_rule.Statement.{statement}
 use Rattle.params.proofs.key_rule.Tie as tie
 

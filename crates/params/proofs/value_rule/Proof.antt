@@ -2,7 +2,6 @@
 use borrow.Author.Needs.{needs}
 use borrow.Author.Tests.{eq-eqb, ne-eqb}
 use Rattle.params.specs.Rules.{valueRule}
-use borrow.Author.Needs.{needs}
 use Rattle.params.proofs.value_rule.Statement.{statement}
 use Rattle.params.proofs.value_rule.Tie as tie
 

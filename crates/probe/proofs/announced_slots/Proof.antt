@@ -1,6 +1,5 @@
 -- `probe::announced_slots` meets its contract, by the case. Assumes nothing.
 use borrow.Author.Needs.{needs}
-use borrow.Author.Needs.{needs}
 use Rattle.probe.proofs.announced_slots.Statement.{statement}
 use Rattle.probe.proofs.announced_slots.Tie as tie
 

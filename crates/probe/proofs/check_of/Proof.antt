@@ -1,6 +1,5 @@
 -- `probe::check_of` meets its contract, by what is lent. Assumes nothing.
 use borrow.Author.Needs.{needs}
-use borrow.Author.Needs.{needs}
 use Rattle.probe.proofs.check_of.Statement.{statement}
 use Rattle.probe.proofs.check_of.Tie as tie
 

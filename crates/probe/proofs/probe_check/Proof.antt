@@ -1,6 +1,5 @@
 -- `probe::probe_check` meets its contract: number and slots are those of the check. Assumes nothing.
 use borrow.Author.Needs.{needs}
-use borrow.Author.Needs.{needs}
 use Rattle.probe.proofs.probe_check.Statement.{statement}
 use Rattle.probe.proofs.probe_check.Tie as tie
 

@@ -1,6 +1,5 @@
 -- `probe::probe_field` meets its contract: number and slots are those of the field. Assumes nothing.
 use borrow.Author.Needs.{needs}
-use borrow.Author.Needs.{needs}
 use Rattle.probe.proofs.probe_field.Statement.{statement}
 use Rattle.probe.proofs.probe_field.Tie as tie
 

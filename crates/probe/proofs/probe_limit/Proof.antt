@@ -1,6 +1,5 @@
 -- `probe::probe_limit` meets its contract: number and slots are those of readable parameters. Assumes nothing.
 use borrow.Author.Needs.{needs}
-use borrow.Author.Needs.{needs}
 use Rattle.probe.proofs.probe_limit.Statement.{statement}
 use Rattle.probe.proofs.probe_limit.Tie as tie
 

@@ -1,7 +1,6 @@
 -- `probe::reading_slots` meets its contract, by the case. Assumes nothing.
 use mathlib.Core.Path.{refl}
 use borrow.Author.Needs.{needs}
-use borrow.Author.Needs.{needs}
 use Rattle.probe.proofs.reading_slots.Statement.{statement}
 use Rattle.probe.proofs.reading_slots.Tie as tie
 

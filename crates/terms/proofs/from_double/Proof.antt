@@ -2,7 +2,6 @@
 use mathlib.Core.Path.{sym, ap}
 use borrow.Author.Needs.{needs}
 use Rattle.terms.specs.Announced.{fromDouble}
-use borrow.Author.Needs.{needs}
 use Rattle.terms.proofs.from_double.Statement.{statement}
 use Rattle.terms.proofs.from_double.Tie as tie
 

@@ -2,7 +2,6 @@
 use mathlib.Core.Path.{sym, ap, _∙_}
 use borrow.Author.Needs.{needs}
 use Rattle.terms.specs.Announced.{fromDouble, fromValue}
-use borrow.Author.Needs.{needs}
 use Rattle.terms.proofs.from_value.Statement.{statement}
 use Rattle.terms.proofs.from_value.Tie as tie
 

@@ -3,7 +3,6 @@ use mathlib.Core.Path.{refl}
 use borrow.Author.Needs.{needs}
 use Rattle.params.proofs.Neither.{no-kind}
 use Rattle.terms.specs.Value.{heldBy}
-use borrow.Author.Needs.{needs}
 use Rattle.terms.proofs.held_by.Statement.{statement}
 use Rattle.terms.proofs.held_by.Tie as tie
 

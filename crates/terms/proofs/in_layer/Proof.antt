@@ -1,6 +1,5 @@
 -- `terms::in_layer` meets its contract, by whether the layer has the term. Assumes nothing.
 use borrow.Author.Needs.{needs}
-use borrow.Author.Needs.{needs}
 use Rattle.terms.proofs.in_layer.Statement.{statement}
 use Rattle.terms.proofs.in_layer.Tie as tie
 

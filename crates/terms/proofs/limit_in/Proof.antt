@@ -3,7 +3,6 @@ use mathlib.Core.Path.{sym, ap, _∙_}
 use borrow.Author.Needs.{needs}
 use Rattle.params.proofs.Finds.{find-lies}
 use Rattle.terms.specs.Announced.{fromValue, fromFound, limitIn}
-use borrow.Author.Needs.{needs}
 use Rattle.terms.proofs.limit_in.Statement.{statement}
 use Rattle.terms.proofs.limit_in.Tie as tie
 

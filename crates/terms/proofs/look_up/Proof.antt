@@ -5,7 +5,6 @@ use borrow.Author.Tests.{eq-eqb, ne-eqb}
 use Rattle.terms.specs.declared.Term.the-variants.{In, Unreadable, Absent}
 use Rattle.terms.specs.Lookup.{termNumber}
 use Rattle.terms.proofs.Layers.{lies-in-client, lies-in-defaults, part-of}
-use borrow.Author.Needs.{needs}
 use Rattle.terms.proofs.look_up.Statement.{statement}
 use Rattle.terms.proofs.look_up.Tie as tie
 

@@ -5,7 +5,6 @@ use lib.ListN.{take, drop}
 use denote.Ref.{now}
 use native.Mathlib.Omega.{arith}
 use borrow.Author.Needs.{needs}
-use borrow.Author.Needs.{needs}
 use Rattle.terms.proofs.part_at.Statement.{statement}
 use Rattle.terms.proofs.part_at.Tie as tie
 

@@ -1,7 +1,6 @@
 -- `terms::term_number` meets its contract, by the case. Assumes nothing.
 use borrow.Author.Needs.{needs}
 use borrow.Author.Tests.{ne-eqb}
-use borrow.Author.Needs.{needs}
 use Rattle.terms.proofs.term_number.Statement.{statement}
 use Rattle.terms.proofs.term_number.Tie as tie
 

@@ -1,7 +1,6 @@
 -- `terms::term_of` meets its contract: 18 before 36 before 37, and the client before the defaults. Assumes nothing.
 use borrow.Author.Needs.{needs}
 use Rattle.terms.proofs.Layers.{client-unreadable, defaults-unreadable, in-client, in-defaults}
-use borrow.Author.Needs.{needs}
 use Rattle.terms.proofs.term_of.Statement.{statement}
 use Rattle.terms.proofs.term_of.Tie as tie
 

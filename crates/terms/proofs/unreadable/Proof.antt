@@ -1,6 +1,5 @@
 -- `terms::unreadable` meets its contract, by the check. Assumes nothing.
 use borrow.Author.Needs.{needs}
-use borrow.Author.Needs.{needs}
 use Rattle.terms.proofs.unreadable.Statement.{statement}
 use Rattle.terms.proofs.unreadable.Tie as tie
 

@@ -3,7 +3,6 @@ use mathlib.Core.Path.{sym, ap, _∙_}
 use borrow.Author.Needs.{needs}
 use Rattle.wire.proofs.Readings.{field-within}
 use Rattle.terms.specs.Value.{fromReading, valueAt}
-use borrow.Author.Needs.{needs}
 use Rattle.terms.proofs.value_at.Statement.{statement}
 use Rattle.terms.proofs.value_at.Tie as tie
 

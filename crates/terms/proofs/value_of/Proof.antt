@@ -2,7 +2,6 @@
 use mathlib.Core.Path.{sym, _∙_}
 use borrow.Author.Needs.{needs}
 use Rattle.terms.specs.Value.{valueOf}
-use borrow.Author.Needs.{needs}
 use Rattle.terms.proofs.value_of.Statement.{statement}
 use Rattle.terms.proofs.value_of.Tie as tie
 

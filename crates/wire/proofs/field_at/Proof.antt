@@ -2,7 +2,6 @@
 use mathlib.Core.Path.{refl, _∙_}
 use borrow.Author.Needs.{needs}
 use Rattle.wire.proofs.Readings.{on-read, on-cut, on-bad, read-within, field-behind, field-tag}
-use borrow.Author.Needs.{needs}
 use Rattle.wire.proofs.field_at.Statement.{statement}
 use Rattle.wire.proofs.field_at.Tie as tie
 

@@ -3,7 +3,6 @@ use mathlib.Core.Path.{sym}
 use lib.Seq.{length-take-le}
 use borrow.Author.Needs.{needs}
 use Rattle.wire.proofs.Shortest.{varint-at-most}
-use borrow.Author.Needs.{needs}
 use Rattle.wire.proofs.store_varint.Statement.{statement}
 use Rattle.wire.proofs.store_varint.Tie as tie
 
