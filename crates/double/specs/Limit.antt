@@ -15,8 +15,14 @@ abbrev pub integerOf : Float → ℕ
 integerOf double = toUnsigned 32 double
 
 -- "1,000,000 to 50,000,000"
+abbrev pub leastLimit : ℕ
+leastLimit = 1000000
+
+abbrev pub mostLimit : ℕ
+mostLimit = 50000000
+
 abbrev pub inLimits : ℕ → Bool
-inLimits number = leb 1000000 number && leb number 50000000
+inLimits number = leb leastLimit number && leb number mostLimit
 
 -- "only where nothing is lost": the limit that a double says; the double of its integer is that double again (`limit-exact`)
 unfoldable pub limitOf : Float → Limit

@@ -10,24 +10,24 @@ use Rattle.bytes_be.specs.Part.{partAt, same}
 use Rattle.wire.specs.declared.Fault.{Fault}
 use Rattle.params.specs.declared.Check.{Check}
 use Rattle.params.specs.declared.Check.the-variants.{Good, Refused as Check·Refused}
-use Rattle.open.specs.declared.Frame.{Frame}
+use Rattle.open.specs.declared.Parts.{Parts}
 use Rattle.open.specs.declared.Opening.{Opening}
 use Rattle.open.specs.declared.Refusal.{Refusal}
 use Rattle.open.specs.declared.Refusal.the-variants.{Unreadable, OtherPipe}
 use Rattle.open.specs.declared.Open.{Open}
 use Rattle.open.specs.declared.Open.the-variants.{Heard, Refused}
-use Rattle.open.specs.Frame.{frameCheck, frameOf}
-use Rattle.open.specs.Open.{openingOf, ifGood, readable, outOfRange, inRange, knownSocket, offeredSocket, offeredPipe, offeredFormat, behind, openOf, offered}
-use Rattle.open.proofs.Kept.{Placed, frame-lies}
+use Rattle.open.specs.Frame.{frameCheck, partsOf}
+use Rattle.open.specs.Open.{openingOf, ifGood, readable, outOfRange, inRange, knownSocket, offeredSocket, offeredPipe, offeredFormat, _then_, openOf, offered}
+use Rattle.open.proofs.Kept.{parts-lie}
 
 -- what the stages before came to, as a call has found it
 module _ (r said : Open) (is : r ≡ said) (stage : Opening → Open) where
-  pub refused : (refusal : Refusal) → r ≡ Refused refusal → r ≡ behind said stage
+  pub refused : (refusal : Refusal) → r ≡ Refused refusal → r ≡ (said then stage)
   refused refusal e =
       let stops : said ≡ Refused refusal = sym is ∙ e in
       e ∙ sym (rw stops)
 
-  pub heard : (opening : Opening) → r ≡ Heard opening → {result : Open} → result ≡ stage opening → result ≡ behind said stage
+  pub heard : (opening : Opening) → r ≡ Heard opening → {result : Open} → result ≡ stage opening → result ≡ (said then stage)
   heard opening e h =
       let goes : said ≡ Heard opening = sym is ∙ e in
       rw goes h
@@ -37,9 +37,9 @@ module _ (s : List ℕ) (from to : ℕ) where
   unfolding readable
   unreadable why e = rw (← e)
 
-  pub read-whole : Good ≡ frameCheck s from to → (frame : Frame) → frame ≡ frameOf s from to → (opening : Opening) → opening ≡ openingOf s frame → Heard opening ≡ readable s from to
+  pub read-whole : Good ≡ frameCheck s from to → (parts : Parts) → parts ≡ partsOf s from to → (opening : Opening) → opening ≡ openingOf s parts → Heard opening ≡ readable s from to
   unfolding readable
-  read-whole e frame held opening is = rw (← e, ← held, ← is)
+  read-whole e parts held opening is = rw (← e, ← held, ← is)
 
 -- ---- what is heard lies in the bytes
 
@@ -53,28 +53,31 @@ module _ (s : List ℕ) where
   either-lies true one other h g = h
   either-lies false one other h g = g
 
-  behind-lies : (said : Open) (stage : Opening → Open) → ((opening : Opening) → HeardLies s (Heard opening) → HeardLies s (stage opening))
-      → HeardLies s said → HeardLies s (behind said stage)
-  behind-lies (Heard opening) stage f h = f opening h
-  behind-lies (Refused refusal) stage f h = tt
+  then-lies : (said : Open) (stage : Opening → Open) → ((opening : Opening) → HeardLies s (Heard opening) → HeardLies s (stage opening))
+      → HeardLies s said → HeardLies s (said then stage)
+  then-lies (Heard opening) stage f h = f opening h
+  then-lies (Refused refusal) stage f h = tt
 
   readable-lies : (from to : ℕ) → HeardLies s (readable s from to)
   unfolding readable openingOf
   readable-lies from to = go (frameCheck s from to)
     where
-      go : (check : Check) → HeardLies s (ifGood check (openingOf s (frameOf s from to)))
-      go Good = let lies = frame-lies s from to in (lies .name, lies .format)
+      go : (check : Check) → HeardLies s (ifGood check (openingOf s (partsOf s from to)))
+      go Good = let lies = parts-lie s from to in (lies .name, lies .format)
       go (Check·Refused why) = tt
 
   open-lies : (from to : ℕ) → HeardLies s (openOf s from to)
   unfolding openOf inRange knownSocket
   open-lies from to =
-      behind-lies (behind (readable s from to) inRange) knownSocket (λ opening h. either-lies (leb 3 (opening .socket)) _ (Heard opening) tt h)
-      (behind-lies (readable s from to) inRange (λ opening h. either-lies (outOfRange opening) _ (Heard opening) tt h) (readable-lies from to))
+      then-lies (readable s from to then inRange) knownSocket (λ opening h. either-lies (leb 3 (opening .socket)) _ (Heard opening) tt h)
+      (then-lies (readable s from to) inRange (λ opening h. either-lies (outOfRange opening) _ (Heard opening) tt h) (readable-lies from to))
 
   -- the name and the format that are compared
-  pub heard-lies : (from to : ℕ) (r : Open) → r ≡ openOf s from to → (opening : Opening) → r ≡ Heard opening → HeardLies s (Heard opening)
-  heard-lies from to r is opening e = subst (HeardLies s) (sym is ∙ e) (open-lies from to)
+  pub name-lies : (from to : ℕ) (r : Open) → r ≡ openOf s from to → (opening : Opening) → r ≡ Heard opening → opening .name .at + opening .name .length ≤ length s
+  name-lies from to r is opening e = subst (HeardLies s) (sym is ∙ e) (open-lies from to) .0
+
+  pub format-lies : (from to : ℕ) (r : Open) → r ≡ openOf s from to → (opening : Opening) → r ≡ Heard opening → opening .format .at + opening .format .length ≤ length s
+  format-lies from to r is opening e = subst (HeardLies s) (sym is ∙ e) (open-lies from to) .1
 
 -- ---- 21 and 22
 

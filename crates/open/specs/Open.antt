@@ -8,23 +8,23 @@ use Rattle.params.specs.declared.Check.{Check}
 use Rattle.params.specs.declared.Check.the-variants.{Good, Refused as Check·Refused}
 use Rattle.params.specs.Message.{faultNumber}
 use Rattle.terms.specs.Announced.{limitIn, announcedNumber}
-use Rattle.open.specs.declared.Frame.{Frame}
+use Rattle.open.specs.declared.Parts.{Parts}
 use Rattle.open.specs.declared.Opening.{Opening}
 use Rattle.open.specs.declared.Open.{Open}
 use Rattle.open.specs.declared.Open.the-variants.{Heard, Refused}
 use Rattle.open.specs.declared.Refusal.{Refusal}
 use Rattle.open.specs.declared.Refusal.the-variants.{Unreadable, OutOfRange, UnknownSocket, OtherPipe, OtherFormat}
-use Rattle.open.specs.Frame.{frameCheck, frameOf}
+use Rattle.open.specs.Frame.{frameCheck, partsOf}
 
 -- "Heard too are its socket and the places of name, format and parameters", and the limit that the parameters announce
-unfoldable pub openingOf : List ℕ → Frame → Opening
-openingOf s frame =
+unfoldable pub openingOf : List ℕ → Parts → Opening
+openingOf s parts =
     record {
-      socket = frame .number;
-      name = frame .name;
-      format = frame .format;
-      parameters = frame .parameters;
-      announced = limitIn s (frame .parameters .at) (frame .parameters .at + frame .parameters .length);
+      socket = parts .socket;
+      name = parts .name;
+      format = parts .format;
+      parameters = parts .parameters;
+      announced = limitIn s (parts .parameters .at) (parts .parameters .at + parts .parameters .length);
     }
 
 abbrev pub ifGood : Check → Opening → Open
@@ -33,7 +33,7 @@ ifGood (Check·Refused why) opening = Refused (Unreadable why)
 
 -- "18 OPEN frame unreadable"
 unfoldable pub readable : List ℕ → ℕ → ℕ → Open
-readable s from to = ifGood (frameCheck s from to) (openingOf s (frameOf s from to))
+readable s from to = ifGood (frameCheck s from to) (openingOf s (partsOf s from to))
 
 -- "19 name empty or over 255, format over 255, socket 0 or absent, bad limit"
 unfoldable pub outOfRange : Opening → Bool
@@ -51,11 +51,12 @@ inRange opening = cond (outOfRange opening) (Refused OutOfRange) (Heard opening)
 unfoldable pub knownSocket : Opening → Open
 knownSocket opening = cond (leb 3 (opening .socket)) (Refused UnknownSocket) (Heard opening)
 
--- "A consumer-flow server offers socket 1, a producer-flow server socket 2."
+-- "A consumer-flow server offers socket 1, a producer-flow server socket 2." A producer's flow is 1, and any other a consumer's.
 abbrev pub offeredSocket : ℕ → ℕ
-offeredSocket flow = cond (eqb flow 2) 1 2
+offeredSocket flow = cond (eqb flow 1) 2 1
 
--- "21 pipe name or socket not the offered one"; "only compared, never tested"
+-- "21 pipe name or socket not the offered one"; name and format "are only compared, never tested: one outside the ranges matches nothing",
+-- as 18 and 19 have refused what is outside them
 unfoldable pub offeredPipe : List ℕ → ℕ → List ℕ → Opening → Open
 offeredPipe s flow name opening =
     cond (same (partAt s (opening .name)) name && eqb (opening .socket) (offeredSocket flow)) (Heard opening) (Refused OtherPipe)
@@ -66,17 +67,28 @@ offeredFormat s format opening =
     cond (eqb (opening .format .length) 0 || same (partAt s (opening .format)) format) (Heard opening) (Refused OtherFormat)
 
 -- a stage, where those before it have heard the opening
-abbrev pub behind : Open → (Opening → Open) → Open
-behind (Heard opening) stage = stage opening
-behind (Refused refusal) stage = Refused refusal
+infixl 5 _then_
+abbrev pub _then_ : Open → (Opening → Open) → Open
+Heard opening then stage = stage opening
+Refused refusal then stage = Refused refusal
 
--- what the frame from `from` to `to` says by itself: 18, 19, 20
+-- 18, 19, 20: what the frame from `from` to `to` says by itself
 unfoldable pub openOf : List ℕ → ℕ → ℕ → Open
-openOf s from to = behind (behind (readable s from to) inRange) knownSocket
+openOf s from to =
+    readable s from to
+    then inRange
+    then knownSocket
 
--- and to a server of this flow that offers this name and this format: 21, 22
+-- 21, 22: and what it says to a server of this flow that offers this name and this format
 unfoldable pub offered : List ℕ → ℕ → List ℕ → List ℕ → Open → Open
-offered s flow name format said = behind (behind said (offeredPipe s flow name)) (offeredFormat s format)
+offered s flow name format said =
+    said
+    then offeredPipe s flow name
+    then offeredFormat s format
+
+-- 18 to 22
+abbrev pub heardBy : List ℕ → ℕ → ℕ → ℕ → List ℕ → List ℕ → Open
+heardBy s from to flow name format = offered s flow name format (openOf s from to)
 
 abbrev pub refusalNumber : Refusal → ℕ
 refusalNumber (Unreadable why) = faultNumber why

@@ -1,12 +1,10 @@
 // The OPEN data frame: what it says, and which of 18 to 22 refuses it.
 ghost use mathlib.Core.Path.{_≡_};
-ghost use mathlib.Core.Bool.{cond};
 ghost use Prim.Native.Nat.{_+_, _≤_};
-ghost use lib.Dec.{eqb};
 ghost use lib.ListN.{length};
 ghost use Rattle.bytes_be.specs.Part.{partAt, same};
-ghost use Rattle.open.specs.Frame.{frameWire, oversized, isThere, frameText, frameRule, frameField, placeIf, keep as Frame·keep};
-ghost use Rattle.open.specs.Open.{openingOf, readable as Open·readable, outOfRange, inRange, knownSocket, offeredSocket, offeredPipe, offeredFormat, openOf, offered, refusalNumber, openNumber};
+ghost use Rattle.open.specs.Frame.{oversized, frameWire, isThere, frameText, frameRule, frameField, placeIf, socketIf, keep as Frame·keep};
+ghost use Rattle.open.specs.Open.{openingOf, readable as Open·readable, outOfRange, inRange, knownSocket, offeredSocket, offeredPipe, offeredFormat, openOf, heardBy, refusalNumber, openNumber};
 use bytes_be::Place;
 use params::Check;
 use terms::Announced;
@@ -15,14 +13,15 @@ use wire::Field;
 use wire::Kind;
 use wire::Reading;
 
-// Where the fields of a frame have their payloads. An absent one is the empty place at 0, where no payload stands.
-pub struct Frame {
+// The parts of an OPEN frame, as its fields give them. An absent one is the empty place at 0, where no payload stands.
+pub struct Parts {
     pub name: Place,
-    pub socket: Place,
+    // Where the socket stands.
+    pub asked: Place,
     pub format: Place,
     pub parameters: Place,
-    // What the socket's varint says; 0 where it is absent.
-    pub number: u64,
+    // What its varint says; 0 where it is absent.
+    pub socket: u64,
 }
 
 // What an OPEN frame says. An absent part is the empty place at 0.
@@ -75,6 +74,12 @@ pub fn open_number(said: Open) -> u8
     }
 }
 
+fn is_oversized(number: u64, value: u64) -> bool
+    ensures { λ r. ⌜ r ≡ oversized number value ⌝ }
+{
+    (number == 2) & (0xFFFF_FFFF < value)
+}
+
 // Whether a field of the frame has its own wire type, or is one that is skipped.
 fn frame_wire(number: u64, wire: u64) -> bool
     ensures { λ r. ⌜ r ≡ frameWire number wire ⌝ }
@@ -88,21 +93,15 @@ fn frame_wire(number: u64, wire: u64) -> bool
     }
 }
 
-fn is_oversized(number: u64, value: u64) -> bool
-    ensures { λ r. ⌜ r ≡ oversized number value ⌝ }
-{
-    (number == 2) & (0xFFFF_FFFF < value)
-}
-
-// Whether the frame has had a field of this number.
-fn is_there(frame: Frame, number: u64) -> bool
-    ensures { λ r. ⌜ r ≡ isThere frame number ⌝ }
+// Whether there was a field of this number before.
+fn is_there(parts: Parts, number: u64) -> bool
+    ensures { λ r. ⌜ r ≡ isThere parts number ⌝ }
 {
     match number {
-        1 => frame.name.at != 0,
-        2 => frame.socket.at != 0,
-        3 => frame.format.at != 0,
-        4 => frame.parameters.at != 0,
+        1 => parts.name.at != 0,
+        2 => parts.asked.at != 0,
+        3 => parts.format.at != 0,
+        4 => parts.parameters.at != 0,
         _ => false,
     }
 }
@@ -118,10 +117,10 @@ fn frame_text(s: &[u8], number: u64, at: usize, next: usize) -> bool
     true
 }
 
-// What a field comes to before its inside is looked at, behind those that the frame has had.
-fn frame_rule(s: &[u8], frame: Frame, field: Field) -> Check
+// What a field comes to before its inside is looked at, behind the parts that were there before it.
+fn frame_rule(s: &[u8], parts: Parts, field: Field) -> Check
     requires { ⌜ (field .at ≤ field .next) × (field .next ≤ length (now s)) ⌝ }
-    ensures { λ r. ⌜ r ≡ frameRule (now (s .entry)) frame field ⌝ }
+    ensures { λ r. ⌜ r ≡ frameRule (now (s .entry)) parts field ⌝ }
 {
     if is_oversized(field.number, field.value) {
         return params::fault_of(Kind::BadVarint, field.tag);
@@ -129,7 +128,7 @@ fn frame_rule(s: &[u8], frame: Frame, field: Field) -> Check
     if !frame_wire(field.number, field.wire) {
         return params::fault_of(Kind::WireType, field.tag);
     }
-    if is_there(frame, field.number) {
+    if is_there(parts, field.number) {
         return params::fault_of(Kind::Repeated, field.tag);
     }
     if !frame_text(s, field.number, field.at, field.next) {
@@ -138,11 +137,11 @@ fn frame_rule(s: &[u8], frame: Frame, field: Field) -> Check
     Check::Good
 }
 
-fn frame_field(s: &[u8], frame: Frame, field: Field) -> Check
+fn frame_field(s: &[u8], parts: Parts, field: Field) -> Check
     requires { ⌜ (field .at ≤ field .next) × (field .next ≤ length (now s)) ⌝ }
-    ensures { λ r. ⌜ r ≡ frameField (now (s .entry)) frame field ⌝ }
+    ensures { λ r. ⌜ r ≡ frameField (now (s .entry)) parts field ⌝ }
 {
-    let rule = frame_rule(s, frame, field);
+    let rule = frame_rule(s, parts, field);
     let Check::Good = rule else {
         return rule;
     };
@@ -166,8 +165,8 @@ fn place_if(number: u64, field: Field, otherwise: Place) -> Place
     otherwise
 }
 
-fn number_if(field: Field, otherwise: u64) -> u64
-    ensures { λ r. ⌜ r ≡ cond (eqb (field .number) 2) (field .value) otherwise ⌝ }
+fn socket_if(field: Field, otherwise: u64) -> u64
+    ensures { λ r. ⌜ r ≡ socketIf field otherwise ⌝ }
 {
     if field.number == 2 {
         return field.value;
@@ -175,33 +174,33 @@ fn number_if(field: Field, otherwise: u64) -> u64
     otherwise
 }
 
-// What the frame has had after one field more.
-fn keep(frame: Frame, field: Field) -> Frame
+// The parts after one field more.
+fn keep(parts: Parts, field: Field) -> Parts
     requires { ⌜ field .at ≤ field .next ⌝ }
-    ensures { λ r. ⌜ r ≡ Frame·keep frame field ⌝ }
+    ensures { λ r. ⌜ r ≡ Frame·keep parts field ⌝ }
 {
-    let name = frame.name;
-    let socket = frame.socket;
-    let format = frame.format;
-    let parameters = frame.parameters;
-    Frame {
+    let name = parts.name;
+    let asked = parts.asked;
+    let format = parts.format;
+    let parameters = parts.parameters;
+    Parts {
         name: place_if(1, field, name),
-        socket: place_if(2, field, socket),
+        asked: place_if(2, field, asked),
         format: place_if(3, field, format),
         parameters: place_if(4, field, parameters),
-        number: number_if(field, frame.number),
+        socket: socket_if(field, parts.socket),
     }
 }
 
-fn opening_of(s: &[u8], frame: Frame) -> Opening
-    requires { ⌜ frame .parameters .at + frame .parameters .length ≤ length (now s) ⌝ }
-    ensures { λ r. ⌜ r ≡ openingOf (now (s .entry)) frame ⌝ }
+fn opening_of(s: &[u8], parts: Parts) -> Opening
+    requires { ⌜ parts .parameters .at + parts .parameters .length ≤ length (now s) ⌝ }
+    ensures { λ r. ⌜ r ≡ openingOf (now (s .entry)) parts ⌝ }
 {
-    let name = frame.name;
-    let format = frame.format;
-    let parameters = frame.parameters;
+    let name = parts.name;
+    let format = parts.format;
+    let parameters = parts.parameters;
     Opening {
-        socket: frame.number,
+        socket: parts.socket,
         name: name,
         format: format,
         parameters: parameters,
@@ -209,17 +208,17 @@ fn opening_of(s: &[u8], frame: Frame) -> Opening
     }
 }
 
-// 18: the fields of the frame from `from` to `to`, each looked at once.
+// 18: an unreadable frame. Each of its fields is read once.
 fn readable(s: &[u8], from: usize, to: usize) -> Open
     ensures { λ r. ⌜ r ≡ Open·readable (now (s .entry)) from to ⌝ }
 {
     let nowhere = Place { at: 0, length: 0 };
-    let mut frame = Frame {
+    let mut parts = Parts {
         name: nowhere,
-        socket: nowhere,
+        asked: nowhere,
         format: nowhere,
         parameters: nowhere,
-        number: 0,
+        socket: 0,
     };
     let mut at = from;
     while at < to {
@@ -227,20 +226,18 @@ fn readable(s: &[u8], from: usize, to: usize) -> Open
             Reading::Refused(why) => {
                 return Open::Refused(Refusal::Unreadable(why));
             }
-            Reading::Read(field) => {
-                match frame_field(s, frame, field) {
-                    Check::Refused(why) => {
-                        return Open::Refused(Refusal::Unreadable(why));
-                    }
-                    Check::Good => {
-                        frame = keep(frame, field);
-                        at = field.next;
-                    }
+            Reading::Read(field) => match frame_field(s, parts, field) {
+                Check::Refused(why) => {
+                    return Open::Refused(Refusal::Unreadable(why));
                 }
-            }
+                Check::Good => {
+                    parts = keep(parts, field);
+                    at = field.next;
+                }
+            },
         }
     }
-    Open::Heard(opening_of(s, frame))
+    Open::Heard(opening_of(s, parts))
 }
 
 fn out_of_range(opening: Opening) -> bool
@@ -255,7 +252,7 @@ fn out_of_range(opening: Opening) -> bool
         | bad_limit
 }
 
-// 19.
+// 19: a name, a format, a socket or a limit out of range.
 fn in_range(opening: Opening) -> Open
     ensures { λ r. ⌜ r ≡ inRange opening ⌝ }
 {
@@ -265,7 +262,7 @@ fn in_range(opening: Opening) -> Open
     Open::Heard(opening)
 }
 
-// 20.
+// 20: a socket that there is not.
 fn known_socket(opening: Opening) -> Open
     ensures { λ r. ⌜ r ≡ knownSocket opening ⌝ }
 {
@@ -290,14 +287,14 @@ fn open_of(s: &[u8], from: usize, to: usize) -> Open
     known_socket(good)
 }
 
-// The socket that a server of this flow offers: 1 with a consumer's, 2 with a producer's.
+// The socket that a server of this flow offers: 2 with a producer's, 1 with a consumer's.
 fn offered_socket(flow: u8) -> u64
     ensures { λ r. ⌜ r ≡ offeredSocket flow ⌝ }
 {
-    if flow == 2 {
-        return 1;
+    if flow == 1 {
+        return 2;
     }
-    2
+    1
 }
 
 // Whether the bytes at a place of s are these.
@@ -310,7 +307,7 @@ fn same_at(s: &[u8], place: Place, bytes: &[u8]) -> bool
     bytes_be::same(&s[first..behind], bytes)
 }
 
-// 21.
+// 21: another name or another socket than the offered one.
 fn offered_pipe(s: &[u8], flow: u8, name: &[u8], opening: Opening) -> Open
     requires { ⌜ opening .name .at + opening .name .length ≤ length (now s) ⌝ }
     ensures { λ r. ⌜ r ≡ offeredPipe (now (s .entry)) flow (now (name .entry)) opening ⌝ }
@@ -323,7 +320,7 @@ fn offered_pipe(s: &[u8], flow: u8, name: &[u8], opening: Opening) -> Open
     Open::Refused(Refusal::OtherPipe)
 }
 
-// 22.
+// 22: a format that is not the offered one.
 fn offered_format(s: &[u8], format: &[u8], opening: Opening) -> Open
     requires { ⌜ opening .format .at + opening .format .length ≤ length (now s) ⌝ }
     ensures { λ r. ⌜ r ≡ offeredFormat (now (s .entry)) (now (format .entry)) opening ⌝ }
@@ -338,16 +335,15 @@ fn offered_format(s: &[u8], format: &[u8], opening: Opening) -> Open
 
 // What the frame from `from` to `to` of a message says to a server of this flow that offers this name and this format.
 pub fn hear(s: &[u8], from: usize, to: usize, flow: u8, name: &[u8], format: &[u8]) -> Open
-    ensures { λ r. ⌜ r ≡ offered (now (s .entry)) flow (now (name .entry)) (now (format .entry)) (openOf (now (s .entry)) from to) ⌝ }
+    ensures { λ r. ⌜ r ≡ heardBy (now (s .entry)) from to flow (now (name .entry)) (now (format .entry)) ⌝ }
 {
     let said = open_of(s, from, to);
     let Open::Heard(opening) = said else {
         return said;
     };
     let pipe = offered_pipe(s, flow, name, opening);
-    let formatted = offered_format(s, format, opening);
     let Open::Heard(_) = pipe else {
         return pipe;
     };
-    formatted
+    offered_format(s, format, opening)
 }

@@ -4,10 +4,8 @@ use mathlib.Core.Path.{_≡_, refl, sym, ap, _∙_}
 use mathlib.Core.List.{List, [], _∷_, _++_, append-assoc}
 use mathlib.Core.Bool.{true}
 use lib.ListN.{length, drop, length-append}
-use lib.Ieee.{binary64, ofBits}
 use native.Mathlib.Omega.{arith}
-use Rattle.bytes_be.specs.Ascii.{ascii}
-use Rattle.bytes_be.specs.Part.{part, between, partAt, same}
+use Rattle.bytes_be.specs.Part.{part}
 use Rattle.bytes_be.proofs.Parts.{part-there, drop-past}
 use Rattle.bytes_be.proofs.Sameness.{equal-same}
 use Rattle.utf8.specs.Text.{table, dueBehind, rest as Text·rest, wellFormed}
@@ -20,23 +18,20 @@ use Rattle.wire.proofs.Readings.{no-fields}
 use Rattle.wire.proofs.Shortest.{varint-at-most}
 use Rattle.wire.proofs.Front.{begins}
 use Rattle.wire.proofs.Written.{bytesFieldAt, eightFieldAt, length-bytes-field, length-tag, eight-ends, eight-first, Stands, bytes-stand}
-use Rattle.double.specs.declared.Limit.the-variants.{Whole}
-use Rattle.double.specs.Double.{bitsAt, bytesOf}
-use Rattle.double.specs.Limit.{limitOf}
+use Rattle.double.specs.Double.{bytesOf}
 use Rattle.double.proofs.Order.{length-bytesOf}
 use Rattle.double.proofs.Limits.{limit-back}
 use Rattle.params.specs.declared.Check.the-variants.{Good}
-use Rattle.params.specs.declared.Found.the-variants.{At}
-use Rattle.params.specs.Message.{walk, firstOf, placeOf, placeIn}
+use Rattle.params.specs.Message.{walk, firstOf, placeIn}
 use Rattle.params.specs.Keys.{keyOf, valuePlace, findIn}
 use Rattle.params.specs.Rules.{valueWire, valueText, valueAllowed, valueRule, valueField, valueCheck, bytesRule, keyRule, seenOf, entryField, entryDone, entryCheck, itemField, itemsCheck, inside, structCheck}
 use Rattle.terms.specs.declared.Announced.the-variants.{Limit}
-use Rattle.terms.specs.Value.{heldBy, fromReading, valueAt}
-use Rattle.terms.specs.Announced.{fromValue, fromFound, limitIn}
+use Rattle.terms.specs.Value.{heldBy, valueAt}
+use Rattle.terms.specs.Announced.{limitKey, limitIn}
 use Rattle.open_write.specs.Frame.{limitStruct}
 
 abbrev key : List ℕ
-key = ascii "max_message_bytes"
+key = limitKey
 
 key-text : wellFormed key ≡ true
 unfolding wellFormed Text·rest dueBehind table

@@ -8,6 +8,7 @@ use Rattle.bytes_be.specs.Ascii.{ascii}
 use Rattle.wire.specs.Varint.{shortestWithin, shortestOf}
 use Rattle.wire.specs.Written.{tagOf, varintField, bytesField}
 use Rattle.double.proofs.Example.{million, million-written}
+use Rattle.terms.specs.Announced.{limitKey}
 use Rattle.open_write.specs.Frame.{formatField, limitStruct, parametersField, frameFor}
 use Rattle.open_write.proofs.Fields.{structHead, valueHead, parameters-bytes}
 
@@ -18,12 +19,12 @@ k4 = refl
 
 -- K5: with the limit 1,000,000 the last eight bytes are 00 00 00 00 80 84 2E 41
 abbrev parameters : List ℕ
-parameters = structHead ++ ascii "max_message_bytes" ++ valueHead ++ million
+parameters = structHead ++ limitKey ++ valueHead ++ million
 
 pub k5 : frameFor 1 (ascii "press7") [] 1000000 ≡ frameFor 1 (ascii "press7") [] 50000000 ++ parameters
 unfolding frameFor formatField parametersField bytesField varintField tagOf shortestOf shortestWithin
 k5 =
-    let bytes : bytesField 4 (limitStruct 1000000) ≡ parameters = parameters-bytes 1000000 ∙ ap (λ (eight : List ℕ). structHead ++ ascii "max_message_bytes" ++ valueHead ++ eight) million-written in
+    let bytes : bytesField 4 (limitStruct 1000000) ≡ parameters = parameters-bytes 1000000 ∙ ap (λ (eight : List ℕ). structHead ++ limitKey ++ valueHead ++ eight) million-written in
     rw bytes refl
 
 -- and the frame has 44 bytes

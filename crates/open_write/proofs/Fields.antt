@@ -1,5 +1,5 @@
 -- What a good name and a good format are, and the fields of a frame that is written, byte by byte, with their lengths. Assumes nothing.
-use Prim.Native.Nat.{ℕ, _+_, _≤_}
+use Prim.Native.Nat.{ℕ, _+_, _≤_, _<_}
 use mathlib.Core.Path.{_≡_, refl, sym, ap, ap₂, _∙_}
 use mathlib.Core.List.{List, [], _∷_, _++_}
 use mathlib.Core.Bool.{Bool, true, false, cond, _&&_}
@@ -7,7 +7,6 @@ use lib.ListN.{length, length-append}
 use lib.Dec.{leb, eqb}
 use native.Mathlib.Omega.{arith}
 use borrow.Author.Tests.{eq-eqb, ne-eqb, eqb-true, eqb-false, leb-true}
-use Rattle.bytes_be.specs.Ascii.{ascii}
 use Rattle.bytes_be.proofs.Tests.{both-true}
 use Rattle.utf8.specs.Text.{wellFormed}
 use Rattle.wire.specs.Varint.{shortestWithin, shortestOf, varintLength}
@@ -16,6 +15,7 @@ use Rattle.wire.proofs.Shortest.{varint-at-most}
 use Rattle.wire.proofs.Written.{length-bytes-field}
 use Rattle.double.specs.Double.{bytesOf}
 use Rattle.double.proofs.Order.{length-bytesOf}
+use Rattle.terms.specs.Announced.{limitKey}
 use Rattle.open_write.specs.Frame.{goodName, goodFormat, socketOf, nameField, socketField, formatField, limitStruct, parametersField, frameFor}
 
 -- what a good name and a good format are
@@ -39,6 +39,14 @@ socket-bytes flow = go (eqb flow 1)
     go : (t : Bool) → 0x10 ∷ cond t 1 2 ∷ [] ≡ varintField 2 (cond t 1 2)
     go true = refl
     go false = refl
+
+-- a client's socket is 1 or 2
+pub known-socket : (flow : ℕ) → (0 < socketOf flow) × (socketOf flow < 3)
+known-socket flow = go (eqb flow 1)
+  where
+    go : (t : Bool) → (0 < cond t 1 2) × (cond t 1 2 < 3)
+    go true = (omega arith, omega arith)
+    go false = (omega arith, omega arith)
 
 pub length-socket : (flow : ℕ) → length (socketField flow) ≡ 2
 length-socket flow = ap length (sym (socket-bytes flow))
@@ -76,7 +84,7 @@ module _ (limit : ℕ) where
   unfolding parametersField
   parameters-some h = simp (ne-eqb limit 50000000 h)
 
-  pub parameters-bytes : bytesField 4 (limitStruct limit) ≡ structHead ++ ascii "max_message_bytes" ++ valueHead ++ bytesOf limit
+  pub parameters-bytes : bytesField 4 (limitStruct limit) ≡ structHead ++ limitKey ++ valueHead ++ bytesOf limit
   unfolding bytesField eightField tagOf shortestOf shortestWithin
   parameters-bytes = simp (length-bytesOf limit)
 
@@ -86,7 +94,7 @@ module _ (limit : ℕ) where
 
   pub length-parameters : (limit ≡ 50000000 → ⊥) → length (parametersField limit) ≡ 34
   length-parameters h =
-      ap length (parameters-some h ∙ parameters-bytes) ∙ length-append (structHead ++ ascii "max_message_bytes" ++ valueHead) (bytesOf limit) ∙ ap (λ (k : ℕ). 26 + k) (length-bytesOf limit)
+      ap length (parameters-some h ∙ parameters-bytes) ∙ length-append (structHead ++ limitKey ++ valueHead) (bytesOf limit) ∙ ap (λ (k : ℕ). 26 + k) (length-bytesOf limit)
 
   pub parameters-short : length (parametersField limit) ≤ 34
   parameters-short = go (eqb limit 50000000) refl

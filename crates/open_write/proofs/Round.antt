@@ -1,44 +1,45 @@
 -- Reading undoes writing: of a frame that was written, wherever it stands, the same socket, name, format and limit are heard. Assumes
 -- nothing.
-use Prim.Native.Nat.{ℕ, _+_, _-_, _≤_, _<_, _^_}
+use Prim.Native.Nat.{ℕ, _+_, _-_, _≤_}
 use mathlib.Core.Path.{_≡_, refl, sym, ap, _∙_}
 use mathlib.Core.List.{List, [], _∷_, _++_, append-assoc}
 use mathlib.Core.Bool.{Bool, true, false, cond}
-use lib.ListN.{length, drop, length-append, length-drop}
-use lib.Dec.{eqb}
+use lib.ListN.{length, drop, length-append, length-drop, take-append-drop}
+use lib.Dec.{leb, eqb}
 use native.Mathlib.Omega.{arith}
-use borrow.Author.Tests.{le-ltb, lt-leb, ne-eqb, eqb-true, eqb-false}
-use Rattle.bytes_be.specs.Part.{partAt}
+use borrow.Author.Tests.{le-ltb, lt-leb, eq-eqb, ne-eqb, eqb-true, eqb-false, leb-true}
+use Rattle.bytes_be.specs.Part.{part, partAt, putAt}
 use Rattle.bytes_be.specs.declared.Place.{Place}
 use Rattle.bytes_be.proofs.Tests.{both-true}
-use Rattle.bytes_be.proofs.Parts.{drop-past}
+use Rattle.bytes_be.proofs.Parts.{drop-past, part-put}
 use Rattle.utf8.specs.Text.{wellFormed}
 use Rattle.wire.specs.declared.Field.{Field}
 use Rattle.wire.specs.declared.Reading.{Reading}
 use Rattle.wire.specs.declared.Reading.the-variants.{Read}
 use Rattle.wire.specs.Fields.{fieldsOf}
-use Rattle.wire.specs.Written.{varintField, bytesField}
+use Rattle.wire.specs.Written.{bytesField}
 use Rattle.wire.proofs.Readings.{no-fields}
-use Rattle.wire.proofs.Written.{bytesFieldAt, varintFieldAt, varint-first, Stands, bytes-stand, length-bytes-field}
+use Rattle.wire.proofs.Written.{bytesFieldAt, varintFieldAt, varint-first, bytes-stand, length-bytes-field}
+use Rattle.double.specs.Limit.{leastLimit, mostLimit}
 use Rattle.params.specs.declared.Check.the-variants.{Good}
 use Rattle.params.specs.Message.{walk, firstOf, placeOf, nowhere}
 use Rattle.params.specs.Keys.{findIn}
 use Rattle.params.specs.Rules.{structCheck}
 use Rattle.terms.specs.Announced.{limitIn, announcedNumber, announcedLimit}
-use Rattle.open.specs.declared.Frame.{Frame}
-use Rattle.open.specs.Frame.{frameWire, oversized, isThere, frameText, frameRule, frameField, placeIf, keep, kept, frameDone, frameCheck, frameOf}
+use Rattle.open.specs.declared.Parts.{Parts}
+use Rattle.open.specs.Frame.{frameWire, oversized, isThere, frameText, frameRule, frameField, placeIf, socketIf, keep, kept, frameDone, frameCheck, partsOf}
 use Rattle.open.specs.declared.Opening.{Opening}
-use Rattle.open.specs.declared.Refusal.the-variants.{OtherPipe, OtherFormat}
+use Rattle.open.specs.declared.Refusal.the-variants.{OtherPipe}
 use Rattle.open.specs.declared.Open.{Open}
 use Rattle.open.specs.declared.Open.the-variants.{Heard, Refused}
-use Rattle.open.specs.Open.{openingOf, readable, outOfRange, inRange, knownSocket, offeredPipe, offeredFormat, behind, openOf, offered}
-use Rattle.open_write.specs.Frame.{goodName, goodFormat, isGood, socketOf, nameField, socketField, formatField, limitStruct, parametersField, frameFor}
-use Rattle.open_write.specs.Round.{answerTo, ReadBack}
-use Rattle.open_write.proofs.Fields.{name-says, format-says, length-socket, length-frame, format-none, format-some, parameters-none, parameters-some, length-struct}
+use Rattle.open.specs.Open.{openingOf, readable, outOfRange, inRange, knownSocket, offeredPipe, offeredFormat, _then_, openOf, offered, heardBy}
+use Rattle.open_write.specs.Frame.{goodName, goodFormat, isGood, socketOf, nameField, socketField, formatField, limitStruct, parametersField, frameFor, written}
+use Rattle.open_write.specs.Round.{answerTo, ReadBack, ReadsBack, WrittenReadsBack}
+use Rattle.open_write.proofs.Fields.{name-says, format-says, known-socket, length-socket, length-frame, format-none, format-some, parameters-none, parameters-some, length-struct}
 use Rattle.open_write.proofs.Announced.{limit-readable, limit-announced}
 
-abbrev holding : Place → Place → Place → Place → ℕ → Frame
-holding name socket format parameters number = record { name = name; socket = socket; format = format; parameters = parameters; number = number }
+abbrev holding : Place → Place → Place → Place → ℕ → Parts
+holding name asked format parameters socket = record { name = name; asked = asked; format = format; parameters = parameters; socket = socket }
 
 no-bytes : (xs : List ℕ) → length xs ≡ 0 → [] ≡ xs
 no-bytes [] e = refl
@@ -48,23 +49,24 @@ module _ (s : List ℕ) (to : ℕ) (there : to ≤ length s) (limit : ℕ) (low 
   -- what the last field leaves, behind the others
   record ParametersBack (at : ℕ) (name socket format : Place) (number : ℕ) : Type 0 where
     place : Place
+    bytes : partAt s place ≡ cond (eqb limit mostLimit) [] (limitStruct limit)
     good : walk (frameField s) keep frameDone (fieldsOf s at to) (holding name socket format nowhere number) ≡ Good
     held : kept (fieldsOf s at to) (holding name socket format nowhere number) ≡ holding name socket format place number
     fine : announcedNumber (limitIn s (place .at) (place .at + place .length)) ≡ 0
     said : announcedLimit (limitIn s (place .at) (place .at + place .length)) ≡ limit
 
-  no-parameters : (at : ℕ) (rest : List ℕ) → limit ≡ 50000000 → at + length (parametersField limit) ≡ to
+  no-parameters : (at : ℕ) → limit ≡ 50000000 → at + length (parametersField limit) ≡ to
       → (name socket format : Place) (number : ℕ) → ParametersBack at name socket format number
   unfolding walk kept limitIn findIn firstOf
-  no-parameters at rest most ends name socket format number =
+  no-parameters at most ends name socket format number =
       let none = no-fields s at to (omega (arith, ap length (parameters-none limit most))) in
       let nothing = no-fields s 0 0 (omega arith) in
-      record { place = nowhere; good = simp none; held = simp none; fine = simp nothing; said = simp nothing (sym most) }
+      record { place = nowhere; bytes = simp (eq-eqb limit 50000000 most); good = simp none; held = simp none; fine = simp nothing; said = simp nothing (sym most) }
 
-  some-parameters : (at : ℕ) (rest : List ℕ) → drop at s ≡ bytesField 4 (limitStruct limit) ++ rest → at + length (bytesField 4 (limitStruct limit)) ≡ to
+  some-parameters : (at : ℕ) (rest : List ℕ) → (limit ≡ 50000000 → ⊥) → drop at s ≡ bytesField 4 (limitStruct limit) ++ rest → at + length (bytesField 4 (limitStruct limit)) ≡ to
       → (name socket format : Place) (number : ℕ) → ParametersBack at name socket format number
-  unfolding walk kept keep placeIf frameField frameRule frameWire oversized isThere frameText
-  some-parameters at rest stands ends name socket format number =
+  unfolding walk kept keep placeIf socketIf frameField frameRule frameWire oversized isThere frameText
+  some-parameters at rest other stands ends name socket format number =
       let field : Field = bytesFieldAt at 4 (limitStruct limit) in
       let found = bytes-stand s at to there 4 (limitStruct limit) rest (omega arith, omega arith) (omega (arith, length-struct limit)) stands (omega arith) in
       let only : fieldsOf s at to ≡ Read field ∷ [] = found .first ∙ ap (λ (l : List Reading). Read field ∷ l) (no-fields s (field .next) to (omega arith)) in
@@ -73,17 +75,18 @@ module _ (s : List ℕ) (to : ℕ) (there : to ≤ length s) (limit : ℕ) (low 
       let long : field .next - field .at ≡ length (limitStruct limit) = omega arith in
       let readable : structCheck s (field .at) (field .next) ≡ Good = rw inside at (limit-readable limit s (field .at) rest (found .payload) room) in
       let announced = limit-announced limit s (field .at) rest (found .payload) room low high in
-      record { place = placeOf field; good = simp (only, readable); held = simp only; fine = simp (long, announced); said = simp (long, announced) }
+      record { place = placeOf field; bytes = simp (ne-eqb limit 50000000 other) (found .whole); good = simp (only, readable); held = simp only; fine = simp (long, announced); said = simp (long, announced) }
 
   parameters-back : (at : ℕ) (rest : List ℕ) → drop at s ≡ parametersField limit ++ rest → at + length (parametersField limit) ≡ to
       → (name socket format : Place) (number : ℕ) → ParametersBack at name socket format number
   parameters-back at rest stands ends = go (eqb limit 50000000) refl
     where
       go : (t : Bool) → eqb limit 50000000 ≡ t → (name socket format : Place) (number : ℕ) → ParametersBack at name socket format number
-      go true e = no-parameters at rest (eqb-true limit 50000000 e) ends
+      go true e = no-parameters at (eqb-true limit 50000000 e) ends
       go false e =
-          let some = parameters-some limit (eqb-false limit 50000000 e) in
-          some-parameters at rest (rw some at stands) (rw some at ends)
+          let other = eqb-false limit 50000000 e in
+          let some = parameters-some limit other in
+          some-parameters at rest other (rw some at stands) (rw some at ends)
 
   -- what the last two fields leave, behind the others
   record FormatBack (format : List ℕ) (at : ℕ) (name socket : Place) (number : ℕ) : Type 0 where
@@ -91,6 +94,7 @@ module _ (s : List ℕ) (to : ℕ) (there : to ≤ length s) (limit : ℕ) (low 
     long : place .length ≡ length format
     bytes : partAt s place ≡ format
     parameters : Place
+    held-bytes : partAt s parameters ≡ cond (eqb limit mostLimit) [] (limitStruct limit)
     good : walk (frameField s) keep frameDone (fieldsOf s at to) (holding name socket nowhere nowhere number) ≡ Good
     held : kept (fieldsOf s at to) (holding name socket nowhere nowhere number) ≡ holding name socket place parameters number
     fine : announcedNumber (limitIn s (parameters .at) (parameters .at + parameters .length)) ≡ 0
@@ -105,6 +109,7 @@ module _ (s : List ℕ) (to : ℕ) (there : to ≤ length s) (limit : ℕ) (low 
         long = sym none;
         bytes = no-bytes format none;
         parameters = behind .place;
+        held-bytes = behind .bytes;
         good = behind .good;
         held = behind .held;
         fine = behind .fine;
@@ -113,7 +118,7 @@ module _ (s : List ℕ) (to : ℕ) (there : to ≤ length s) (limit : ℕ) (low 
 
   some-format : (format : List ℕ) (at : ℕ) (rest : List ℕ) → length format ≤ 255 → wellFormed format ≡ true → drop at s ≡ bytesField 3 format ++ (parametersField limit ++ rest)
       → at + length (bytesField 3 format) + length (parametersField limit) ≡ to → (name socket : Place) (number : ℕ) → FormatBack format at name socket number
-  unfolding walk kept keep placeIf frameField frameRule frameWire oversized isThere frameText
+  unfolding walk kept keep placeIf socketIf frameField frameRule frameWire oversized isThere frameText
   some-format format at rest short text stands ends name socket number =
       let field : Field = bytesFieldAt at 3 format in
       let found = bytes-stand s at to there 3 format (parametersField limit ++ rest) (omega arith, omega arith) (omega arith) stands (omega arith) in
@@ -125,6 +130,7 @@ module _ (s : List ℕ) (to : ℕ) (there : to ≤ length s) (limit : ℕ) (low 
         long = omega arith;
         bytes = found .whole;
         parameters = behind .place;
+        held-bytes = behind .bytes;
         good = simp (first, found .whole, text) (behind .good);
         held = simp first (behind .held);
         fine = behind .fine;
@@ -151,18 +157,11 @@ module _ (s : List ℕ) (to : ℕ) (there : to ≤ length s) (limit : ℕ) (low 
     socket : Place
     behind : FormatBack format (from + length (nameField name) + length (socketField flow)) place socket (socketOf flow)
     good : frameCheck s from to ≡ Good
-    held : frameOf s from to ≡ holding place socket (behind .place) (behind .parameters) (socketOf flow)
-
-  known-socket : (flow : ℕ) → (0 < socketOf flow) × (socketOf flow < 3)
-  known-socket flow = go (eqb flow 1)
-    where
-      go : (t : Bool) → (0 < cond t 1 2) × (cond t 1 2 < 3)
-      go true = (omega arith, omega arith)
-      go false = (omega arith, omega arith)
+    held : partsOf s from to ≡ holding place socket (behind .place) (behind .parameters) (socketOf flow)
 
   frame-back : (flow : ℕ) (name format : List ℕ) (from : ℕ) (rest : List ℕ) → length name ≤ 255 → wellFormed name ≡ true
       → length format ≤ 255 → wellFormed format ≡ true → drop from s ≡ frameFor flow name format limit ++ rest → from + length (frameFor flow name format limit) ≡ to → FrameBack flow name format from
-  unfolding frameCheck frameOf walk kept keep placeIf frameField frameRule frameWire oversized isThere frameText frameFor
+  unfolding frameCheck partsOf walk kept keep placeIf socketIf frameField frameRule frameWire oversized isThere frameText frameFor
   frame-back flow name format from rest short text short-format format-text stands ends =
       let few = known-socket flow in
       let parameters = parametersField limit in
@@ -194,7 +193,7 @@ module _ (s : List ℕ) (to : ℕ) (there : to ≤ length s) (limit : ℕ) (low 
         held = simp (found .first, next) (behind .held);
       }
 
--- what was written is read as it was given
+-- the frame and what follows it, anywhere in a list
 module _ (flow : ℕ) (name format : List ℕ) (limit : ℕ) (good : isGood name format ≡ true) (low : 1000000 ≤ limit) (high : limit ≤ 50000000)
     (s : List ℕ) (from : ℕ) (rest : List ℕ) (stands : drop from s ≡ frameFor flow name format limit ++ rest) where
   abbrev to : ℕ
@@ -232,7 +231,7 @@ module _ (flow : ℕ) (name format : List ℕ) (limit : ℕ) (good : isGood name
   opened =
       let named = name-says name (both-good .0) in
       let formatted = format-says format (both-good .1) in
-      let few = known-socket s to there limit low high flow in
+      let few = known-socket flow in
       simp (
         frame .good,
         frame .held,
@@ -246,22 +245,40 @@ module _ (flow : ℕ) (name format : List ℕ) (limit : ℕ) (good : isGood name
         lt-leb 3 (socketOf flow) (few .1),
       )
 
-  stage-behind : (t : Bool) (stage : Opening → Open) → behind (cond t (Heard opening) (Refused OtherPipe)) stage ≡ cond t (stage opening) (Refused OtherPipe)
+  stage-behind : (t : Bool) (stage : Opening → Open) → (cond t (Heard opening) (Refused OtherPipe) then stage) ≡ cond t (stage opening) (Refused OtherPipe)
   stage-behind true stage = refl
   stage-behind false stage = refl
 
   -- 21 and 22 do so only where the offer is another
-  answered : (server : ℕ) (name′ format′ : List ℕ) → offered s server name′ format′ (openOf s from to) ≡ answerTo flow name format opening server name′ format′
+  answered : (server : ℕ) (name′ format′ : List ℕ) → heardBy s from to server name′ format′ ≡ answerTo flow name format opening server name′ format′
   unfolding offered offeredPipe offeredFormat answerTo
   answered server name′ format′ = simp (opened, frame .bytes, stage-behind, frame .behind .bytes) (simp (frame .behind .long))
 
-  pub read-back : ReadBack flow name format limit s from to
-  read-back =
+  back : ReadBack flow name format limit s from to
+  back =
       record {
         opening = opening;
         socket = refl;
         named = frame .bytes;
         formatted = frame .behind .bytes;
+        long = frame .behind .long;
+        parametrized = frame .behind .held-bytes;
         limited = frame .behind .said;
         heard = answered;
       }
+
+-- a frame that was written is read as it was given
+pub read-back : ReadsBack
+read-back flow name format limit good limited s from stands =
+    let frame = frameFor flow name format limit in
+    let rest = drop (length frame) (drop from s) in
+    let apart = sym (take-append-drop (length frame) (drop from s)) ∙ ap (λ (l : List ℕ). l ++ rest) stands in
+    let ends = both-true (leb leastLimit limit) (leb limit mostLimit) limited in
+    back flow name format limit good (leb-true leastLimit limit (ends .0)) (leb-true limit mostLimit (ends .1)) s from rest apart
+
+pub written-read-back : WrittenReadsBack
+unfolding written
+written-read-back flow name format limit good limited out at room =
+    let frame = frameFor flow name format limit in
+    let there : part (putAt out at frame) at (length frame) ≡ frame = part-put out at frame (leb-true (at + length frame) (length out) room) in
+    rw good (read-back flow name format limit good limited (putAt out at frame) at there)

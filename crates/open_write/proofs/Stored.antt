@@ -2,12 +2,10 @@
 use Prim.Native.Nat.{ℕ, _+_, _*_, _≤_}
 use mathlib.Core.Path.{_≡_, refl, sym, ap, _∙_}
 use mathlib.Core.List.{List, _++_}
-use mathlib.Core.Bool.{true, false, _&&_}
+use mathlib.Core.Bool.{Bool, true, false, cond}
 use lib.ListN.{length, length-append}
-use lib.Dec.{leb}
 use native.Mathlib.Omega.{arith}
 use borrow.Author.Tests.{leb-true}
-use Rattle.bytes_be.specs.Ascii.{ascii}
 use Rattle.bytes_be.specs.Part.{holds, putAt}
 use Rattle.bytes_be.proofs.Parts.{put-then}
 use Rattle.wire.specs.Varint.{shortestOf, varintLength}
@@ -15,7 +13,9 @@ use Rattle.wire.specs.Written.{tagOf, bytesField}
 use Rattle.wire.proofs.Written.{length-tag, length-bytes-field}
 use Rattle.double.specs.Double.{bytesOf}
 use Rattle.double.proofs.Order.{length-bytesOf}
-use Rattle.open_write.specs.Frame.{nameField, socketField, formatField, parametersField, frameFor, written}
+use Rattle.terms.specs.Announced.{limitKey}
+use Rattle.open_write.specs.declared.Given.the-variants.{Good, Bad}
+use Rattle.open_write.specs.Frame.{nameField, socketField, formatField, parametersField, frameFor, isGood, givenOf, written}
 use Rattle.open_write.proofs.Fields.{length-socket, structHead, valueHead, parameters-some, parameters-bytes, length-frame}
 
 module _ (out : List ℕ) (at : ℕ) where
@@ -34,14 +34,13 @@ module _ (out : List ℕ) (at : ℕ) where
       ∙ put-then out at (tag ++ sized) bytes first (omega arith) (omega arith)
 
   pub stored-parameters : (limit : ℕ) → (limit ≡ 50000000 → ⊥) → at + 34 ≤ length out
-      → putAt (putAt (putAt (putAt out at structHead) (at + 6) (ascii "max_message_bytes")) (at + 23) valueHead) (at + 26) (bytesOf limit)
+      → putAt (putAt (putAt (putAt out at structHead) (at + 6) limitKey) (at + 23) valueHead) (at + 26) (bytesOf limit)
       ≡ putAt out at (parametersField limit)
   stored-parameters limit h room =
-      let key : List ℕ = ascii "max_message_bytes" in
       let eight = length-bytesOf limit in
-      ap (λ (l : List ℕ). putAt (putAt l (at + 23) valueHead) (at + 26) (bytesOf limit)) (put-then out at structHead key (at + 6) refl (omega arith))
-      ∙ ap (λ (l : List ℕ). putAt l (at + 26) (bytesOf limit)) (put-then out at (structHead ++ key) valueHead (at + 23) refl (omega arith))
-      ∙ put-then out at (structHead ++ key ++ valueHead) (bytesOf limit) (at + 26) refl (omega arith)
+      ap (λ (l : List ℕ). putAt (putAt l (at + 23) valueHead) (at + 26) (bytesOf limit)) (put-then out at structHead limitKey (at + 6) refl (omega arith))
+      ∙ ap (λ (l : List ℕ). putAt l (at + 26) (bytesOf limit)) (put-then out at (structHead ++ limitKey) valueHead (at + 23) refl (omega arith))
+      ∙ put-then out at (structHead ++ limitKey ++ valueHead) (bytesOf limit) (at + 26) refl (omega arith)
       ∙ ap (putAt out at) (sym (parameters-some limit h ∙ parameters-bytes limit))
 
   pub stored-frame : (flow : ℕ) (name format : List ℕ) (limit : ℕ) → at + length (frameFor flow name format limit) ≤ length out
@@ -80,15 +79,31 @@ module _ (flow : ℕ) (name format : List ℕ) (limit at : ℕ) (out : List ℕ)
       record { named = omega arith; asked = omega arith; formatted = omega arith; all = omega arith }
 
   -- a frame that is written, and one that is not
-  module _ (short : leb (length name) 255 && leb (length format) 255 ≡ true) where
+  pub bad-given : givenOf flow name format limit ≡ Bad → out ≡ written flow name format limit at out
+  unfolding givenOf written
+  bad-given e = go (isGood name format) e
+    where
+      go : (t : Bool) → cond t (Good (length (frameFor flow name format limit))) Bad ≡ Bad → out ≡ cond t (putAt out at (frameFor flow name format limit)) out
+      go true e = let z : _≡_ {A = ℕ} 0 1 = cc in absurd (omega arith)
+      go false e = refl
+
+  module _ (size : ℕ) (good : givenOf flow name format limit ≡ Good size) where
+    good-given : (isGood name format ≡ true) × (size ≡ length (frameFor flow name format limit))
+    unfolding givenOf
+    good-given = go (isGood name format) good
+      where
+        go : (t : Bool) → cond t (Good (length (frameFor flow name format limit))) Bad ≡ Good size → (t ≡ true) × (size ≡ length (frameFor flow name format limit))
+        go true e = (refl, cc)
+        go false e = let z : _≡_ {A = ℕ} 0 1 = cc in absurd (omega arith)
+
+    -- the test for room is that of the frame
+    pub its-room : (r t : Bool) → r ≡ holds (length out) at size → r ≡ t → holds (length out) at (length (frameFor flow name format limit)) ≡ t
+    its-room r t is e = ap (holds (length out) at) (sym (good-given .1)) ∙ sym is ∙ e
+
     pub wrote : putAt out at (frameFor flow name format limit) ≡ written flow name format limit at out
     unfolding written
-    wrote = simp short
+    wrote = simp (good-given .0)
 
     pub no-room : holds (length out) at (length (frameFor flow name format limit)) ≡ false → out ≡ written flow name format limit at out
     unfolding written putAt
-    no-room lacks = simp (short, lacks)
-
-  pub too-long : leb (length name) 255 && leb (length format) 255 ≡ false → out ≡ written flow name format limit at out
-  unfolding written
-  too-long long = simp long
+    no-room lacks = simp (good-given .0, lacks)

@@ -6,13 +6,14 @@ use mathlib.Core.List.{List, [], _++_}
 use mathlib.Core.Bool.{Bool, cond, _&&_}
 use lib.ListN.{length}
 use lib.Dec.{leb, eqb}
-use Rattle.bytes_be.specs.Ascii.{ascii}
 use Rattle.bytes_be.specs.Part.{putAt}
 use Rattle.utf8.specs.Text.{wellFormed}
 use Rattle.wire.specs.Written.{varintField, eightField, bytesField}
 use Rattle.double.specs.Double.{bytesOf}
+use Rattle.double.specs.Limit.{mostLimit}
+use Rattle.terms.specs.Announced.{limitKey}
 use Rattle.open_write.specs.declared.Given.{Given}
-use Rattle.open_write.specs.declared.Given.the-variants.{Long, Bad}
+use Rattle.open_write.specs.declared.Given.the-variants.{Good, Bad}
 
 -- "the pipe name (1..255 bytes of UTF-8)"
 unfoldable pub goodName : List ℕ → Bool
@@ -22,10 +23,11 @@ goodName name = leb 1 (length name) && leb (length name) 255 && wellFormed name
 unfoldable pub goodFormat : List ℕ → Bool
 goodFormat format = leb (length format) 255 && wellFormed format
 
+-- what 34 asks of a name and a format
 unfoldable pub isGood : List ℕ → List ℕ → Bool
 isGood name format = goodName name && goodFormat format
 
--- "Its socket is 1 (INPUT) for a producer, 2 (OUTPUT) for a consumer."
+-- "Its socket is 1 (INPUT) for a producer, 2 (OUTPUT) for a consumer." A producer's flow is 1, and any other a consumer's.
 abbrev pub socketOf : ℕ → ℕ
 socketOf flow = cond (eqb flow 1) 1 2
 
@@ -43,11 +45,11 @@ formatField format = cond (eqb (length format) 0) [] (bytesField 3 format)
 
 -- a Struct with one entry: the key `max_message_bytes`, and as its Value the double
 abbrev pub limitStruct : ℕ → List ℕ
-limitStruct limit = bytesField 1 (bytesField 1 (ascii "max_message_bytes") ++ bytesField 2 (eightField 2 (bytesOf limit)))
+limitStruct limit = bytesField 1 (bytesField 1 limitKey ++ bytesField 2 (eightField 2 (bytesOf limit)))
 
 -- 4 parameters: "unless the limit is 50,000,000"
 unfoldable pub parametersField : ℕ → List ℕ
-parametersField limit = cond (eqb limit 50000000) [] (bytesField 4 (limitStruct limit))
+parametersField limit = cond (eqb limit mostLimit) [] (bytesField 4 (limitStruct limit))
 
 -- "fields in ascending number"
 unfoldable pub frameFor : ℕ → List ℕ → List ℕ → ℕ → List ℕ
@@ -55,13 +57,12 @@ frameFor flow name format limit = nameField name ++ socketField flow ++ formatFi
 
 -- "34 bad name, format, .."; how long the frame is, is known before a byte of it is written
 unfoldable pub givenOf : ℕ → List ℕ → List ℕ → ℕ → Given
-givenOf flow name format limit = cond (isGood name format) (Long (length (frameFor flow name format limit))) Bad
+givenOf flow name format limit = cond (isGood name format) (Good (length (frameFor flow name format limit))) Bad
 
 abbrev pub givenNumber : Given → ℕ
-givenNumber (Long length) = 0
+givenNumber (Good length) = 0
 givenNumber Bad = 34
 
--- the output with the frame from place `at` on: whole or not at all, and never of a name or a format over 255
+-- the output with the frame of a good name and format from place `at` on, and nothing else changed; the output itself where it has no room
 unfoldable pub written : ℕ → List ℕ → List ℕ → ℕ → ℕ → List ℕ → List ℕ
-written flow name format limit at out =
-    cond (leb (length name) 255 && leb (length format) 255) (putAt out at (frameFor flow name format limit)) out
+written flow name format limit at out = cond (isGood name format) (putAt out at (frameFor flow name format limit)) out

@@ -1,33 +1,49 @@
--- "what a send writes, the other end reads as sent": what is heard of a frame that was written.
-use Prim.Native.Nat.{ℕ}
+-- An OPEN frame that was written is read as it was given: what a server of any flow and offer hears of it.
+use Prim.Native.Nat.{ℕ, _+_}
 use mathlib.Core.Path.{_≡_}
-use mathlib.Core.List.{List}
-use mathlib.Core.Bool.{cond, _&&_, _||_}
+use mathlib.Core.List.{List, []}
+use mathlib.Core.Bool.{true, cond, _&&_, _||_}
 use lib.ListN.{length}
 use lib.Dec.{eqb}
-use Rattle.bytes_be.specs.Part.{partAt, same}
+use Rattle.bytes_be.specs.Part.{holds, part, partAt, same}
+use Rattle.double.specs.Limit.{mostLimit, inLimits}
 use Rattle.terms.specs.Announced.{announcedLimit}
 use Rattle.open.specs.declared.Opening.{Opening}
 use Rattle.open.specs.declared.Refusal.the-variants.{OtherPipe, OtherFormat}
 use Rattle.open.specs.declared.Open.{Open}
 use Rattle.open.specs.declared.Open.the-variants.{Heard, Refused}
-use Rattle.open.specs.Open.{offeredSocket, openOf, offered}
-use Rattle.open_write.specs.Frame.{socketOf}
+use Rattle.open.specs.Open.{offeredSocket, heardBy}
+use Rattle.open_write.specs.Frame.{isGood, socketOf, limitStruct, frameFor, written}
 
--- the answer to this OPEN of a server that offers this name and this format: the opening is refused only where name, socket or format is
--- not the offered one
+-- refused only where name, socket or format is not the offered one
 unfoldable pub answerTo : ℕ → List ℕ → List ℕ → Opening → ℕ → List ℕ → List ℕ → Open
-answerTo flow name format opening server offeredName offeredFormat =
-    cond (same name offeredName && eqb (socketOf flow) (offeredSocket server))
+answerTo flow name format opening serverFlow offeredName offeredFormat =
+    cond (same name offeredName && eqb (socketOf flow) (offeredSocket serverFlow))
     (cond (eqb (length format) 0 || same format offeredFormat) (Heard opening) (Refused OtherFormat))
     (Refused OtherPipe)
 
--- the same socket, name, format and limit, by whatever server the frame from `from` to `to` is read
+-- the same socket, name, format and limit, of the frame from `from` to `to`
 pub record ReadBack (flow : ℕ) (name format : List ℕ) (limit : ℕ) (s : List ℕ) (from to : ℕ) : Type 0 where
   pub opening : Opening
   pub socket : opening .socket ≡ socketOf flow
   pub named : partAt s (opening .name) ≡ name
   pub formatted : partAt s (opening .format) ≡ format
+  pub long : opening .format .length ≡ length format
+  pub parametrized : partAt s (opening .parameters) ≡ cond (eqb limit mostLimit) [] (limitStruct limit)
   pub limited : announcedLimit (opening .announced) ≡ limit
-  pub heard : (server : ℕ) (offeredName offeredFormat : List ℕ) →
-      offered s server offeredName offeredFormat (openOf s from to) ≡ answerTo flow name format opening server offeredName offeredFormat
+  pub heard : (serverFlow : ℕ) (offeredName offeredFormat : List ℕ) →
+      heardBy s from to serverFlow offeredName offeredFormat ≡ answerTo flow name format opening serverFlow offeredName offeredFormat
+
+-- for every flow and every good name, format and limit, wherever the frame stands
+abbrev pub ReadsBack : Type 0
+ReadsBack =
+    (flow : ℕ) (name format : List ℕ) (limit : ℕ) → isGood name format ≡ true → inLimits limit ≡ true
+    → (s : List ℕ) (from : ℕ) → part s from (length (frameFor flow name format limit)) ≡ frameFor flow name format limit
+    → ReadBack flow name format limit s from (from + length (frameFor flow name format limit))
+
+-- and so in every output that has room for it
+abbrev pub WrittenReadsBack : Type 0
+WrittenReadsBack =
+    (flow : ℕ) (name format : List ℕ) (limit : ℕ) → isGood name format ≡ true → inLimits limit ≡ true
+    → (out : List ℕ) (at : ℕ) → holds (length out) at (length (frameFor flow name format limit)) ≡ true
+    → ReadBack flow name format limit (written flow name format limit at out) at (at + length (frameFor flow name format limit))

@@ -10,7 +10,7 @@ ghost use Rattle.open_write.specs.Frame.{goodName, goodFormat, socketOf,
 // What is given to an OPEN.
 pub enum Given {
     // A good name and a good format, whose frame has so many bytes.
-    Long(usize),
+    Good(usize),
     // 34.
     Bad,
 }
@@ -20,7 +20,7 @@ pub fn given_number(given: Given) -> u8
     ensures { λ r. ⌜ r ≡ givenNumber given ⌝ }
 {
     match given {
-        Given::Long(_) => 0,
+        Given::Good(_) => 0,
         Given::Bad => 34,
     }
 }
@@ -48,7 +48,7 @@ fn socket_of(flow: u8) -> u8
     2
 }
 
-// How many bytes a field of these takes whose tag has one byte.
+// How many bytes a field takes that holds these and has a tag of one byte.
 fn field_length(bytes: &[u8]) -> usize
     requires { ⌜ length (now bytes) ≤ 255 ⌝ }
     ensures { λ r. ⌜ r ≡ 1 + varintLength (length (now (bytes .entry))) + length (now (bytes .entry)) ⌝ }
@@ -76,7 +76,7 @@ fn parameters_length(limit: u32) -> usize
     34
 }
 
-// How many bytes the frame of these takes, for either flow.
+// How many bytes the frame takes: a tag and a socket have one each, whatever the flow.
 fn frame_length(flow: u8, name: &[u8], format: &[u8], limit: u32) -> usize
     requires { ⌜ (length (now name) ≤ 255) × (length (now format) ≤ 255) ⌝ }
     ensures { λ r. ⌜ r ≡ length (frameFor flow (now (name .entry)) (now (format .entry)) limit) ⌝ }
@@ -106,7 +106,7 @@ fn store_socket(out: &mut [u8], at: usize, flow: u8)
     bytes_be::copy_at(out, at, &[0x10, socket_of(flow)]);
 }
 
-// Stores a format that is not empty, and answers the place behind it.
+// Stores the format unless it is empty, and answers the place behind it.
 fn store_format(out: &mut [u8], at: usize, format: &[u8]) -> usize
     requires { ⌜ at + length (formatField (now format)) ≤ length (now out) ⌝ }
     ensures stored { λ _. ⌜ now (out .exit) ≡ putAt (now (out .entry)) at (formatField (now (format .entry))) ⌝ }
@@ -138,24 +138,24 @@ pub fn given_of(flow: u8, name: &[u8], format: &[u8], limit: u32) -> Given
 {
     let good = good_name(name) & good_format(format);
     if good {
-        return Given::Long(frame_length(flow, name, format, limit));
+        return Given::Good(frame_length(flow, name, format, limit));
     }
     Given::Bad
 }
 
-// Writes the frame of a client of this flow from place `at` on. Where it has no room there, or the name or the format is over 255, `out`
-// stays as it is.
+// Writes the frame of a client of this flow from place `at` on. Where it has no room there, or 34 refuses name or format, `out` stays as it
+// is.
 pub fn write(out: &mut [u8], at: usize, flow: u8, name: &[u8], format: &[u8], limit: u32)
     ensures { λ _. ⌜ now (out .exit) ≡ written flow (now (name .entry)) (now (format .entry)) limit at (now (out .entry)) ⌝ }
 {
-    let short = (name.len() <= 255) & (format.len() <= 255);
-    if short {
-        let fits = bytes_be::holds(out.len(), at, frame_length(flow, name, format, limit));
-        if fits {
-            let socket = store_bytes(out, at, 1, name);
-            store_socket(out, socket, flow);
-            let parameters = store_format(out, socket + 2, format);
-            store_parameters(out, parameters, limit);
-        }
+    let Given::Good(length) = given_of(flow, name, format, limit) else {
+        return;
+    };
+    let fits = bytes_be::holds(out.len(), at, length);
+    if fits {
+        let socket = store_bytes(out, at, 1, name);
+        store_socket(out, socket, flow);
+        let parameters = store_format(out, socket + 2, format);
+        store_parameters(out, parameters, limit);
     }
 }

@@ -35,7 +35,7 @@ use Rattle.open.specs.declared.Open.{Open}
 use Rattle.open.specs.declared.Open.the-variants.{Heard, Refused as Open·Refused}
 use Rattle.open.specs.Open.{openNumber}
 use Rattle.open_write.specs.declared.Given.{Given}
-use Rattle.open_write.specs.declared.Given.the-variants.{Long, Bad as Given·Bad}
+use Rattle.open_write.specs.declared.Given.the-variants.{Good as Given·Good, Bad as Given·Bad}
 use Rattle.open_write.specs.Frame.{givenOf, givenNumber, written}
 
 -- frame count, the control frame's place and length, the message's size
@@ -158,14 +158,10 @@ pub record OpenAnswer (said : Open) (number : ℕ) (slots : List ℕ) : Type 0 w
 
 -- how long the frame is, also where it has no room
 abbrev pub givenLength : Given → ℕ
-givenLength (Long length) = length
+givenLength (Given·Good length) = length
 givenLength Given·Bad = 0
-
-abbrev pub ifGiven : Given → List ℕ → List ℕ → List ℕ
-ifGiven (Long length) after before = after
-ifGiven Given·Bad after before = before
 
 pub record OpenFrameAnswer (flow : ℕ) (name format : List ℕ) (limit at : ℕ) (before : List ℕ) (number length : ℕ) (after : List ℕ) : Type 0 where
   pub numbered : number ≡ givenNumber (givenOf flow name format limit)
   pub told : length ≡ givenLength (givenOf flow name format limit)
-  pub left : after ≡ ifGiven (givenOf flow name format limit) (written flow name format limit at before) before
+  pub left : after ≡ written flow name format limit at before

@@ -1,7 +1,6 @@
 // What no entry of the C interface reaches yet, exported for the comparison with the second program.
 ghost use mathlib.Core.Path.{_≡_};
 ghost use mathlib.Core.Bool.{cond};
-ghost use mathlib.Core.List.{[], _∷_};
 ghost use Prim.Native.Nat.{_-_};
 ghost use lib.Dec.{eqb};
 ghost use Rattle.bytes_be.specs.Part.{putAt};
@@ -10,7 +9,7 @@ ghost use Rattle.control.specs.Frame.{knownTypeOf};
 ghost use Rattle.double.specs.Double.{bytesOf};
 ghost use Rattle.line.specs.Report.{reportOf, lineOf, Put};
 ghost use Rattle.open.specs.declared.Refusal.the-variants.{Unreadable};
-ghost use Rattle.open.specs.Open.{openOf, offered};
+ghost use Rattle.open.specs.Open.{heardBy};
 ghost use Rattle.utf8.specs.Text.{wellFormed};
 ghost use Rattle.probe.specs.Entries.{contentsSlots, ContentsAnswer, controlSlots, ControlAnswer, bodies, Wrote, kindNumber, readingNumber, readingSlots, FieldAnswer, Stored, checkOf, checkSlots, CheckAnswer, announcedSlots, ifReadable, LimitAnswer, flowOf, openingSlots, refusalSlots, openSlots, OpenAnswer, givenLength, OpenFrameAnswer};
 use bundle::Contents;
@@ -385,7 +384,7 @@ pub extern "C" fn probe_open(
     format: &[u8],
     slots: &mut [u64; 10],
 ) -> u32
-    ensures { λ r. ⌜ OpenAnswer (offered (now (message .entry)) (flowOf producer) (now (name .entry)) (now (format .entry)) (openOf (now (message .entry)) at end)) r (now (slots .exit)) ⌝ }
+    ensures { λ r. ⌜ OpenAnswer (heardBy (now (message .entry)) at end (flowOf producer) (now (name .entry)) (now (format .entry))) r (now (slots .exit)) ⌝ }
 {
     let said = open::hear(message, at, end, flow_of(producer), name, format);
     *slots = open_slots(said);
@@ -396,7 +395,7 @@ fn given_length(given: Given) -> u64
     ensures { λ r. ⌜ r ≡ givenLength given ⌝ }
 {
     match given {
-        Given::Long(length) => length as u64,
+        Given::Good(length) => length as u64,
         Given::Bad => 0,
     }
 }
@@ -416,9 +415,6 @@ pub extern "C" fn probe_open_frame(
     let flow = flow_of(producer);
     let given = open_write::given_of(flow, name, format, limit);
     *length = given_length(given);
-    let Given::Long(_) = given else {
-        return open_write::given_number(given) as u32;
-    };
     open_write::write(out, at, flow, name, format, limit);
-    0
+    open_write::given_number(given) as u32
 }

@@ -4,7 +4,7 @@ use mathlib.Core.List.{List}
 use Rattle.bytes_be.specs.Ascii.{ascii}
 use Rattle.double.specs.declared.Limit.{Limit}
 use Rattle.double.specs.declared.Limit.the-variants.{Whole, Bad as Limit·Bad}
-use Rattle.double.specs.Limit.{limitOf}
+use Rattle.double.specs.Limit.{mostLimit, limitOf}
 use Rattle.params.specs.declared.Found.{Found}
 use Rattle.params.specs.declared.Found.the-variants.{At, Nothing as Found·Nothing}
 use Rattle.params.specs.Keys.{findIn}
@@ -33,9 +33,13 @@ abbrev pub fromFound : List ℕ → Found → Announced
 fromFound s (At place) = fromValue (valueAt s (place .at) (place .at + place .length))
 fromFound s Found·Nothing = Nothing
 
+-- "parameter `max_message_bytes`"
+abbrev pub limitKey : List ℕ
+limitKey = ascii "max_message_bytes"
+
 -- the limit that the Struct from `from` to `to` announces, or nothing
 unfoldable pub limitIn : List ℕ → ℕ → ℕ → Announced
-limitIn s from to = fromFound s (findIn s from to (ascii "max_message_bytes"))
+limitIn s from to = fromFound s (findIn s from to limitKey)
 
 -- "19 .. bad limit"
 abbrev pub announcedNumber : Announced → ℕ
@@ -45,6 +49,6 @@ announcedNumber Bad = 19
 
 -- "with the limit announced, or 50,000,000 where none is"; 0 beside a refusal
 abbrev pub announcedLimit : Announced → ℕ
-announcedLimit Nothing = 50000000
+announcedLimit Nothing = mostLimit
 announcedLimit (Announced·Limit limit) = limit
 announcedLimit Bad = 0

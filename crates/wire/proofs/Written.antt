@@ -8,7 +8,6 @@ use borrow.Author.Tests.{le-ltb, lt-ltb, le-leb}
 use Rattle.bytes_be.specs.Part.{part, between}
 use Rattle.bytes_be.proofs.Parts.{part-there, drop-past}
 use Rattle.wire.specs.declared.Field.{Field}
-use Rattle.wire.specs.declared.Reading.{Reading}
 use Rattle.wire.specs.declared.Reading.the-variants.{Read}
 use Rattle.wire.specs.Varint.{shortestWithin, shortestOf, varintLength}
 use Rattle.wire.specs.Fields.{payloadAt, fieldAt, fieldsOf}

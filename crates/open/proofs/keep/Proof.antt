@@ -16,12 +16,12 @@ place-if-requires-3 c κs = search needs
 place-if-requires-4 : tie.Need-place-if-requires-4
 place-if-requires-4 c κs = search needs
 
-number-if-requires : tie.Need-number-if-requires
-number-if-requires c κs = search needs
+socket-if-requires : tie.Need-socket-if-requires
+socket-if-requires c κs = search needs
 
 returns : tie.Need-returns
 unfolding keep
-returns c = cc (c .before .before .before .before .place-if .ensures, c .before .before .before .place-if2 .ensures, c .before .before .place-if3 .ensures, c .before .place-if4 .ensures, c .number-if .ensures)
+returns c = cc (c .before .before .before .before .place-if .ensures, c .before .before .before .place-if2 .ensures, c .before .before .place-if3 .ensures, c .before .place-if4 .ensures, c .socket-if .ensures)
 
 pub keep-spec : {M : Type 1} → statement M
 keep-spec =
@@ -31,5 +31,5 @@ keep-spec =
     place-if-requires-2
     place-if-requires-3
     place-if-requires-4
-    number-if-requires
+    socket-if-requires
     returns)

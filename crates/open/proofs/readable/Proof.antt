@@ -7,21 +7,21 @@ use Rattle.wire.specs.Fields.{fieldsOf}
 use Rattle.wire.proofs.Readings.{field-within, less-left}
 use Rattle.params.specs.Message.{walk}
 use Rattle.params.proofs.Walks.{walk-done, walk-refused, walk-stopped, walk-on}
-use Rattle.open.specs.Frame.{frameField, keep, kept, frameDone, frameCheck, frameOf}
-use Rattle.open.proofs.Kept.{kept-done, kept-on, frame-lies}
+use Rattle.open.specs.Frame.{frameField, keep, kept, frameDone, frameCheck, partsOf}
+use Rattle.open.proofs.Kept.{kept-done, kept-on, parts-lie}
 use Rattle.open.proofs.Stages.{unreadable, read-whole}
 use Rattle.open.proofs.readable.Statement.{statement}
 use Rattle.open.proofs.readable.Tie as tie
 
 abbrev Inv-loop : tie.InvT-loop
-Inv-loop s from to frame₀ at₀ frame at =
-    (frameCheck s from to ≡ walk (frameField s) keep frameDone (fieldsOf s at to) frame) × (frameOf s from to ≡ kept (fieldsOf s at to) frame)
+Inv-loop s from to parts₀ at₀ parts at =
+    (frameCheck s from to ≡ walk (frameField s) keep frameDone (fieldsOf s at to) parts) × (partsOf s from to ≡ kept (fieldsOf s at to) parts)
 
 abbrev μ-loop : tie.MeasureT-loop
-μ-loop s from to frame₀ at₀ frame at = to - at
+μ-loop s from to parts₀ at₀ parts at = to - at
 
 loop-holds : tie.Need-loop-holds Inv-loop μ-loop
-unfolding frameCheck frameOf
+unfolding frameCheck partsOf
 loop-holds c = (refl, refl)
 
 field-at-requires : tie.Need-field-at-requires Inv-loop μ-loop
@@ -63,7 +63,7 @@ loop-again c = rw (c .keep .ensures) (walk-on _ _ _ _ _ _ _ _ (c .before .before
 opening-of-requires : tie.Need-opening-of-requires Inv-loop μ-loop
 opening-of-requires c κs =
     let held = kept-done _ _ _ _ _ (c .before .loop .inv .1) (c .loop-test .left) in
-    rw held (frame-lies _ _ _ .parameters)
+    rw held (parts-lie _ _ _ .parameters)
 
 returns-3 : tie.Need-returns-3 Inv-loop μ-loop
 returns-3 c = read-whole _ _ _ (walk-done _ _ _ _ _ _ _ _ (c .before .before .loop .inv .0) (c .before .loop-test .left)) _ (kept-done _ _ _ _ _ (c .before .before .loop .inv .1) (c .before .loop-test .left)) _ (c .opening-of .ensures)

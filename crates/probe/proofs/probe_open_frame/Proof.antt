@@ -1,5 +1,4 @@
 -- `probe::probe_open_frame` meets its contract: the frame of a good name and format, or nothing. Assumes nothing.
-use mathlib.Core.Path.{refl, sym, _∙_}
 use borrow.Author.Needs.{needs}
 use Rattle.probe.proofs.probe_open_frame.Statement.{statement}
 use Rattle.probe.proofs.probe_open_frame.Tie as tie
@@ -13,11 +12,8 @@ given-of-requires c κs = search needs
 given-length-requires : tie.Need-given-length-requires
 given-length-requires c κs = search needs
 
-enum-told : tie.Need-enum-told
-enum-told c = search needs
-
-enum-told-2 : tie.Need-enum-told-2
-enum-told-2 c = search needs
+write-requires : tie.Need-write-requires
+write-requires c κs = search needs
 
 given-number-requires : tie.Need-given-number-requires
 given-number-requires c κs = search needs
@@ -25,25 +21,14 @@ given-number-requires c κs = search needs
 cast-result : tie.Need-cast-result
 cast-result c = search needs
 
-returns : tie.Need-returns
-returns c =
-    let flow = c .before .before .before .before .before .flow-of .ensures in
-    let given = rw flow at (c .before .before .before .before .given-of .ensures) in
-    let bad = sym given ∙ c .before .enum-told2 .given .1 in
-    record { numbered = rw given at (c .given-number .ensures); told = rw given at (c .before .before .before .given-length .ensures); left = rw bad refl }
-
-write-requires : tie.Need-write-requires
-write-requires c κs = search needs
-
 same-length : tie.Need-same-length
 same-length c = search needs
 
-returns-2 : tie.Need-returns-2
-returns-2 c =
-    let flow = c .before .before .before .before .before .before .before .before .flow-of .ensures in
-    let given = rw flow at (c .before .before .before .before .before .before .before .given-of .ensures) in
-    let good = sym given ∙ c .before .before .before .before .enum-told .given .1 in
-    record { numbered = rw good refl; told = rw given at (c .before .before .before .before .before .before .given-length .ensures); left = rw good (rw flow at (c .before .before .write .ensures)) }
+returns : tie.Need-returns
+returns c =
+    let flow = c .before .before .before .before .before .before .before .flow-of .ensures in
+    let given = rw flow at (c .before .before .before .before .before .before .given-of .ensures) in
+    record { numbered = rw given at (c .given-number .ensures); told = rw given at (c .before .before .before .before .before .given-length .ensures); left = rw flow at (c .before .before .before .write .ensures) }
 
 pub probe-open-frame-spec : {M : Type 1} → statement M
 probe-open-frame-spec =
@@ -52,11 +37,8 @@ probe-open-frame-spec =
     flow-of-requires
     given-of-requires
     given-length-requires
-    enum-told
-    enum-told-2
+    write-requires
     given-number-requires
     cast-result
-    returns
-    write-requires
     same-length
-    returns-2)
+    returns)
