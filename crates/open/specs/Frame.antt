@@ -65,18 +65,18 @@ unfoldable pub frameField : List ℕ → Parts → Field → Check
 frameField s parts field =
     andThen (frameRule s parts field) (cond (eqb (field .number) 4) (structCheck s (field .at) (field .next)) Good)
 
--- before the first field: "an absent one as the empty place at 0", and "socket 0 or absent" are one
+-- the parts before the first field: "an absent one as the empty place at 0", and an absent socket says 0
 abbrev pub nothing : Parts
 nothing = record { name = nowhere; asked = nowhere; format = nowhere; parameters = nowhere; socket = 0 }
 
--- where the payload of a field stands, if it has this number, and what a socket's varint says
+-- where the payload of a field stands, if it has this number, and what its varint says, if it is the socket
 unfoldable pub placeIf : ℕ → Field → Place → Place
 placeIf number field otherwise = cond (eqb (field .number) number) (placeOf field) otherwise
 
 unfoldable pub socketIf : Field → ℕ → ℕ
 socketIf field otherwise = cond (eqb (field .number) 2) (field .value) otherwise
 
--- after one field more
+-- the parts after one field more, of two the later
 unfoldable pub keep : Parts → Field → Parts
 keep parts field =
     record {
@@ -87,7 +87,7 @@ keep parts field =
       socket = socketIf field (parts .socket);
     }
 
--- after the last one
+-- the parts after the last field
 unfoldable pub kept : List Reading → Parts → Parts
 kept [] parts = parts
 kept (Refused why ∷ rest) parts = parts
