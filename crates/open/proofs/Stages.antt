@@ -1,8 +1,8 @@
 -- One stage behind another, and what is heard lies in the bytes. Assumes nothing.
 use Prim.Native.Nat.{ℕ, _+_, _≤_}
-use mathlib.Core.Path.{_≡_, refl, sym, _∙_, subst}
+use mathlib.Core.Path.{_≡_, sym, _∙_, subst}
 use mathlib.Core.List.{List}
-use mathlib.Core.Bool.{Bool, true, false, cond, _&&_}
+use mathlib.Core.Bool.{Bool, true, false, not, _||_}
 use lib.ListN.{length}
 use lib.Dec.{leb, eqb}
 use native.Mathlib.Omega.{arith}
@@ -13,11 +13,11 @@ use Rattle.params.specs.declared.Check.the-variants.{Good, Refused as Check·Re
 use Rattle.open.specs.declared.Parts.{Parts}
 use Rattle.open.specs.declared.Opening.{Opening}
 use Rattle.open.specs.declared.Refusal.{Refusal}
-use Rattle.open.specs.declared.Refusal.the-variants.{Unreadable, OtherPipe}
+use Rattle.open.specs.declared.Refusal.the-variants.{Unreadable, OutOfRange, UnknownSocket, OtherPipe}
 use Rattle.open.specs.declared.Open.{Open}
 use Rattle.open.specs.declared.Open.the-variants.{Heard, Refused}
 use Rattle.open.specs.Frame.{frameCheck, partsOf}
-use Rattle.open.specs.Open.{openingOf, ifGood, readable, outOfRange, inRange, knownSocket, offeredSocket, offeredPipe, offeredFormat, _then_, openOf, offered}
+use Rattle.open.specs.Open.{openingOf, ifGood, readable, refusedIf, outOfRange, inRange, knownSocket, offeredSocket, offeredPipe, offeredFormat, _then_, openOf, offered, heardBy}
 use Rattle.open.proofs.Kept.{parts-lie}
 
 -- what the stages before came to, as a call has found it
@@ -48,10 +48,9 @@ HeardLies s (Heard opening) = (opening .name .at + opening .name .length ≤ len
 HeardLies s (Refused refusal) = Unit {0}
 
 module _ (s : List ℕ) where
-  -- a stage that hears the opening or refuses it
-  either-lies : (t : Bool) (one other : Open) → HeardLies s one → HeardLies s other → HeardLies s (cond t one other)
-  either-lies true one other h g = h
-  either-lies false one other h g = g
+  stage-lies : (t : Bool) (refusal : Refusal) (opening : Opening) → HeardLies s (Heard opening) → HeardLies s (refusedIf t refusal opening)
+  stage-lies true refusal opening h = tt
+  stage-lies false refusal opening h = h
 
   then-lies : (said : Open) (stage : Opening → Open) → ((opening : Opening) → HeardLies s (Heard opening) → HeardLies s (stage opening))
       → HeardLies s said → HeardLies s (said then stage)
@@ -69,8 +68,8 @@ module _ (s : List ℕ) where
   open-lies : (from to : ℕ) → HeardLies s (openOf s from to)
   unfolding openOf inRange knownSocket
   open-lies from to =
-      then-lies (readable s from to then inRange) knownSocket (λ opening h. either-lies (leb 3 (opening .socket)) _ (Heard opening) tt h)
-      (then-lies (readable s from to) inRange (λ opening h. either-lies (outOfRange opening) _ (Heard opening) tt h) (readable-lies from to))
+      then-lies (readable s from to then inRange) knownSocket (λ opening h. stage-lies (leb 3 (opening .socket)) UnknownSocket opening h)
+      (then-lies (readable s from to) inRange (λ opening h. stage-lies (outOfRange opening) OutOfRange opening h) (readable-lies from to))
 
   -- the name and the format that are compared
   pub name-lies : (from to : ℕ) (r : Open) → r ≡ openOf s from to → (opening : Opening) → r ≡ Heard opening → opening .name .at + opening .name .length ≤ length s
@@ -79,23 +78,25 @@ module _ (s : List ℕ) where
   pub format-lies : (from to : ℕ) (r : Open) → r ≡ openOf s from to → (opening : Opening) → r ≡ Heard opening → opening .format .at + opening .format .length ≤ length s
   format-lies from to r is opening e = subst (HeardLies s) (sym is ∙ e) (open-lies from to) .1
 
--- ---- 21 and 22
+-- ---- what 21 and 22 make of it
 
-module _ (s : List ℕ) (flow : ℕ) (name format : List ℕ) (said : Open) (opening : Opening) (opened : said ≡ Heard opening) where
-  pub other-pipe : (r : Open) → r ≡ offeredPipe s flow name opening → (refusal : Refusal) → r ≡ Refused refusal → r ≡ offered s flow name format said
+module _ (s : List ℕ) (from to flow : ℕ) (name format : List ℕ) (said : Open) (is : said ≡ openOf s from to) where
+  pub refused-before : (refusal : Refusal) → said ≡ Refused refusal → said ≡ heardBy s from to flow name format
   unfolding offered
-  other-pipe r is refusal e =
-      let stops : offeredPipe s flow name opening ≡ Refused refusal = sym is ∙ e in
-      e ∙ sym (rw (opened, stops))
+  refused-before refusal e = refused _ _ (refused said _ is (offeredPipe s flow name) refusal e) (offeredFormat s format) refusal e
 
-  -- the pipe hears the opening itself, or nothing
-  same-pipe : (t : Bool) (heard : Opening) → cond t (Heard opening) (Refused OtherPipe) ≡ Heard heard → t ≡ true
-  same-pipe true heard e = refl
-  same-pipe false heard e = let z : _≡_ {A = ℕ} 0 1 = cc in absurd (omega arith)
+  module _ (opening : Opening) (opened : said ≡ Heard opening) (pipe : Open) (piped : pipe ≡ offeredPipe s flow name opening) where
+    pub other-pipe : (refusal : Refusal) → pipe ≡ Refused refusal → pipe ≡ heardBy s from to flow name format
+    unfolding offered
+    other-pipe refusal e = refused _ _ (heard said _ is (offeredPipe s flow name) opening opened piped) (offeredFormat s format) refusal e
 
-  pub its-format : (r : Open) → r ≡ offeredPipe s flow name opening → (heard : Opening) → r ≡ Heard heard
-      → {result : Open} → result ≡ offeredFormat s format opening → result ≡ offered s flow name format said
-  unfolding offered offeredPipe
-  its-format r is heard e h =
-      let taken = same-pipe (same (partAt s (opening .name)) name && eqb (opening .socket) (offeredSocket flow)) heard (sym is ∙ e) in
-      rw (opened, taken) h
+    -- a stage that hears an opening has heard this one
+    the-same : (t : Bool) (refusal : Refusal) (other : Opening) → refusedIf t refusal opening ≡ Heard other → opening ≡ other
+    the-same true refusal other e = let z : _≡_ {A = ℕ} 0 1 = cc in absurd (omega arith)
+    the-same false refusal other e = cc
+
+    pub its-format : (other : Opening) → pipe ≡ Heard other → (formatted : Open) → formatted ≡ offeredFormat s format opening → formatted ≡ heardBy s from to flow name format
+    unfolding offered offeredPipe
+    its-format other e formatted h =
+        let same = the-same (not (same (partAt s (opening .name)) name) || not (eqb (opening .socket) (offeredSocket flow))) OtherPipe other (sym piped ∙ e) in
+        heard _ _ (heard said _ is (offeredPipe s flow name) opening opened piped) (offeredFormat s format) other e (rw same at h)

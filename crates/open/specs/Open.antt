@@ -35,6 +35,10 @@ ifGood (Check·Refused why) opening = Refused (Unreadable why)
 unfoldable pub readable : List ℕ → ℕ → ℕ → Open
 readable s from to = ifGood (frameCheck s from to) (openingOf s (partsOf s from to))
 
+-- a stage refuses the opening, or hears it
+abbrev pub refusedIf : Bool → Refusal → Opening → Open
+refusedIf test refusal opening = cond test (Refused refusal) (Heard opening)
+
 -- "19 name empty or over 255, format over 255, socket 0 or absent, bad limit"
 unfoldable pub outOfRange : Opening → Bool
 outOfRange opening =
@@ -45,11 +49,11 @@ outOfRange opening =
     || not (eqb (announcedNumber (opening .announced)) 0)
 
 unfoldable pub inRange : Opening → Open
-inRange opening = cond (outOfRange opening) (Refused OutOfRange) (Heard opening)
+inRange opening = refusedIf (outOfRange opening) OutOfRange opening
 
 -- "20 socket 3 or more"
 unfoldable pub knownSocket : Opening → Open
-knownSocket opening = cond (leb 3 (opening .socket)) (Refused UnknownSocket) (Heard opening)
+knownSocket opening = refusedIf (leb 3 (opening .socket)) UnknownSocket opening
 
 -- "A consumer-flow server offers socket 1, a producer-flow server socket 2." A producer's flow is 1, and any other a consumer's.
 abbrev pub offeredSocket : ℕ → ℕ
@@ -59,12 +63,12 @@ offeredSocket flow = cond (eqb flow 1) 2 1
 -- as 18 and 19 have refused what is outside them
 unfoldable pub offeredPipe : List ℕ → ℕ → List ℕ → Opening → Open
 offeredPipe s flow name opening =
-    cond (same (partAt s (opening .name)) name && eqb (opening .socket) (offeredSocket flow)) (Heard opening) (Refused OtherPipe)
+    refusedIf (not (same (partAt s (opening .name)) name) || not (eqb (opening .socket) (offeredSocket flow))) OtherPipe opening
 
 -- "22 format not empty and not the offered one"
 unfoldable pub offeredFormat : List ℕ → List ℕ → Opening → Open
 offeredFormat s format opening =
-    cond (eqb (opening .format .length) 0 || same (partAt s (opening .format)) format) (Heard opening) (Refused OtherFormat)
+    refusedIf (not (eqb (opening .format .length) 0) && not (same (partAt s (opening .format)) format)) OtherFormat opening
 
 -- a stage, where those before it have heard the opening
 infixl 5 _then_

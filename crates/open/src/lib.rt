@@ -4,7 +4,7 @@ ghost use Prim.Native.Nat.{_+_, _≤_};
 ghost use lib.ListN.{length};
 ghost use Rattle.bytes_be.specs.Part.{partAt, same};
 ghost use Rattle.open.specs.Frame.{oversized, frameWire, isThere, frameText, frameRule, frameField, placeIf, socketIf, keep as Frame·keep};
-ghost use Rattle.open.specs.Open.{openingOf, readable as Open·readable, outOfRange, inRange, knownSocket, offeredSocket, offeredPipe, offeredFormat, openOf, heardBy, refusalNumber, openNumber};
+ghost use Rattle.open.specs.Open.{openingOf, readable as Open·readable, refusedIf, outOfRange, inRange, knownSocket, offeredSocket, offeredPipe, offeredFormat, openOf, heardBy, refusalNumber, openNumber};
 use bytes_be::Place;
 use params::Check;
 use terms::Announced;
@@ -252,24 +252,28 @@ fn out_of_range(opening: Opening) -> bool
         | bad_limit
 }
 
+// A stage refuses the opening, or hears it.
+fn refused_if(test: bool, refusal: Refusal, opening: Opening) -> Open
+    ensures { λ r. ⌜ r ≡ refusedIf test refusal opening ⌝ }
+{
+    if test {
+        return Open::Refused(refusal);
+    }
+    Open::Heard(opening)
+}
+
 // 19: a name, a format, a socket or a limit out of range.
 fn in_range(opening: Opening) -> Open
     ensures { λ r. ⌜ r ≡ inRange opening ⌝ }
 {
-    if out_of_range(opening) {
-        return Open::Refused(Refusal::OutOfRange);
-    }
-    Open::Heard(opening)
+    refused_if(out_of_range(opening), Refusal::OutOfRange, opening)
 }
 
 // 20: a socket that there is not.
 fn known_socket(opening: Opening) -> Open
     ensures { λ r. ⌜ r ≡ knownSocket opening ⌝ }
 {
-    if 3 <= opening.socket {
-        return Open::Refused(Refusal::UnknownSocket);
-    }
-    Open::Heard(opening)
+    refused_if(3 <= opening.socket, Refusal::UnknownSocket, opening)
 }
 
 // What the frame from `from` to `to` says by itself.
@@ -313,11 +317,8 @@ fn offered_pipe(s: &[u8], flow: u8, name: &[u8], opening: Opening) -> Open
     ensures { λ r. ⌜ r ≡ offeredPipe (now (s .entry)) flow (now (name .entry)) opening ⌝ }
 {
     let place = opening.name;
-    let offered = same_at(s, place, name) & (opening.socket == offered_socket(flow));
-    if offered {
-        return Open::Heard(opening);
-    }
-    Open::Refused(Refusal::OtherPipe)
+    let other = !same_at(s, place, name) | (opening.socket != offered_socket(flow));
+    refused_if(other, Refusal::OtherPipe, opening)
 }
 
 // 22: a format that is not the offered one.
@@ -326,11 +327,8 @@ fn offered_format(s: &[u8], format: &[u8], opening: Opening) -> Open
     ensures { λ r. ⌜ r ≡ offeredFormat (now (s .entry)) (now (format .entry)) opening ⌝ }
 {
     let place = opening.format;
-    let offered = (place.length == 0) | same_at(s, place, format);
-    if offered {
-        return Open::Heard(opening);
-    }
-    Open::Refused(Refusal::OtherFormat)
+    let other = (place.length != 0) & !same_at(s, place, format);
+    refused_if(other, Refusal::OtherFormat, opening)
 }
 
 // What the frame from `from` to `to` of a message says to a server of this flow that offers this name and this format.

@@ -3,12 +3,12 @@
 use Prim.Native.Nat.{ℕ, _+_, _-_, _≤_}
 use mathlib.Core.Path.{_≡_, refl, sym, ap, _∙_}
 use mathlib.Core.List.{List, [], _∷_, _++_, append-assoc}
-use mathlib.Core.Bool.{Bool, true, false, cond}
+use mathlib.Core.Bool.{Bool, true, false, cond, not, _||_}
 use lib.ListN.{length, drop, length-append, length-drop, take-append-drop}
 use lib.Dec.{leb, eqb}
 use native.Mathlib.Omega.{arith}
 use borrow.Author.Tests.{le-ltb, lt-leb, eq-eqb, ne-eqb, eqb-true, eqb-false, leb-true}
-use Rattle.bytes_be.specs.Part.{part, partAt, putAt}
+use Rattle.bytes_be.specs.Part.{part, partAt, same, putAt}
 use Rattle.bytes_be.specs.declared.Place.{Place}
 use Rattle.bytes_be.proofs.Tests.{both-true}
 use Rattle.bytes_be.proofs.Parts.{drop-past, part-put}
@@ -31,8 +31,8 @@ use Rattle.open.specs.Frame.{frameWire, oversized, isThere, frameText, frameRul
 use Rattle.open.specs.declared.Opening.{Opening}
 use Rattle.open.specs.declared.Refusal.the-variants.{OtherPipe}
 use Rattle.open.specs.declared.Open.{Open}
-use Rattle.open.specs.declared.Open.the-variants.{Heard, Refused}
-use Rattle.open.specs.Open.{openingOf, readable, outOfRange, inRange, knownSocket, offeredPipe, offeredFormat, _then_, openOf, offered, heardBy}
+use Rattle.open.specs.declared.Open.the-variants.{Heard}
+use Rattle.open.specs.Open.{openingOf, readable, refusedIf, outOfRange, inRange, knownSocket, offeredSocket, offeredPipe, offeredFormat, _then_, openOf, offered, heardBy}
 use Rattle.open_write.specs.Frame.{goodName, goodFormat, isGood, socketOf, nameField, socketField, formatField, limitStruct, parametersField, frameFor, written}
 use Rattle.open_write.specs.Round.{answerTo, ReadBack, ReadsBack, WrittenReadsBack}
 use Rattle.open_write.proofs.Fields.{name-says, format-says, known-socket, length-socket, length-frame, format-none, format-some, parameters-none, parameters-some, length-struct}
@@ -245,14 +245,17 @@ module _ (flow : ℕ) (name format : List ℕ) (limit : ℕ) (good : isGood name
         lt-leb 3 (socketOf flow) (few .1),
       )
 
-  stage-behind : (t : Bool) (stage : Opening → Open) → (cond t (Heard opening) (Refused OtherPipe) then stage) ≡ cond t (stage opening) (Refused OtherPipe)
-  stage-behind true stage = refl
-  stage-behind false stage = refl
+  -- the second of two stages looks at this opening and at no other
+  second-of : (t : Bool) (one other : Opening → Open) → one opening ≡ other opening → (refusedIf t OtherPipe opening then one) ≡ (refusedIf t OtherPipe opening then other)
+  second-of true one other e = refl
+  second-of false one other e = e
 
   -- 21 and 22 do so only where the offer is another
   answered : (server : ℕ) (name′ format′ : List ℕ) → heardBy s from to server name′ format′ ≡ answerTo flow name format opening server name′ format′
   unfolding offered offeredPipe offeredFormat answerTo
-  answered server name′ format′ = simp (opened, frame .bytes, stage-behind, frame .behind .bytes) (simp (frame .behind .long))
+  answered server name′ format′ =
+      simp (opened, frame .bytes)
+      (second-of (not (same name name′) || not (eqb (socketOf flow) (offeredSocket server))) _ _ (simp (frame .behind .bytes) (simp (frame .behind .long))))
 
   back : ReadBack flow name format limit s from to
   back =

@@ -2,7 +2,7 @@
 use Prim.Native.Nat.{ℕ, _+_}
 use mathlib.Core.Path.{_≡_}
 use mathlib.Core.List.{List, []}
-use mathlib.Core.Bool.{true, cond, _&&_, _||_}
+use mathlib.Core.Bool.{true, cond, not, _&&_, _||_}
 use lib.ListN.{length}
 use lib.Dec.{eqb}
 use Rattle.bytes_be.specs.Part.{holds, part, partAt, same}
@@ -11,16 +11,14 @@ use Rattle.terms.specs.Announced.{announcedLimit}
 use Rattle.open.specs.declared.Opening.{Opening}
 use Rattle.open.specs.declared.Refusal.the-variants.{OtherPipe, OtherFormat}
 use Rattle.open.specs.declared.Open.{Open}
-use Rattle.open.specs.declared.Open.the-variants.{Heard, Refused}
-use Rattle.open.specs.Open.{offeredSocket, heardBy}
+use Rattle.open.specs.Open.{refusedIf, offeredSocket, _then_, heardBy}
 use Rattle.open_write.specs.Frame.{isGood, socketOf, limitStruct, frameFor, written}
 
 -- refused only where name, socket or format is not the offered one
 unfoldable pub answerTo : ℕ → List ℕ → List ℕ → Opening → ℕ → List ℕ → List ℕ → Open
 answerTo flow name format opening serverFlow offeredName offeredFormat =
-    cond (same name offeredName && eqb (socketOf flow) (offeredSocket serverFlow))
-    (cond (eqb (length format) 0 || same format offeredFormat) (Heard opening) (Refused OtherFormat))
-    (Refused OtherPipe)
+    refusedIf (not (same name offeredName) || not (eqb (socketOf flow) (offeredSocket serverFlow))) OtherPipe opening
+    then refusedIf (not (eqb (length format) 0) && not (same format offeredFormat)) OtherFormat
 
 -- the same socket, name, format and limit, of the frame from `from` to `to`
 pub record ReadBack (flow : ℕ) (name format : List ℕ) (limit : ℕ) (s : List ℕ) (from to : ℕ) : Type 0 where

@@ -10,13 +10,13 @@ same-at-requires c κs = search needs
 offered-socket-requires : tie.Need-offered-socket-requires
 offered-socket-requires c κs = search needs
 
+refused-if-requires : tie.Need-refused-if-requires
+refused-if-requires c κs = search needs
+
 returns : tie.Need-returns
 unfolding offeredPipe
-returns c = simp (← c .before .before .before .same-at .ensures, ← c .before .before .offered-socket .ensures, c .if1 .taken)
-
-returns-2 : tie.Need-returns-2
-unfolding offeredPipe
-returns-2 c = simp (← c .before .before .before .same-at .ensures, ← c .before .before .offered-socket .ensures, c .if1 .left)
+returns c = rw (c .before .before .before .same-at .ensures, c .before .before .offered-socket .ensures) at (c .refused-if .ensures)
 
 pub offered-pipe-spec : {M : Type 1} → statement M
-offered-pipe-spec = tie.close (tie.spec same-at-requires offered-socket-requires returns returns-2)
+offered-pipe-spec =
+    tie.close (tie.spec same-at-requires offered-socket-requires refused-if-requires returns)
