@@ -1,0 +1,4 @@
+-- What the proofs share, and that loading and storing undo each other.
+
+pub mod Filled
+pub mod Stored

@@ -1,0 +1,58 @@
+-- "State block, 64 bytes": "0 role; 1 flow; 2 phase; 3 W, confirmations awaited; 4-5 n, big-endian; 6-7 zero; 8-11 limit, big-endian;
+-- 12-15 zero; 16-63 sixteen entries of 3 bytes (type, type-data), oldest first."
+use Prim.Native.Nat.{ℕ, _+_, _*_}
+use mathlib.Core.List.{List, [], _∷_, _++_, flatMap}
+use mathlib.Core.Bool.{Bool, _&&_}
+use lib.ListN.{length}
+use lib.Dec.{eqb}
+use Rattle.bytes_be.specs.Part.{tabulate}
+use Rattle.bytes_be.specs.Number.{numberAt, toBytes}
+use Rattle.endpoint.specs.declared.Entry.{Entry}
+use Rattle.endpoint.specs.declared.Endpoint.{Endpoint}
+use Rattle.endpoint.specs.declared.Loaded.{Loaded}
+use Rattle.endpoint.specs.Record.{capacity, good}
+
+-- "entries of 3 bytes (type, type-data)"
+unfoldable pub entryBytes : Entry → List ℕ
+entryBytes entry = entry .message ∷ toBytes 2 (entry .«type_data»)
+
+-- the first 16 bytes
+unfoldable pub headBytes : Endpoint → List ℕ
+headBytes e =
+    (e .role ∷ e .flow ∷ e .phase ∷ e .w ∷ [])
+    ++ toBytes 2 (e .n) ++ toBytes 2 0
+    ++ toBytes 4 (e .limit) ++ toBytes 4 0
+
+-- the block of a record
+unfoldable pub bytesOf : Endpoint → List ℕ
+bytesOf e = headBytes e ++ flatMap entryBytes (e .entries)
+
+-- the record of a block
+unfoldable pub entryIn : List ℕ → ℕ → Entry
+entryIn block i = record { message = numberAt 1 block (16 + 3 * i); «type_data» = numberAt 2 block (17 + 3 * i) }
+
+unfoldable pub entriesIn : List ℕ → List Entry
+entriesIn block = tabulate 0 capacity (entryIn block)
+
+unfoldable pub recordIn : List ℕ → Endpoint
+recordIn block =
+    record {
+      role = numberAt 1 block 0;
+      flow = numberAt 1 block 1;
+      phase = numberAt 1 block 2;
+      w = numberAt 1 block 3;
+      n = numberAt 2 block 4;
+      limit = numberAt 4 block 8;
+      entries = entriesIn block;
+    }
+
+-- "6-7 zero", "12-15 zero"
+unfoldable pub spareIsZero : List ℕ → Bool
+spareIsZero block = eqb (numberAt 2 block 6) 0 && eqb (numberAt 4 block 12) 0
+
+-- "1 block not 64 bytes, or not good"
+unfoldable pub isGood : List ℕ → Bool
+isGood block = eqb (length block) 64 && spareIsZero block && good (recordIn block)
+
+unfoldable pub loadOf : List ℕ → Loaded
+loadOf block = record { good = isGood block; endpoint = recordIn block }

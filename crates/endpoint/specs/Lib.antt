@@ -1,0 +1,3 @@
+-- Document 01, "State block, 64 bytes": the record, and its block.
+pub mod Record
+pub mod Block

@@ -1,0 +1,154 @@
+-- "State block": the record that the block holds, what a good one is, what making gives, and the ways in which a record changes.
+use Prim.Native.Nat.{ℕ, zero, suc, _+_, _-_}
+use mathlib.Core.List.{List, [], _∷_, _++_}
+use mathlib.Core.Bool.{Bool, true, cond, _&&_, _||_}
+use lib.ListN.{getD, take, drop, set, replicate}
+use lib.Dec.{ltb, leb, eqb}
+use Rattle.double.specs.Limit.{mostLimit, inLimits}
+use Rattle.endpoint.specs.declared.Entry.{Entry}
+use Rattle.endpoint.specs.declared.Endpoint.{Endpoint}
+use Rattle.endpoint.specs.declared.Given.{Given}
+use Rattle.endpoint.specs.declared.Given.the-variants.{Good, Bad}
+
+-- "role (1 client, 2 server)"
+abbrev pub client : ℕ
+client = 1
+
+abbrev pub server : ℕ
+server = 2
+
+-- "flow (1 producer, 2 consumer)"
+abbrev pub producer : ℕ
+producer = 1
+
+abbrev pub consumer : ℕ
+consumer = 2
+
+-- "phase (0 fresh, 1 opening, 2 idle, 3 offer, 4 batch, 5 closed)"
+abbrev pub fresh : ℕ
+fresh = 0
+
+abbrev pub opening : ℕ
+opening = 1
+
+abbrev pub idle : ℕ
+idle = 2
+
+abbrev pub offer : ℕ
+offer = 3
+
+abbrev pub batch : ℕ
+batch = 4
+
+abbrev pub shut : ℕ
+shut = 5
+
+-- "sixteen entries"; one that awaits nothing is zero
+abbrev pub capacity : ℕ
+capacity = 16
+
+abbrev pub none : Entry
+none = record { message = 0; «type_data» = 0 }
+
+abbrev pub noEntries : List Entry
+noEntries = replicate capacity none
+
+-- the confirmations awaited: "oldest first"
+abbrev pub awaited : Endpoint → List Entry
+awaited e = take (e .w) (e .entries)
+
+-- "A block is good if these ranges hold"
+abbrev pub goodFlow : ℕ → Bool
+goodFlow flow = leb producer flow && leb flow consumer
+
+unfoldable pub inRanges : Endpoint → Bool
+inRanges e =
+    leb client (e .role)
+    && leb (e .role) server
+    && goodFlow (e .flow)
+    && leb (e .phase) shut
+    && leb (e .w) capacity
+
+-- "n is 1..65,535 in phases 3 and 4 and else 0"
+unfoldable pub countFits : Endpoint → Bool
+countFits e = cond (eqb (e .phase) offer || eqb (e .phase) batch) (leb 1 (e .n) && leb (e .n) 65535) (eqb (e .n) 0)
+
+-- "W is 0 in phases 0, 1 and 5"
+unfoldable pub waitFits : Endpoint → Bool
+waitFits e = cond (eqb (e .phase) fresh || eqb (e .phase) opening || eqb (e .phase) shut) (eqb (e .w) 0) true
+
+-- "the first W entries have type 3 or 4, with 4 only for a producer"
+unfoldable pub awaitable : ℕ → Entry → Bool
+awaitable flow entry = eqb (entry .message) 3 || (eqb (entry .message) 4 && eqb flow producer)
+
+-- "the others are zero"
+unfoldable pub isNone : Entry → Bool
+isNone entry = eqb (entry .message) 0 && eqb (entry .«type_data») 0
+
+unfoldable pub entryFits : Endpoint → ℕ → Bool
+entryFits e i = cond (ltb i (e .w)) (awaitable (e .flow) (getD (e .entries) i none)) (isNone (getD (e .entries) i none))
+
+-- whether a test holds of every number below this one
+abbrev pub every : ℕ → (ℕ → Bool) → Bool
+every zero test = true
+every (suc k) test = every k test && test k
+
+unfoldable pub entriesFit : Endpoint → Bool
+entriesFit e = every capacity (entryFits e)
+
+-- "A block is good if .."; "limit is 1,000,000..50,000,000"
+unfoldable pub good : Endpoint → Bool
+good e = inRanges e && countFits e && waitFits e && entriesFit e && inLimits (e .limit)
+
+-- "Making tests .. 34": "bad .. flow or limit given"
+unfoldable pub givenOf : ℕ → ℕ → Given
+givenOf flow limit = cond (goodFlow flow && inLimits limit) Good Bad
+
+abbrev pub givenNumber : Given → ℕ
+givenNumber Good = 0
+givenNumber Bad = 34
+
+-- "Both give phase 0 and zeros."
+unfoldable pub freshOf : ℕ → ℕ → ℕ → Endpoint
+freshOf role flow limit =
+    record { role = role; flow = flow; phase = fresh; w = 0; n = 0; limit = limit; entries = noEntries }
+
+-- "Making a client takes flow and limit; making a server takes flow, with limit 50,000,000."
+abbrev pub freshClient : ℕ → ℕ → Endpoint
+freshClient flow limit = freshOf client flow limit
+
+abbrev pub freshServer : ℕ → Endpoint
+freshServer flow = freshOf server flow mostLimit
+
+-- "Phase becomes 5; n, W and entries zero."
+unfoldable pub closed : Endpoint → Endpoint
+closed e =
+    record { role = e .role; flow = e .flow; phase = shut; w = 0; n = 0; limit = e .limit; entries = noEntries }
+
+-- the same endpoint in another phase, with another n
+unfoldable pub atPhase : Endpoint → ℕ → ℕ → Endpoint
+atPhase e phase n =
+    record { role = e .role; flow = e .flow; phase = phase; w = e .w; n = n; limit = e .limit; entries = e .entries }
+
+-- "An ask adds an entry", where there is room for one more
+unfoldable pub asked : Endpoint → Entry → Endpoint
+asked e entry =
+    cond (ltb (e .w) capacity)
+    (record { role = e .role; flow = e .flow; phase = e .phase; w = e .w + 1; n = e .n; limit = e .limit; entries = set (e .entries) (e .w) entry })
+    e
+
+-- "the oldest entry"; "it removes it"
+abbrev pub oldest : Endpoint → Entry
+oldest e = getD (e .entries) 0 none
+
+abbrev pub withoutOldest : List Entry → List Entry
+withoutOldest entries = drop 1 entries ++ (none ∷ [])
+
+unfoldable pub confirmed : Endpoint → Endpoint
+confirmed e =
+    record { role = e .role; flow = e .flow; phase = e .phase; w = e .w - 1; n = e .n; limit = e .limit; entries = withoutOldest (e .entries) }
+
+-- the same endpoint with another limit
+unfoldable pub limited : Endpoint → ℕ → Endpoint
+limited e limit =
+    record { role = e .role; flow = e .flow; phase = e .phase; w = e .w; n = e .n; limit = limit; entries = e .entries }

@@ -1,0 +1,375 @@
+// One endpoint: its record, what a good one is, how it changes, and its block of 64 bytes.
+ghost use mathlib.Core.Path.{_≡_};
+ghost use Prim.Native.Nat.{_-_, _<_};
+ghost use mathlib.Core.List.{flatMap};
+ghost use mathlib.Core.Bool.{cond};
+ghost use lib.ListN.{length};
+ghost use lib.Dec.{leb};
+ghost use Rattle.bytes_be.specs.Part.{putAt};
+ghost use Rattle.double.specs.Limit.{inLimits};
+ghost use Rattle.endpoint.specs.Record.{noEntries, inRanges, countFits, waitFits, isNone, awaitable, entryFits, entriesFit, good as Record·good, givenOf, givenNumber, freshOf, closed as Record·closed, atPhase, asked as Record·asked, withoutOldest, confirmed as Record·confirmed, limited as Record·limited};
+ghost use Rattle.endpoint.specs.Block.{entryBytes, headBytes, bytesOf, entryIn, entriesIn, recordIn, spareIsZero, loadOf};
+
+// A confirmation that is awaited.
+pub struct Entry {
+    // The number of its type, 3 or 4; 0 where none is awaited.
+    pub message: u8,
+    pub type_data: u16,
+}
+
+pub struct Endpoint {
+    // 1 client, 2 server.
+    pub role: u8,
+    // 1 producer, 2 consumer.
+    pub flow: u8,
+    // 0 fresh, 1 opening, 2 idle, 3 offer, 4 batch, 5 closed.
+    pub phase: u8,
+    // How many confirmations are awaited.
+    pub w: u8,
+    // The count that is offered, or that is left of the batch.
+    pub n: u16,
+    pub limit: u32,
+    // The confirmations awaited, oldest first.
+    pub entries: [Entry; 16],
+}
+
+// The flow and the limit that are given to a making.
+pub enum Given {
+    Good,
+    // 34.
+    Bad,
+}
+
+// What a block holds.
+pub struct Loaded {
+    // Whether the block is good: else 1.
+    pub good: bool,
+    pub endpoint: Endpoint,
+}
+
+fn in_ranges(e: Endpoint) -> bool
+    ensures { λ r. ⌜ r ≡ inRanges e ⌝ }
+{
+    (1 <= e.role) & (e.role <= 2) & ((1 <= e.flow) & (e.flow <= 2)) & (e.phase <= 5) & (e.w <= 16)
+}
+
+fn count_fits(e: Endpoint) -> bool
+    ensures { λ r. ⌜ r ≡ countFits e ⌝ }
+{
+    if (e.phase == 3) | (e.phase == 4) {
+        return (1 <= e.n) & (e.n <= 65535);
+    }
+    e.n == 0
+}
+
+fn wait_fits(e: Endpoint) -> bool
+    ensures { λ r. ⌜ r ≡ waitFits e ⌝ }
+{
+    if (e.phase == 0) | (e.phase == 1) | (e.phase == 5) {
+        return e.w == 0;
+    }
+    true
+}
+
+fn is_awaitable(flow: u8, entry: Entry) -> bool
+    ensures { λ r. ⌜ r ≡ awaitable flow entry ⌝ }
+{
+    (entry.message == 3) | ((entry.message == 4) & (flow == 1))
+}
+
+fn is_none(entry: Entry) -> bool
+    ensures { λ r. ⌜ r ≡ isNone entry ⌝ }
+{
+    (entry.message == 0) & (entry.type_data == 0)
+}
+
+// Whether entry i is one that may be awaited, or behind the first W and zero.
+fn entry_fits(e: Endpoint, i: usize) -> bool
+    requires { ⌜ i < 16 ⌝ }
+    ensures { λ r. ⌜ r ≡ entryFits e i ⌝ }
+{
+    let entries = e.entries;
+    let entry = entries[i];
+    if i < e.w as usize {
+        return is_awaitable(e.flow, entry);
+    }
+    is_none(entry)
+}
+
+fn entries_fit(e: Endpoint) -> bool
+    ensures { λ r. ⌜ r ≡ entriesFit e ⌝ }
+{
+    let mut fit = true;
+    let mut i = 0;
+    while i < 16 {
+        fit = fit & entry_fits(e, i);
+        i += 1;
+    }
+    fit
+}
+
+fn in_limits(limit: u32) -> bool
+    ensures { λ r. ⌜ r ≡ inLimits limit ⌝ }
+{
+    (1000000 <= limit) & (limit <= 50000000)
+}
+
+// Whether a record is good.
+pub fn good(e: Endpoint) -> bool
+    ensures { λ r. ⌜ r ≡ Record·good e ⌝ }
+{
+    in_ranges(e) & count_fits(e) & wait_fits(e) & entries_fit(e) & in_limits(e.limit)
+}
+
+fn no_entries() -> [Entry; 16]
+    ensures { λ r. ⌜ r ≡ noEntries ⌝ }
+{
+    let none = Entry {
+        message: 0,
+        type_data: 0,
+    };
+    [none; 16]
+}
+
+// Whether flow and limit are ones that an endpoint can be made with.
+pub fn given_of(flow: u8, limit: u32) -> Given
+    ensures { λ r. ⌜ r ≡ givenOf flow limit ⌝ }
+{
+    let fits = ((1 <= flow) & (flow <= 2)) & in_limits(limit);
+    if fits {
+        return Given::Good;
+    }
+    Given::Bad
+}
+
+// The number of 01 for what is given: 0, or 34.
+pub fn given_number(given: Given) -> u8
+    ensures { λ r. ⌜ r ≡ givenNumber given ⌝ }
+{
+    match given {
+        Given::Good => 0,
+        Given::Bad => 34,
+    }
+}
+
+// A fresh endpoint.
+pub fn fresh(role: u8, flow: u8, limit: u32) -> Endpoint
+    ensures { λ r. ⌜ r ≡ freshOf role flow limit ⌝ }
+{
+    Endpoint {
+        role: role,
+        flow: flow,
+        phase: 0,
+        w: 0,
+        n: 0,
+        limit: limit,
+        entries: no_entries(),
+    }
+}
+
+// The endpoint after a close.
+pub fn closed(e: Endpoint) -> Endpoint
+    ensures { λ r. ⌜ r ≡ Record·closed e ⌝ }
+{
+    Endpoint {
+        role: e.role,
+        flow: e.flow,
+        phase: 5,
+        w: 0,
+        n: 0,
+        limit: e.limit,
+        entries: no_entries(),
+    }
+}
+
+// The endpoint in another phase, with another n.
+pub fn at_phase(e: Endpoint, phase: u8, n: u16) -> Endpoint
+    ensures { λ r. ⌜ r ≡ atPhase e phase n ⌝ }
+{
+    let mut next = e;
+    next.phase = phase;
+    next.n = n;
+    next
+}
+
+// The endpoint with one confirmation more that is awaited, where there is room for it.
+pub fn asked(e: Endpoint, entry: Entry) -> Endpoint
+    ensures { λ r. ⌜ r ≡ Record·asked e entry ⌝ }
+{
+    if e.w < 16 {
+        let mut entries = e.entries;
+        entries[e.w as usize] = entry;
+        return Endpoint {
+            role: e.role,
+            flow: e.flow,
+            phase: e.phase,
+            w: e.w + 1,
+            n: e.n,
+            limit: e.limit,
+            entries: entries,
+        };
+    }
+    e
+}
+
+// The entries without the oldest.
+fn without_oldest(entries: [Entry; 16]) -> [Entry; 16]
+    ensures { λ r. ⌜ r ≡ withoutOldest entries ⌝ }
+{
+    let none = Entry {
+        message: 0,
+        type_data: 0,
+    };
+    [
+        entries[1],
+        entries[2],
+        entries[3],
+        entries[4],
+        entries[5],
+        entries[6],
+        entries[7],
+        entries[8],
+        entries[9],
+        entries[10],
+        entries[11],
+        entries[12],
+        entries[13],
+        entries[14],
+        entries[15],
+        none,
+    ]
+}
+
+// The endpoint without the oldest confirmation awaited.
+pub fn confirmed(e: Endpoint) -> Endpoint
+    ensures { λ r. ⌜ r ≡ Record·confirmed e ⌝ }
+{
+    let entries = e.entries;
+    Endpoint {
+        role: e.role,
+        flow: e.flow,
+        phase: e.phase,
+        w: less_one(e.w),
+        n: e.n,
+        limit: e.limit,
+        entries: without_oldest(entries),
+    }
+}
+
+// The endpoint with another limit.
+pub fn limited(e: Endpoint, limit: u32) -> Endpoint
+    ensures { λ r. ⌜ r ≡ Record·limited e limit ⌝ }
+{
+    let mut next = e;
+    next.limit = limit;
+    next
+}
+
+fn less_one(w: u8) -> u8
+    ensures { λ r. ⌜ r ≡ w - 1 ⌝ }
+{
+    if w == 0 {
+        return 0;
+    }
+    w - 1
+}
+
+fn entry_in(block: &[u8], i: usize) -> Entry
+    requires { ⌜ i < 16 ⌝ }
+    ensures { λ r. ⌜ r ≡ entryIn (now (block .entry)) i ⌝ }
+{
+    let at = 3 * i;
+    Entry {
+        message: bytes_be::read8(block, 16 + at),
+        type_data: bytes_be::read16(block, 17 + at),
+    }
+}
+
+fn entries_in(block: &[u8]) -> [Entry; 16]
+    ensures { λ r. ⌜ r ≡ entriesIn (now (block .entry)) ⌝ }
+{
+    let mut entries = no_entries();
+    let mut i = 0;
+    while i < 16 {
+        entries[i] = entry_in(block, i);
+        i += 1;
+    }
+    entries
+}
+
+fn record_in(block: &[u8]) -> Endpoint
+    ensures { λ r. ⌜ r ≡ recordIn (now (block .entry)) ⌝ }
+{
+    Endpoint {
+        role: bytes_be::read8(block, 0),
+        flow: bytes_be::read8(block, 1),
+        phase: bytes_be::read8(block, 2),
+        w: bytes_be::read8(block, 3),
+        n: bytes_be::read16(block, 4),
+        limit: bytes_be::read32(block, 8),
+        entries: entries_in(block),
+    }
+}
+
+fn spare_is_zero(block: &[u8]) -> bool
+    ensures { λ r. ⌜ r ≡ spareIsZero (now (block .entry)) ⌝ }
+{
+    (bytes_be::read16(block, 6) == 0) & (bytes_be::read32(block, 12) == 0)
+}
+
+// The record that a block holds, and whether the block is a good one of 64 bytes.
+pub fn load(block: &[u8]) -> Loaded
+    ensures { λ r. ⌜ r ≡ loadOf (now (block .entry)) ⌝ }
+{
+    let e = record_in(block);
+    Loaded {
+        good: (block.len() == 64) & spare_is_zero(block) & good(e),
+        endpoint: e,
+    }
+}
+
+fn entry_bytes(entry: Entry) -> [u8; 3]
+    ensures { λ r. ⌜ r ≡ entryBytes entry ⌝ }
+{
+    let last = bytes_be::bytes16(entry.type_data);
+    [entry.message, last[0], last[1]]
+}
+
+// Stores the first 16 bytes of a block that has room for all 64.
+fn store_head(e: Endpoint, block: &mut [u8])
+    ensures { λ _. ⌜ now (block .exit) ≡ cond (leb 64 (length (now (block .entry)))) (putAt (now (block .entry)) 0 (headBytes e)) (now (block .entry)) ⌝ }
+{
+    let room = 64 <= block.len();
+    if room {
+        bytes_be::copy_at(block, 0, &[e.role, e.flow, e.phase, e.w]);
+        bytes_be::store16(block, 4, e.n);
+        bytes_be::store16(block, 6, 0);
+        bytes_be::store32(block, 8, e.limit);
+        bytes_be::store32(block, 12, 0);
+    }
+}
+
+// Stores the entries behind them. There are sixteen.
+fn store_entries(entries: [Entry; 16], block: &mut [u8])
+    ensures stored { λ _. ⌜ now (block .exit) ≡ putAt (now (block .entry)) 16 (flatMap entryBytes entries) ⌝ }
+    ensures counted { λ _. ⌜ length entries ≡ 16 ⌝ }
+{
+    let room = 64 <= block.len();
+    if room {
+        let mut i = 0;
+        while i < 16 {
+            let entry = entry_bytes(entries[i]);
+            bytes_be::copy_at(block, 16 + 3 * i, &entry);
+            i += 1;
+        }
+    }
+}
+
+// Stores the 64 bytes of a record at the start of a block. Where they do not fit, the block stays as it is.
+pub fn store(e: Endpoint, block: &mut [u8])
+    ensures { λ _. ⌜ now (block .exit) ≡ putAt (now (block .entry)) 0 (bytesOf e) ⌝ }
+{
+    let entries = e.entries;
+    store_head(e, block);
+    store_entries(entries, block);
+}
