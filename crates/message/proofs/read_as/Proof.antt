@@ -1,0 +1,73 @@
+use mathlib.Core.Path.{_∙_, _≡_, ap, sym}
+use borrow.Author.Needs.{needs}
+use Rattle.message.specs.declared.Test.the-variants.{Passes}
+use Rattle.message.specs.Reading.{badFlags, readAs, testOf}
+use Rattle.message.proofs.read_as.Statement.{statement}
+use Rattle.message.proofs.read_as.Tie as tie
+
+flagged : (c : tie.After-enum-told) → testOf (badFlags (c .before .before .before .before .before .args .message) (c .before .before .before .before .before .args .flags)) ≡ Passes
+flagged c = ap testOf (sym (c .before .before .before .bad-flags .ensures)) ∙ sym (c .before .before .test-of .ensures) ∙ c .enum-told .given .1
+
+bad-flags-requires : tie.Need-bad-flags-requires
+bad-flags-requires c κs = search needs
+
+test-of-requires : tie.Need-test-of-requires
+test-of-requires c κs = search needs
+
+enum-told : tie.Need-enum-told
+enum-told c = search needs
+
+enum-told-2 : tie.Need-enum-told-2
+enum-told-2 c = search needs
+
+refused-requires : tie.Need-refused-requires
+refused-requires c κs = search needs
+
+returns : tie.Need-returns
+unfolding readAs
+returns c = simp (ap testOf (sym (c .before .before .before .before .bad-flags .ensures)) ∙ sym (c .before .before .before .test-of .ensures) ∙ c .before .enum-told2 .given .1) (c .refused .ensures)
+
+bad-frames-requires : tie.Need-bad-frames-requires
+bad-frames-requires c κs = search needs
+
+test-of-requires-2 : tie.Need-test-of-requires-2
+test-of-requires-2 c κs = search needs
+
+enum-told-3 : tie.Need-enum-told-3
+enum-told-3 c = search needs
+
+enum-told-4 : tie.Need-enum-told-4
+enum-told-4 c = search needs
+
+refused-requires-2 : tie.Need-refused-requires-2
+refused-requires-2 c κs = search needs
+
+returns-2 : tie.Need-returns-2
+unfolding readAs
+returns-2 c = simp (flagged (c .before .before .before .before .before), ap testOf (sym (c .before .before .before .before .bad-frames .ensures)) ∙ sym (c .before .before .before .test-of2 .ensures) ∙ c .before .enum-told4 .given .1) (c .refused2 .ensures)
+
+body-of-requires : tie.Need-body-of-requires
+body-of-requires c κs = search needs
+
+returns-3 : tie.Need-returns-3
+unfolding readAs
+returns-3 c = simp (flagged (c .before .before .before .before .before), ap testOf (sym (c .before .before .before .before .bad-frames .ensures)) ∙ sym (c .before .before .before .test-of2 .ensures) ∙ c .before .enum-told3 .given .1, sym (c .body-of .ensures))
+
+pub read-as-spec : {M : Type 1} → statement M
+read-as-spec =
+    tie.close
+    (tie.spec
+    bad-flags-requires
+    test-of-requires
+    enum-told
+    enum-told-2
+    refused-requires
+    returns
+    bad-frames-requires
+    test-of-requires-2
+    enum-told-3
+    enum-told-4
+    refused-requires-2
+    returns-2
+    body-of-requires
+    returns-3)

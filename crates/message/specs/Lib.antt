@@ -1,0 +1,2 @@
+-- Document 01, "Receiving": a message between its bytes and the tables, and the numbers 10 to 15.
+pub mod Reading

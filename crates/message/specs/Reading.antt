@@ -1,0 +1,121 @@
+-- A message as it is read: "Checks run in the order of the numbers", here 10 to 15. "A CLOSE that passes 10..13 is heard .. whatever its
+-- flags, frames or size."
+use Prim.Native.Nat.{ℕ, _+_, _-_}
+use mathlib.Core.List.{List}
+use mathlib.Core.Bool.{Bool, true, false, cond, not, _||_}
+use lib.Dec.{leb, eqb}
+use Rattle.bytes_be.specs.declared.Place.{Place}
+use Rattle.bytes_be.specs.Part.{partAt}
+use Rattle.bundle.specs.declared.Contents.{Contents}
+use Rattle.bundle.specs.declared.Contents.the-variants.{Frames, BadBundle as Contents·BadBundle}
+use Rattle.bundle.specs.declared.Frame.{Frame}
+use Rattle.bundle.specs.declared.Frame.the-variants.{At as Frame·At, Behind, BadBundle}
+use Rattle.bundle.specs.Reading.{contentsOf, frameOf}
+use Rattle.control.specs.declared.MessageType.{MessageType}
+use Rattle.control.specs.declared.MessageType.the-variants.{Open, Ready, Noop, Data, Close}
+use Rattle.control.specs.declared.Signed.{Signed}
+use Rattle.control.specs.declared.Signed.the-variants.{Frame as Signed·Frame, Unsigned}
+use Rattle.control.specs.declared.Version.{Version}
+use Rattle.control.specs.declared.Version.the-variants.{One, Other}
+use Rattle.control.specs.declared.KnownType.{KnownType}
+use Rattle.control.specs.declared.KnownType.the-variants.{Known, Unknown}
+use Rattle.control.specs.Frame.{ackRequest, ackReply, typeIn, signedOf, versionOf, knownTypeOf}
+use Rattle.message.specs.declared.Body.{Body}
+use Rattle.message.specs.declared.Body.the-variants.{Nothing, At}
+use Rattle.message.specs.declared.Message.{Message}
+use Rattle.message.specs.declared.Refusal.{Refusal}
+use Rattle.message.specs.declared.Reading.{Reading}
+use Rattle.message.specs.declared.Reading.the-variants.{Read, Refused}
+use Rattle.message.specs.declared.Test.{Test}
+use Rattle.message.specs.declared.Test.the-variants.{Passes, Fails}
+
+-- a test that fails refuses the message
+abbrev pub testOf : Bool → Test
+testOf fails = cond fails Fails Passes
+
+-- "flag bits 2..7, both flags"
+unfoldable pub strangeFlags : ℕ → Bool
+strangeFlags flags = leb 4 flags || eqb flags (ackRequest + ackReply)
+
+-- 14: "flag bits 2..7, both flags, or ACK-REPLY on OPEN or READY"
+abbrev pub badFlags : MessageType → ℕ → Bool
+badFlags Open flags = strangeFlags flags || eqb flags ackReply
+badFlags Ready flags = strangeFlags flags || eqb flags ackReply
+badFlags Noop flags = strangeFlags flags
+badFlags Data flags = strangeFlags flags
+badFlags Close flags = false
+
+-- 15: "data frames: READY, NOOP, any ACK-REPLY need 0; OPEN and all other DATA exactly 1"
+abbrev pub badFrames : MessageType → ℕ → ℕ → Bool
+badFrames Open flags frames = not (eqb frames 1)
+badFrames Ready flags frames = not (eqb frames 0)
+badFrames Noop flags frames = not (eqb frames 0)
+badFrames Data flags frames = cond (eqb flags ackReply) (not (eqb frames 0)) (not (eqb frames 1))
+badFrames Close flags frames = false
+
+-- whether the data frame is looked at: OPEN's, and the body of DATA without ACK-REPLY
+abbrev pub carries : MessageType → ℕ → Bool
+carries Open flags = true
+carries Ready flags = false
+carries Noop flags = false
+carries Data flags = not (eqb flags ackReply)
+carries Close flags = false
+
+-- where it stands
+abbrev pub bodyIn : Frame → Body
+bodyIn (Frame·At place) = At place
+bodyIn Behind = Nothing
+bodyIn BadBundle = Nothing
+
+unfoldable pub bodyOf : List ℕ → MessageType → ℕ → Body
+bodyOf s message flags = cond (carries message flags) (bodyIn (frameOf s 1)) Nothing
+
+-- a refusal, with the type that the control byte says, or 0 where no control byte was read
+abbrev pub refused : ℕ → ℕ → Reading
+refused number said = Refused (record { number = number; said = said })
+
+-- what follows a stage that is passed, or the refusal of one that is not
+
+abbrev pub ifFrames : Contents → Reading → (ℕ → Place → ℕ → Reading) → Reading
+ifFrames (Frames count control size) refusal next = next count control size
+ifFrames Contents·BadBundle refusal next = refusal
+
+abbrev pub ifSigned : Signed → Reading → (ℕ → ℕ → ℕ → Reading) → Reading
+ifSigned (Signed·Frame byte flags type-data) refusal next = next byte flags type-data
+ifSigned Unsigned refusal next = refusal
+
+abbrev pub ifVersionOne : Version → Reading → (ℕ → Reading) → Reading
+ifVersionOne (One type) refusal next = next type
+ifVersionOne Other refusal next = refusal
+
+abbrev pub ifKnown : KnownType → Reading → (MessageType → Reading) → Reading
+ifKnown (Known message) refusal next = next message
+ifKnown Unknown refusal next = refusal
+
+abbrev pub ifPasses : Test → Reading → Reading → Reading
+ifPasses Passes refusal next = next
+ifPasses Fails refusal next = refusal
+
+-- 14, 15, and else the message
+unfoldable pub readAs : List ℕ → ℕ → MessageType → ℕ → ℕ → ℕ → ℕ → Reading
+readAs s said message flags type-data frames size =
+    ifPasses (testOf (badFlags message flags)) (refused 14 said)
+    (ifPasses (testOf (badFrames message flags frames)) (refused 15 said)
+    (Read
+    (record {
+      message = message;
+      flags = flags;
+      «type_data» = type-data;
+      frames = frames;
+      size = size;
+      body = bodyOf s message flags;
+    })))
+
+-- 10, 11, 12, 13, and then by the type
+unfoldable pub readingOf : List ℕ → Reading
+readingOf s =
+    ifFrames (contentsOf s) (refused 10 0) (λ count control size.
+    ifSigned (signedOf (partAt s control)) (refused 11 0) (λ byte flags type-data.
+    ifVersionOne (versionOf byte) (refused 12 (typeIn byte)) (λ said.
+    ifKnown (knownTypeOf said) (refused 13 said) (λ message.
+    readAs s said message flags type-data (count - 1) size))))

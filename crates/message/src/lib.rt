@@ -1,0 +1,191 @@
+// A message as a bundle carries it: its control frame and its data frame, or the first of 10 to 15 that refuses it.
+ghost use mathlib.Core.Path.{_≡_};
+ghost use Rattle.message.specs.Reading.{testOf, strangeFlags, badFlags, badFrames, carries as Reading·carries, bodyIn, bodyOf, refused as Reading·refused, readAs, readingOf};
+use bundle::Contents;
+use bundle::Frame;
+use bytes_be::Place;
+use control::KnownType;
+use control::MessageType;
+use control::Signed;
+use control::Version;
+
+pub enum Body {
+    Nothing,
+    // Where the data frame stands in the message.
+    At(Place),
+}
+
+pub struct Message {
+    pub message: MessageType,
+    pub flags: u8,
+    pub type_data: u16,
+    // How many data frames there are.
+    pub frames: usize,
+    // The sum of all frame lengths.
+    pub size: u64,
+    pub body: Body,
+}
+
+// A refusal: its number, and the type that the control byte says, or 0 where no control byte was read.
+pub struct Refusal {
+    pub number: u8,
+    pub said: u8,
+}
+
+pub enum Reading {
+    Read(Message),
+    Refused(Refusal),
+}
+
+// Whether a message passes a test.
+pub enum Test {
+    Passes,
+    Fails,
+}
+
+pub fn test_of(fails: bool) -> Test
+    ensures { λ r. ⌜ r ≡ testOf fails ⌝ }
+{
+    if fails {
+        return Test::Fails;
+    }
+    Test::Passes
+}
+
+// A flag other than the two that there are, or both of them.
+fn strange_flags(flags: u8) -> bool
+    ensures { λ r. ⌜ r ≡ strangeFlags flags ⌝ }
+{
+    (4 <= flags) | (flags == 3)
+}
+
+fn bad_flags(message: MessageType, flags: u8) -> bool
+    ensures { λ r. ⌜ r ≡ badFlags message flags ⌝ }
+{
+    let strange = strange_flags(flags);
+    match message {
+        MessageType::Open => strange | (flags == 2),
+        MessageType::Ready => strange | (flags == 2),
+        MessageType::Noop => strange,
+        MessageType::Data => strange,
+        MessageType::Close => false,
+    }
+}
+
+// Whether a message of this type and these flags carries a data frame that is looked at.
+fn carries(message: MessageType, flags: u8) -> bool
+    ensures { λ r. ⌜ r ≡ Reading·carries message flags ⌝ }
+{
+    match message {
+        MessageType::Open => true,
+        MessageType::Ready => false,
+        MessageType::Noop => false,
+        MessageType::Data => flags != 2,
+        MessageType::Close => false,
+    }
+}
+
+fn bad_frames(message: MessageType, flags: u8, frames: usize) -> bool
+    ensures { λ r. ⌜ r ≡ badFrames message flags frames ⌝ }
+{
+    match message {
+        MessageType::Open => frames != 1,
+        MessageType::Ready => frames != 0,
+        MessageType::Noop => frames != 0,
+        MessageType::Data => {
+            if flags == 2 {
+                return frames != 0;
+            }
+            frames != 1
+        }
+        MessageType::Close => false,
+    }
+}
+
+fn body_in(frame: Frame) -> Body
+    ensures { λ r. ⌜ r ≡ bodyIn frame ⌝ }
+{
+    match frame {
+        Frame::At(place) => Body::At(place),
+        Frame::Behind => Body::Nothing,
+        Frame::BadBundle => Body::Nothing,
+    }
+}
+
+fn body_of(s: &[u8], message: MessageType, flags: u8) -> Body
+    ensures { λ r. ⌜ r ≡ bodyOf (now (s .entry)) message flags ⌝ }
+{
+    let some = carries(message, flags);
+    if some {
+        return body_in(bundle::frame_at(s, 1));
+    }
+    Body::Nothing
+}
+
+fn refused(number: u8, said: u8) -> Reading
+    ensures { λ r. ⌜ r ≡ Reading·refused number said ⌝ }
+{
+    Reading::Refused(Refusal {
+        number: number,
+        said: said,
+    })
+}
+
+// Reads a message whose type is known.
+fn read_as(
+    s: &[u8],
+    said: u8,
+    message: MessageType,
+    flags: u8,
+    type_data: u16,
+    frames: usize,
+    size: u64,
+) -> Reading
+    ensures { λ r. ⌜ r ≡ readAs (now (s .entry)) said message flags «type_data» frames size ⌝ }
+{
+    let Test::Passes = test_of(bad_flags(message, flags)) else {
+        return refused(14, said);
+    };
+    let Test::Passes = test_of(bad_frames(message, flags, frames)) else {
+        return refused(15, said);
+    };
+    Reading::Read(Message {
+        message: message,
+        flags: flags,
+        type_data: type_data,
+        frames: frames,
+        size: size,
+        body: body_of(s, message, flags),
+    })
+}
+
+// Reads a message. No byte of a data frame is looked at.
+pub fn read(s: &[u8]) -> Reading
+    ensures { λ r. ⌜ r ≡ readingOf (now (s .entry)) ⌝ }
+{
+    let Contents::Frames {
+        count,
+        control,
+        size,
+    } = bundle::contents_of(s)
+    else {
+        return refused(10, 0);
+    };
+    let at = control.at;
+    let end = at + control.length;
+    let Signed::Frame {
+        control_byte,
+        flags,
+        type_data,
+    } = control::signed_of(&s[at..end])
+    else {
+        return refused(11, 0);
+    };
+    let Version::One(said) = control::version_of(control_byte) else {
+        return refused(12, control_byte / 8);
+    };
+    let KnownType::Known(message) = control::known_type_of(said) else {
+        return refused(13, said);
+    };
+    read_as(s, said, message, flags, type_data, count - 1, size)
+}
