@@ -1,14 +1,14 @@
 -- How long a bundle is, and what its writers must leave, from the writes that they made. Assumes nothing.
 use mathlib.Core.Path.{_≡_, refl, sym, ap, _∙_}
 use mathlib.Core.List.{List, [], _∷_, _++_, append-nil, flatMap, flatten}
-use mathlib.Core.Bool.{true, false, _&&_}
+use mathlib.Core.Bool.{Bool, true, false, _&&_, cond}
 use Prim.Native.Nat.{ℕ, _+_, _*_, _^_, _≤_, _<_}
 use native.Mathlib.Omega.{arith}
 use lib.ListN.{length, length-append}
-use borrow.Author.Tests.{lt-ltb, le-ltb, le-leb, lt-leb}
+use borrow.Author.Tests.{lt-ltb, le-ltb, le-leb, lt-leb, leb-false}
 use Rattle.bytes_be.specs.Part.{holds, putAt}
 use Rattle.bytes_be.specs.Number.{toBytes}
-use Rattle.bytes_be.proofs.Parts.{put-then}
+use Rattle.bytes_be.proofs.Parts.{put-then, put-none}
 use Rattle.bytes_be.proofs.Numbers.{length-toBytes}
 use Rattle.bundle.specs.Reading.{counted}
 use Rattle.bundle.specs.Writing.{lengthBytes, bundleOf, lengthsFit, writable, Written}
@@ -53,12 +53,22 @@ module _ (frames : List (List ℕ)) (out : List ℕ) where
       let none : holds (length out) 0 (length (bundleOf frames)) ≡ false = lt-leb (0 + length (bundleOf frames)) (length out) (omega arith) in
       record { answered = simp (made, none); left = simp (made, none) }
 
+-- what a writer of frames that make a bundle leaves: the bundle at the start of the output, or the output where it has no room
+pub left-put : (frames : List (List ℕ)) (out : List ℕ) {count : ℕ} {after : List ℕ} → counted (length frames) && lengthsFit frames ≡ true →
+    Written frames out count after → after ≡ putAt out 0 (bundleOf frames)
+unfolding writable
+left-put frames out made written = written .left ∙ simp made (go (holds (length out) 0 (length (bundleOf frames))) refl)
+  where
+    go : (t : Bool) → holds (length out) 0 (length (bundleOf frames)) ≡ t → cond t (putAt out 0 (bundleOf frames)) out ≡ putAt out 0 (bundleOf frames)
+    go true room = refl
+    go false less = sym (put-none out 0 (bundleOf frames) (leb-false _ _ less))
+
 module _ (first : List ℕ) (eight : length first ≡ 8) (out : List ℕ) where
   one-is : bundleOf (first ∷ []) ≡ (0 ∷ 1 ∷ 0 ∷ 0 ∷ 0 ∷ 8 ∷ []) ++ first
   unfolding bundleOf toBytes flatMap flatten
   one-is = simp (eight, append-nil)
 
-  one-made : counted 1 && lengthsFit (first ∷ []) ≡ true
+  pub one-made : counted 1 && lengthsFit (first ∷ []) ≡ true
   unfolding lengthsFit
   one-made = simp (lt-ltb (length first) (256 ^ 4) (omega arith))
 
@@ -80,7 +90,7 @@ module _ (first : List ℕ) (eight : length first ≡ 8) (out : List ℕ) where
     unfolding bundleOf toBytes flatMap flatten
     two-is = simp (eight, append-nil)
 
-    two-made : length second < 4294967296 → counted 2 && lengthsFit (first ∷ second ∷ []) ≡ true
+    pub two-made : length second < 4294967296 → counted 2 && lengthsFit (first ∷ second ∷ []) ≡ true
     unfolding lengthsFit
     two-made small = simp (lt-ltb (length first) (256 ^ 4) (omega arith), lt-ltb (length second) (256 ^ 4) small)
 

@@ -55,6 +55,11 @@ signed-back message flags type-data h =
     let last : (0 + type-data / 256 % 256) * 256 + type-data % 256 ≡ type-data = omega arith in
     λ i. Frame (control i) (flagged i) (last i)
 
+-- a control frame has 8 bytes
+pub length-control : (message : MessageType) (flags type-data : ℕ) → length (bytesOf message flags type-data) ≡ 8
+unfolding bytesOf toBytes
+length-control message flags type-data = refl
+
 -- what was written is read
 pub control-back : (message : MessageType) (flags type-data : ℕ) → type-data < 65536 → controlOf (bytesOf message flags type-data) ≡ Read message flags type-data
 unfolding controlOf

@@ -70,6 +70,11 @@ bodyIn BadBundle = Nothing
 unfoldable pub bodyOf : List ℕ → MessageType → ℕ → Body
 bodyOf s message flags = cond (carries message flags) (bodyIn (frameOf s 1)) Nothing
 
+-- the place of a body; the empty place at 0 where there is none
+abbrev pub bodyPlace : Body → Place
+bodyPlace Nothing = record { at = 0; length = 0 }
+bodyPlace (At place) = place
+
 -- a refusal, with the type that the control byte says, or 0 where no control byte was read
 abbrev pub refused : ℕ → ℕ → Reading
 refused number said = Refused (record { number = number; said = said })

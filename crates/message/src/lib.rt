@@ -1,6 +1,6 @@
 // A message as a bundle carries it: its control frame and its data frame, or the first of 10 to 15 that refuses it.
 ghost use mathlib.Core.Path.{_≡_};
-ghost use Rattle.message.specs.Reading.{testOf, strangeFlags, badFlags, badFrames, carries as Reading·carries, bodyIn, bodyOf, refused as Reading·refused, readAs, readingOf};
+ghost use Rattle.message.specs.Reading.{testOf, strangeFlags, badFlags, badFrames, carries as Reading·carries, bodyIn, bodyOf, bodyPlace, refused as Reading·refused, readAs, readingOf};
 use bundle::Contents;
 use bundle::Frame;
 use bytes_be::Place;
@@ -120,6 +120,16 @@ fn body_of(s: &[u8], message: MessageType, flags: u8) -> Body
         return body_in(bundle::frame_at(s, 1));
     }
     Body::Nothing
+}
+
+// Where a body stands; the empty place at 0 where there is none.
+pub fn body_place(body: Body) -> Place
+    ensures { λ r. ⌜ r ≡ bodyPlace body ⌝ }
+{
+    match body {
+        Body::Nothing => Place { at: 0, length: 0 },
+        Body::At(place) => place,
+    }
 }
 
 fn refused(number: u8, said: u8) -> Reading

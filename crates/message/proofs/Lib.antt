@@ -1,0 +1,2 @@
+-- What is known of a message that was read.
+pub mod Inside

@@ -1,0 +1,114 @@
+use mathlib.Core.Path.{_∙_, _≡_, ap, sym}
+use borrow.Author.Needs.{needs}
+use Rattle.message.specs.declared.Test.the-variants.{Passes}
+use Rattle.message.specs.Reading.{testOf}
+use Rattle.table.specs.declared.Row.{Row}
+use Rattle.table.specs.Table.{notAllowed}
+use Rattle.receiving.specs.Hearing.{hearMessage, hearRow, tooLarge, hearContent}
+use Rattle.receiving.proofs.hear_message.Statement.{statement}
+use Rattle.receiving.proofs.hear_message.Tie as tie
+
+small : (c : tie.After-enum-told) → testOf (tooLarge (c .before .before .before .before .before .before .before .before .before .args .e) (c .before .before .before .before .before .before .before .before .before .args .m)) ≡ Passes
+small c = ap testOf (sym (c .before .before .before .too-large .ensures)) ∙ sym (c .before .before .test-of .ensures) ∙ c .enum-told .given .1
+
+permitted : (c : tie.After-enum-told3) → testOf (notAllowed (hearRow (c .before .before .before .before .before .before .before .before .before .before .before .before .before .args .e) (c .before .before .before .before .before .before .before .before .before .before .before .before .before .args .m))) ≡ Passes
+permitted c =
+    ap testOf (ap notAllowed (sym (c .before .before .before .before .before .before .before .before .hear-row .ensures)) ∙ sym (c .before .before .before .not-allowed .ensures))
+    ∙ sym (c .before .before .test-of2 .ensures)
+    ∙ c .enum-told3 .given .1
+
+type-of-requires : tie.Need-type-of-requires
+type-of-requires c κs = search needs
+
+hear-row-requires : tie.Need-hear-row-requires
+hear-row-requires c κs = search needs
+
+too-large-requires : tie.Need-too-large-requires
+too-large-requires c κs = search needs
+
+test-of-requires : tie.Need-test-of-requires
+test-of-requires c κs = search needs
+
+enum-told : tie.Need-enum-told
+enum-told c = search needs
+
+enum-told-2 : tie.Need-enum-told-2
+enum-told-2 c = search needs
+
+refuse-requires : tie.Need-refuse-requires
+refuse-requires c κs = search needs
+
+returns : tie.Need-returns
+unfolding hearMessage
+returns c = simp (ap testOf (sym (c .before .before .before .before .too-large .ensures)) ∙ sym (c .before .before .before .test-of .ensures) ∙ c .before .enum-told2 .given .1, sym (c .before .before .before .before .before .before .type-of .ensures)) (c .refuse .ensures)
+
+not-allowed-requires : tie.Need-not-allowed-requires
+not-allowed-requires c κs = search needs
+
+test-of-requires-2 : tie.Need-test-of-requires-2
+test-of-requires-2 c κs = search needs
+
+enum-told-3 : tie.Need-enum-told-3
+enum-told-3 c = search needs
+
+enum-told-4 : tie.Need-enum-told-4
+enum-told-4 c = search needs
+
+refuse-requires-2 : tie.Need-refuse-requires-2
+refuse-requires-2 c κs = search needs
+
+returns-2 : tie.Need-returns-2
+unfolding hearMessage
+returns-2 c = simp (small (c .before .before .before .before .before), ap testOf (ap notAllowed (sym (c .before .before .before .before .before .before .before .before .before .hear-row .ensures)) ∙ sym (c .before .before .before .before .not-allowed .ensures)) ∙ sym (c .before .before .before .test-of2 .ensures) ∙ c .before .enum-told4 .given .1, sym (c .before .before .before .before .before .before .before .before .before .before .type-of .ensures)) (c .refuse2 .ensures)
+
+carried-by-requires : tie.Need-carried-by-requires
+carried-by-requires c κs = search needs
+
+enum-known-number : tie.Need-enum-known-number
+enum-known-number c = search needs
+
+refuse-requires-3 : tie.Need-refuse-requires-3
+refuse-requires-3 c κs = search needs
+
+enum-known-content : tie.Need-enum-known-content
+enum-known-content c = search needs
+
+hear-content-requires : tie.Need-hear-content-requires
+hear-content-requires c κs = search needs
+
+returns-3 : tie.Need-returns-3
+unfolding hearMessage
+returns-3 c = simp (small (c .before .before .before .before .before .before .before .before .before), permitted (c .before .before .before .before .before), sym (c .before .before .before .before .carried-by .ensures) ∙ c .before .before .number .given .1, sym (c .before .before .before .before .before .before .before .before .before .before .before .before .before .before .type-of .ensures)) (c .refuse3 .ensures)
+
+returns-4 : tie.Need-returns-4
+unfolding hearMessage
+returns-4 c =
+    let a = c .before .before .before .before .before .before .before .before .before .before .before .before .before .before .before .before .before .before .args in
+    let by-row = ap (λ (row : Row). hearContent (a .e) (a .m) row (c .before .before .content .given .0 .0)) (c .before .before .before .before .before .before .before .before .before .before .before .before .before .hear-row .ensures) in
+    simp (small (c .before .before .before .before .before .before .before .before .before), permitted (c .before .before .before .before .before), sym (c .before .before .before .before .carried-by .ensures) ∙ c .before .before .content .given .1) (c .hear-content .ensures ∙ by-row)
+
+pub hear-message-spec : {M : Type 1} → statement M
+hear-message-spec =
+    tie.close
+    (tie.spec
+    type-of-requires
+    hear-row-requires
+    too-large-requires
+    test-of-requires
+    enum-told
+    enum-told-2
+    refuse-requires
+    returns
+    not-allowed-requires
+    test-of-requires-2
+    enum-told-3
+    enum-told-4
+    refuse-requires-2
+    returns-2
+    carried-by-requires
+    enum-known-number
+    refuse-requires-3
+    enum-known-content
+    hear-content-requires
+    returns-3
+    returns-4)

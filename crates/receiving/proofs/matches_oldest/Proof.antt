@@ -1,0 +1,17 @@
+use borrow.Author.Needs.{needs}
+use Rattle.receiving.specs.Hearing.{matchesOldest}
+use Rattle.receiving.proofs.matches_oldest.Statement.{statement}
+use Rattle.receiving.proofs.matches_oldest.Tie as tie
+
+array-copy-out-oldest : tie.Need-array-copy-out-oldest
+array-copy-out-oldest c = search needs
+
+type-of-requires : tie.Need-type-of-requires
+type-of-requires c κs = search needs
+
+returns : tie.Need-returns
+unfolding matchesOldest
+returns c = cc
+
+pub matches-oldest-spec : {M : Type 1} → statement M
+matches-oldest-spec = tie.close (tie.spec array-copy-out-oldest type-of-requires returns)

@@ -1,0 +1,170 @@
+-- "Receiving": "Checks run in the order of the numbers .. and the first that applies is given." What an endpoint that offers a pipe name and
+-- a format makes of a message.
+use Prim.Native.Nat.{ℕ, _+_}
+use mathlib.Core.List.{List}
+use mathlib.Core.Bool.{Bool, true, false, cond, not, _&&_, _||_}
+use lib.Dec.{ltb, eqb}
+use Rattle.bytes_be.specs.declared.Place.{Place}
+use Rattle.control.specs.declared.MessageType.{MessageType}
+use Rattle.control.specs.declared.MessageType.the-variants.{Open, Ready, Noop, Data, Close}
+use Rattle.control.specs.Frame.{ackRequest, ackReply, typeOf}
+use Rattle.terms.specs.Announced.{announcedLimit}
+use Rattle.open.specs.declared.Open.{Open as OpenFrame}
+use Rattle.open.specs.declared.Open.the-variants.{Heard as OpenFrame·Heard, Refused as OpenFrame·Refused}
+use Rattle.open.specs.Open.{heardBy, openNumber}
+use Rattle.message.specs.declared.Body.{Body}
+use Rattle.message.specs.declared.Body.the-variants.{Nothing as Body·Nothing, At}
+use Rattle.message.specs.declared.Message.{Message}
+use Rattle.message.specs.declared.Reading.{Reading}
+use Rattle.message.specs.declared.Reading.the-variants.{Read, Refused as Reading·Refused}
+use Rattle.message.specs.declared.Test.{Test}
+use Rattle.message.specs.declared.Test.the-variants.{Passes, Fails}
+use Rattle.message.specs.Reading.{testOf, bodyPlace, readingOf}
+use Rattle.endpoint.specs.declared.Endpoint.{Endpoint}
+use Rattle.endpoint.specs.Record.{shut, oldest, confirmed, limited}
+use Rattle.table.specs.declared.Row.{Row}
+use Rattle.table.specs.Table.{rowOf, notAllowed, aboveOffer, other, moved}
+use Rattle.receiving.specs.declared.Content.{Content}
+use Rattle.receiving.specs.declared.Content.the-variants.{Nothing, Opening, Body as Content·Body}
+use Rattle.receiving.specs.declared.Carried.{Carried}
+use Rattle.receiving.specs.declared.Carried.the-variants.{Content as Carried·Content, Refused}
+use Rattle.receiving.specs.declared.Answer.the-variants.{Heard}
+use Rattle.receiving.specs.declared.Reply.{Reply}
+use Rattle.receiving.specs.declared.Reply.the-variants.{Nothing as Reply·Nothing, Frame}
+use Rattle.receiving.specs.declared.Received.{Received}
+use Rattle.receiving.specs.Refusing.{refused, unchanged}
+
+-- "any message with ACK-REPLY": NOOP or DATA, as 14 refuses it on OPEN and READY, and a CLOSE is one "whatever its flags"
+abbrev pub confirms : MessageType → ℕ → Bool
+confirms Open flags = false
+confirms Ready flags = false
+confirms Noop flags = eqb flags ackReply
+confirms Data flags = eqb flags ackReply
+confirms Close flags = false
+
+-- "NOOP or DATA with ACK-REQUEST .. Elsewhere ACK-REQUEST is ignored."
+abbrev pub asks : MessageType → ℕ → Bool
+asks Open flags = false
+asks Ready flags = false
+asks Noop flags = eqb flags ackRequest
+asks Data flags = eqb flags ackRequest
+asks Close flags = false
+
+-- "NOOP, and any message with ACK-REPLY: phase 2, 3 or 4."
+unfoldable pub movesAs : MessageType → ℕ → MessageType
+movesAs message flags = cond (confirms message flags) Noop message
+
+-- what may be heard is what the other end may send
+unfoldable pub hearRow : Endpoint → Message → Row
+hearRow e m =
+    rowOf (other (e .role)) (other (e .flow)) (e .phase) (e .n) (movesAs (m .message) (m .flags)) (m .«type_data»)
+
+-- 16: "size above limit, or OPEN frame above 4,096"; never asked of a CLOSE
+abbrev pub largeBy : MessageType → Bool → ℕ → Bool
+largeBy Open above length = above || ltb 4096 length
+largeBy Ready above length = above
+largeBy Noop above length = above
+largeBy Data above length = above
+largeBy Close above length = false
+
+unfoldable pub tooLarge : Endpoint → Message → Bool
+tooLarge e m = largeBy (m .message) (ltb (e .limit) (m .size)) (bodyPlace (m .body) .length)
+
+-- 18 to 22, or "its socket and the places of name, format and parameters"
+abbrev pub openCarried : OpenFrame → Carried
+openCarried (OpenFrame·Heard opening) = Carried·Content (Opening opening)
+openCarried (OpenFrame·Refused refusal) = Refused (openNumber (OpenFrame·Refused refusal))
+
+-- "Heard too is the place of its body."
+abbrev pub bodyCarried : Body → Carried
+bodyCarried Body·Nothing = Carried·Content Nothing
+bodyCarried (At place) = Carried·Content (Content·Body place)
+
+unfoldable pub openAt : Endpoint → List ℕ → List ℕ → List ℕ → Place → Carried
+openAt e s name format place = openCarried (heardBy s (place .at) (place .at + place .length) (e .flow) name format)
+
+abbrev pub carriedAs : MessageType → Carried → Carried → Carried
+carriedAs Open frame body = frame
+carriedAs Ready frame body = body
+carriedAs Noop frame body = body
+carriedAs Data frame body = body
+carriedAs Close frame body = body
+
+-- what the message carries beside type, flags and type-data
+unfoldable pub carriedBy : Endpoint → List ℕ → List ℕ → List ℕ → Message → Carried
+carriedBy e s name format m = carriedAs (m .message) (openAt e s name format (bodyPlace (m .body))) (bodyCarried (m .body))
+
+-- "ACK-REPLY must equal the oldest entry in type and type-data"
+unfoldable pub matchesOldest : Endpoint → MessageType → ℕ → Bool
+matchesOldest e message type-data =
+    ltb 0 (e .w) && eqb (oldest e .message) (typeOf message) && eqb (oldest e .«type_data») type-data
+
+-- 24: "unmatched ACK-REPLY"
+unfoldable pub unmatched : Endpoint → Message → Bool
+unmatched e m = confirms (m .message) (m .flags) && not (matchesOldest e (m .message) (m .«type_data»))
+
+-- "it removes it. It never touches n."
+unfoldable pub confirmedBy : Endpoint → Message → Endpoint
+confirmedBy e m = cond (confirms (m .message) (m .flags)) (confirmed e) e
+
+-- OPEN: "with the limit announced, or 50,000,000 where none is"
+abbrev pub limitedBy : Endpoint → Content → Endpoint
+limitedBy e Nothing = e
+limitedBy e (Opening opening) = limited e (announcedLimit (opening .announced))
+limitedBy e (Content·Body place) = e
+
+-- "the reply is the control frame with flags 2 for 1"
+unfoldable pub replyTo : Message → Reply
+replyTo m = cond (asks (m .message) (m .flags)) (Frame (m .message) ackReply (m .«type_data»)) Reply·Nothing
+
+-- "Heard with any message are its type, flags and type-data."
+unfoldable pub accepted : Endpoint → Message → Row → Content → Received
+accepted e m row content =
+    record {
+      answer =
+          Heard
+          (record {
+            message = m .message;
+            flags = m .flags;
+            «type_data» = m .«type_data»;
+            frames = m .frames;
+            content = content;
+          });
+      next = limitedBy (confirmedBy (moved e row) m) content;
+      reply = replyTo m;
+    }
+
+-- what follows a stage that is passed, or the refusal of one that is not
+
+abbrev pub ifPasses : Test → Received → Received → Received
+ifPasses Passes refusal next = next
+ifPasses Fails refusal next = refusal
+
+abbrev pub ifCarried : Carried → (ℕ → Received) → (Content → Received) → Received
+ifCarried (Refused number) refusal next = refusal number
+ifCarried (Carried·Content content) refusal next = next content
+
+abbrev pub ifRead : Reading → (ℕ → ℕ → Received) → (Message → Received) → Received
+ifRead (Reading·Refused refusal) refuse next = refuse (refusal .number) (refusal .said)
+ifRead (Read m) refuse next = next m
+
+-- 23, 24, and else the message is heard
+unfoldable pub hearContent : Endpoint → Message → Row → Content → Received
+hearContent e m row content =
+    ifPasses (testOf (aboveOffer row)) (refused e 23 (typeOf (m .message)))
+    (ifPasses (testOf (unmatched e m)) (refused e 24 (typeOf (m .message)))
+    (accepted e m row content))
+
+-- 16, 17, 18 to 22
+unfoldable pub hearMessage : Endpoint → List ℕ → List ℕ → List ℕ → Message → Received
+hearMessage e s name format m =
+    ifPasses (testOf (tooLarge e m)) (refused e 16 (typeOf (m .message)))
+    (ifPasses (testOf (notAllowed (hearRow e m))) (refused e 17 (typeOf (m .message)))
+    (ifCarried (carriedBy e s name format m) (λ number. refused e number (typeOf (m .message)))
+    (hearContent e m (hearRow e m))))
+
+-- 3, 10 to 15
+unfoldable pub hearOf : Endpoint → List ℕ → List ℕ → List ℕ → Received
+hearOf e s name format =
+    cond (eqb (e .phase) shut) (unchanged e 3)
+    (ifRead (readingOf s) (refused e) (hearMessage e s name format))

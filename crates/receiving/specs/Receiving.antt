@@ -1,0 +1,35 @@
+-- "A reply is one bundle of 14 bytes: a single control frame." "An accepted send or reply writes its own bytes from the start of the output
+-- and nothing behind them."
+use Prim.Native.Nat.{ℕ}
+use mathlib.Core.Path.{_≡_}
+use mathlib.Core.List.{List, [], _∷_}
+use mathlib.Core.Bool.{cond}
+use lib.ListN.{length}
+use lib.Dec.{ltb}
+use Rattle.bytes_be.specs.Part.{putAt}
+use Rattle.bundle.specs.Writing.{bundleOf}
+use Rattle.control.specs.Frame.{bytesOf}
+use Rattle.endpoint.specs.declared.Endpoint.{Endpoint}
+use Rattle.receiving.specs.declared.Reply.{Reply}
+use Rattle.receiving.specs.declared.Reply.the-variants.{Nothing, Frame}
+use Rattle.receiving.specs.declared.Received.{Received}
+use Rattle.receiving.specs.Refusing.{unchanged}
+use Rattle.receiving.specs.Hearing.{hearOf}
+
+-- the bytes of a reply
+abbrev pub replyBytes : Reply → List ℕ
+replyBytes Nothing = []
+replyBytes (Frame message flags type-data) = bundleOf (bytesOf message flags type-data ∷ [])
+
+-- the output after it
+unfoldable pub replied : Reply → List ℕ → List ℕ
+replied reply out = putAt out 0 (replyBytes reply)
+
+-- "2 output too short (receive: under 14 bytes, always tested)"
+unfoldable pub receivedOf : Endpoint → List ℕ → List ℕ → List ℕ → ℕ → Received
+receivedOf e s name format room = cond (ltb room 14) (unchanged e 2) (hearOf e s name format)
+
+-- what a receive answers, and the output afterwards
+pub record ReceiveAnswer (e : Endpoint) (s name format before : List ℕ) (received : Received) (after : List ℕ) : Type 0 where
+  pub answered : received ≡ receivedOf e s name format (length before)
+  pub left : after ≡ replied (receivedOf e s name format (length before) .reply) before

@@ -1,0 +1,2 @@
+-- Document 01, the table of "Sending" and the rows of "Receiving".
+pub mod Table

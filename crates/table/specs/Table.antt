@@ -1,0 +1,78 @@
+-- "Send, Allowed, After it": one table, read from the side of the end that sends. What an end may hear, and what it then becomes, is the row
+-- of the other end: the other role and the other flow, in its own phase and with its own n.
+use Prim.Native.Nat.{ℕ, _-_}
+use mathlib.Core.Bool.{Bool, true, false, cond, _&&_, _||_}
+use lib.Dec.{leb, eqb}
+use Rattle.control.specs.declared.MessageType.{MessageType}
+use Rattle.control.specs.declared.MessageType.the-variants.{Open, Ready, Noop, Data, Close}
+use Rattle.endpoint.specs.declared.Endpoint.{Endpoint}
+use Rattle.endpoint.specs.Record.{client, producer, fresh, opening, idle, offer, batch, shut, closed, atPhase}
+use Rattle.table.specs.declared.Row.{Row}
+use Rattle.table.specs.declared.Row.the-variants.{NotAllowed, AboveOffer, To}
+
+-- "Allowed"
+abbrev pub allowed : Bool → Row → Row
+allowed test row = cond test row NotAllowed
+
+-- "k at most n"
+abbrev pub upTo : Bool → Row → Row
+upTo test row = cond test row AboveOffer
+
+-- "k=0: 2; else .., n=k"
+unfoldable pub begun : ℕ → ℕ → Row
+begun phase count = cond (eqb count 0) (To idle 0) (To phase count)
+
+-- OPEN: "client, phase 0"; "1". Received: "server in phase 0; becomes 1".
+unfoldable pub openRow : ℕ → ℕ → Row
+openRow role phase = allowed (eqb role client && eqb phase fresh) (To opening 0)
+
+-- READY(k), client: "phase 3, k at most n"; "k=0: 2; else 4, n=k". Received: "At a server: phase 3; k at most n; k=0 gives 2, else 4 with n=k."
+-- READY(k), server: "phase 1 or 2"; "k=0: 2; else 3, n=k". Received: "at a client: phase 1 or 2; k=0 gives 2, else 3 with n=k."
+unfoldable pub readyRow : ℕ → ℕ → ℕ → ℕ → Row
+readyRow role phase n count =
+    cond (eqb role client)
+    (allowed (eqb phase offer) (upTo (leb count n) (begun batch count)))
+    (allowed (eqb phase opening || eqb phase idle) (begun offer count))
+
+-- DATA: "producer, phase 4"; "n less 1; at 0, phase 2". Received: "consumer in phase 4; n less 1, at 0 phase 2."
+unfoldable pub dataRow : ℕ → ℕ → ℕ → Row
+dataRow flow phase n = allowed (eqb flow producer && eqb phase batch) (begun batch (n - 1))
+
+-- NOOP: "phase 2, 3, 4"; "same". Received: "NOOP, and any message with ACK-REPLY: phase 2, 3 or 4."
+unfoldable pub noopRow : ℕ → ℕ → Row
+noopRow phase n = allowed (leb idle phase && leb phase batch) (To phase n)
+
+-- CLOSE: "phase 1 to 4"; "5, n and W and entries zero". Received: "heard in phases 1 to 4".
+unfoldable pub closeRow : ℕ → Row
+closeRow phase = allowed (leb opening phase && leb phase batch) (To shut 0)
+
+-- the row for a message that an end of this role and flow sends
+abbrev pub rowOf : ℕ → ℕ → ℕ → ℕ → MessageType → ℕ → Row
+rowOf role flow phase n Open type-data = openRow role phase
+rowOf role flow phase n Ready type-data = readyRow role phase n type-data
+rowOf role flow phase n Noop type-data = noopRow phase n
+rowOf role flow phase n Data type-data = dataRow flow phase n
+rowOf role flow phase n Close type-data = closeRow phase
+
+abbrev pub notAllowed : Row → Bool
+notAllowed NotAllowed = true
+notAllowed AboveOffer = false
+notAllowed (To phase n) = false
+
+abbrev pub aboveOffer : Row → Bool
+aboveOffer NotAllowed = false
+aboveOffer AboveOffer = true
+aboveOffer (To phase n) = false
+
+-- the other role, or the other flow
+abbrev pub other : ℕ → ℕ
+other number = cond (eqb number 1) 2 1
+
+-- "After it": another phase and n, and at a close "n and W and entries zero"
+unfoldable pub atRow : Endpoint → ℕ → ℕ → Endpoint
+atRow e phase n = cond (eqb phase shut) (closed e) (atPhase e phase n)
+
+abbrev pub moved : Endpoint → Row → Endpoint
+moved e NotAllowed = e
+moved e AboveOffer = e
+moved e (To phase n) = atRow e phase n
