@@ -1,4 +1,6 @@
--- What the proofs share, and that loading and storing undo each other.
+-- What the proofs share; what a good record says, and that it stays good; that loading and storing undo each other.
 
 pub mod Filled
 pub mod Stored
+pub mod Told
+pub mod StaysGood
