@@ -4,3 +4,4 @@ pub mod Filled
 pub mod Stored
 pub mod Told
 pub mod StaysGood
+pub mod Round
