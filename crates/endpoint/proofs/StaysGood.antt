@@ -104,7 +104,16 @@ module _ (e : Endpoint) (g : good e ≡ true) where
   limited-good limit bounded =
       let told = good-told e g in
       told-good (limited e limit)
-      (record { roles = told .roles; flows = told .flows; phases = told .phases; waits = told .waits; counted = told .counted; waiting = told .waiting; fitting = told .fitting; bounded = bounded })
+      (record {
+        roles = told .roles;
+        flows = told .flows;
+        phases = told .phases;
+        waits = told .waits;
+        counted = told .counted;
+        waiting = told .waiting;
+        fitting = told .fitting;
+        bounded = bounded;
+      })
 
 module _ (e : Endpoint) (sixteen : length (e .entries) ≡ 16) (g : good e ≡ true) where
   confirmed-fits : (i : ℕ) → entryFits (confirmed e) i ≡ true
