@@ -1,8 +1,9 @@
 -- `endpoint::asked` meets its contract: the entry is set behind the first W where W is below 16.
 -- Assumes nothing.
+use Prim.Native.Nat.{_<_}
 use borrow.Author.Needs.{needs}
 use borrow.Author.Tests.{lt-ltb, le-ltb}
-use Rattle.endpoint.specs.Record.{asked}
+use Rattle.endpoint.specs.Record.{asked, capacity}
 use Rattle.endpoint.proofs.asked.Statement.{statement}
 use Rattle.endpoint.proofs.asked.Tie as tie
 
@@ -20,7 +21,10 @@ add-t9 c = search needs
 
 returns : tie.Need-returns
 unfolding asked
-returns c = simp (lt-ltb _ _ (c .before .before .before .if1 .taken))
+returns c =
+    let e = c .before .before .before .before .before .args .e in
+    let room : e .w < capacity = search needs in
+    simp (lt-ltb (e .w) capacity room)
 
 returns-2 : tie.Need-returns-2
 unfolding asked

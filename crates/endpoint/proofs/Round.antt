@@ -1,0 +1,218 @@
+-- Loading and storing undo each other, and a good block holds a good record. Assumes nothing.
+use mathlib.Core.Path.{_∙_, _≡_, ap, refl, sym, ap₂}
+use Prim.Native.Nat.{_%_, _*_, _+_, _<_, _^_, _≤_, suc, zero, ℕ}
+use mathlib.Core.List.{List, [], _++_, _∷_, flatMap}
+use mathlib.Core.Bool.{Bool, _&&_, _||_, cond, false, true}
+use native.Mathlib.Omega.{arith}
+use lib.Dec.{eqb, leb, ltb}
+use lib.ListN.{getD, length, List·getD-eq-default}
+use lib.Seq.{take-all}
+use borrow.Author.Tests.{eqb-true, leb-true, ltb-false, ltb-true, eq-eqb}
+use Rattle.bytes_be.specs.Number.{numberAt, toBytes}
+use Rattle.bytes_be.specs.Part.{part, tabulate}
+use Rattle.bytes_be.proofs.Numbers.{number-is, Bytes, bytes-there, number-below}
+use Rattle.bytes_be.proofs.Parts.{part-behind, part-front, part-inside, part-part, getD-tabulate, length-tabulate, part-then}
+use Rattle.bytes_be.proofs.Tests.{both-true}
+use Rattle.double.specs.Limit.{leastLimit, mostLimit}
+use Rattle.double.proofs.Example.{most}
+use Rattle.endpoint.specs.declared.Endpoint.{Endpoint}
+use Rattle.endpoint.specs.declared.Entry.{Entry}
+use Rattle.endpoint.specs.Block.{bytesOf, entryBytes, entryIn, headBytes, entriesIn, isGood, loadOf, recordIn, spareIsZero}
+use Rattle.endpoint.specs.Record.{awaitable, entryFits, good, isNone, none, producer, batch, capacity, client, consumer, countFits, offer, server}
+use Rattle.endpoint.specs.Round.{Sized, LoadedStores, StoredLoads}
+use Rattle.endpoint.proofs.Filled.{filled}
+use Rattle.endpoint.proofs.Stored.{length-block, length-entry, length-head}
+use Rattle.endpoint.proofs.Told.{fits-at, fits-before, fits-behind, good-told}
+
+-- a byte is the number at its place
+byte-is : (s : List ℕ) (at n : ℕ) → at < length s → n < 256 → part s at 1 ≡ n ∷ [] → numberAt 1 s at ≡ n
+unfolding toBytes
+byte-is s at n inside small found =
+    let byte : n ≡ n % 256 = omega arith in
+    number-is 1 s at n (omega arith) (omega arith) (found ∙ ap (λ (k : ℕ). k ∷ []) byte)
+
+-- the numbers of a good record fit their places in the block
+
+at-most : (least n most : ℕ) → leb least n && leb n most ≡ true → n ≤ most
+at-most least n most fits = leb-true n most (both-true (leb least n) (leb n most) fits .1)
+
+count-small : (counting : Bool) (n : ℕ) → cond counting (leb 1 n && leb n 65535) (eqb n 0) ≡ true → n < 256 ^ 2
+count-small true n fits = omega (arith, at-most 1 n 65535 fits)
+count-small false n fits = omega (arith, eqb-true n 0 fits)
+
+awaitable-small : (flow : ℕ) (entry : Entry) → awaitable flow entry ≡ true → entry .message < 256
+unfolding awaitable
+awaitable-small flow entry = go (eqb (entry .message) 3) refl
+  where
+    go : (t : Bool) → eqb (entry .message) 3 ≡ t → t || (eqb (entry .message) 4 && eqb flow producer) ≡ true → entry .message < 256
+    go true three may = omega (arith, eqb-true (entry .message) 3 three)
+    go false other may = omega (arith, eqb-true (entry .message) 4 (both-true (eqb (entry .message) 4) (eqb flow producer) may .0))
+
+none-small : (entry : Entry) → isNone entry ≡ true → entry .message < 256
+unfolding isNone
+none-small entry none =
+    omega (arith, eqb-true (entry .message) 0 (both-true (eqb (entry .message) 0) (eqb (entry .«type_data») 0) none .0))
+
+-- the three bytes of an entry, behind those of the entries before it
+part-entries : (entries : List Entry) (i : ℕ) → i < length entries → part (flatMap entryBytes entries) (3 * i) 3 ≡ entryBytes (getD entries i none)
+unfolding flatMap
+part-entries [] i h = absurd (omega arith)
+part-entries (entry ∷ rest) zero h = part-front (entryBytes entry) (flatMap entryBytes rest) 3 (length-entry entry)
+part-entries (entry ∷ rest) (suc i) h =
+    let next : 3 * suc i ≡ 3 + 3 * i = omega arith in
+    ap (λ (at : ℕ). part (entryBytes entry ++ flatMap entryBytes rest) at 3) next
+    ∙ part-behind (entryBytes entry) (flatMap entryBytes rest) 3 (3 * i) 3 (length-entry entry)
+    ∙ part-entries rest i (omega arith)
+
+module _ (e : Endpoint) (sized : Sized e) (g : good e ≡ true) where
+  long : length (bytesOf e) ≡ 64
+  long = length-block e (sized .sixteen)
+
+  -- a part of the block's first 16 bytes
+  part-head : (at size : ℕ) → at + size ≤ 16 → part (bytesOf e) at size ≡ part (headBytes e) at size
+  unfolding bytesOf
+  part-head at size inside = part-inside (headBytes e) (flatMap entryBytes (e .entries)) at size (omega (arith, length-head e))
+
+  -- the numbers there
+  byte-back : (at n : ℕ) → at < 16 → n < 256 → part (headBytes e) at 1 ≡ n ∷ [] → numberAt 1 (bytesOf e) at ≡ n
+  byte-back at n inside small found = byte-is (bytesOf e) at n (omega (arith, long)) small (part-head at 1 (omega arith) ∙ found)
+
+  number-back : (width at n : ℕ) → at + width ≤ 16 → n < 256 ^ width → part (headBytes e) at width ≡ toBytes width n → numberAt width (bytesOf e) at ≡ n
+  number-back width at n inside small found = number-is width (bytesOf e) at n (omega (arith, long)) small (part-head at width inside ∙ found)
+
+  -- and of one of its entries
+  part-entry : (i at place size : ℕ) → i < 16 → 16 + 3 * i + at ≡ place → at + size ≤ 3 →
+      part (bytesOf e) place size ≡ part (entryBytes (getD (e .entries) i none)) at size
+  unfolding bytesOf
+  part-entry i at place size h found inside =
+      ap (λ (k : ℕ). part (bytesOf e) k size) (sym found)
+      ∙ sym (part-part (bytesOf e) (16 + 3 * i) 3 at size inside)
+      ∙ ap (λ (l : List ℕ). part l at size)
+      (part-behind (headBytes e) (flatMap entryBytes (e .entries)) 16 (3 * i) 3 (length-head e)
+      ∙ part-entries (e .entries) i (omega (arith, sized .sixteen)))
+
+  -- an entry is read as it was written, and so are all
+  message-small : (i : ℕ) → getD (e .entries) i none .message < 256
+  message-small i = go (ltb i (e .w)) refl
+    where
+      fits : entryFits e i ≡ true
+      fits = fits-at e (sized .sixteen) g i
+
+      go : (t : Bool) → ltb i (e .w) ≡ t → getD (e .entries) i none .message < 256
+      go true before = awaitable-small (e .flow) (getD (e .entries) i none) (sym (fits-before e i (ltb-true i (e .w) before)) ∙ fits)
+      go false behind = none-small (getD (e .entries) i none) (sym (fits-behind e i (ltb-false i (e .w) behind)) ∙ fits)
+
+  entry-back : (i : ℕ) → i < 16 → entryIn (bytesOf e) i ≡ getD (e .entries) i none
+  unfolding entryIn entryBytes toBytes
+  entry-back i h =
+      let entry = getD (e .entries) i none in
+      let first = byte-is (bytesOf e) (16 + 3 * i) (entry .message) (omega (arith, long)) (message-small i) (part-entry i 0 (16 + 3 * i) 1 h (omega arith) (omega arith)) in
+      let last = number-is 2 (bytesOf e) (17 + 3 * i) (entry .«type_data») (omega (arith, long)) (sized .small i) (part-entry i 1 (17 + 3 * i) 2 h (omega arith) (omega arith)) in
+      λ j. record { message = first j; «type_data» = last j }
+
+  entries-back : entriesIn (bytesOf e) ≡ e .entries
+  unfolding entriesIn
+  entries-back = sym (filled (entryIn (bytesOf e)) none (e .entries) 16 (sized .sixteen) (λ i h. sym (entry-back i h)))
+
+  -- the whole record, and zeros at the spare places
+  record-back : recordIn (bytesOf e) ≡ e
+  unfolding recordIn headBytes toBytes countFits
+  record-back =
+      let told = good-told e g in
+      let role = byte-back 0 (e .role) (omega arith) (omega (arith, at-most client (e .role) server (told .roles))) refl in
+      let flow = byte-back 1 (e .flow) (omega arith) (omega (arith, at-most producer (e .flow) consumer (told .flows))) refl in
+      let phase = byte-back 2 (e .phase) (omega arith) (omega (arith, told .phases)) refl in
+      let w = byte-back 3 (e .w) (omega arith) (omega (arith, told .waits)) refl in
+      let n = number-back 2 4 (e .n) (omega arith) (count-small (eqb (e .phase) offer || eqb (e .phase) batch) (e .n) (told .counted)) refl in
+      let limit = number-back 4 8 (e .limit) (omega arith) (omega (arith, at-most leastLimit (e .limit) mostLimit (told .bounded))) refl in
+      λ i. record { role = role i; flow = flow i; phase = phase i; w = w i; n = n i; limit = limit i; entries = entries-back i }
+
+  spare-back : spareIsZero (bytesOf e) ≡ true
+  unfolding spareIsZero headBytes toBytes
+  spare-back = simp (number-back 2 6 0 (omega arith) (omega arith) refl, number-back 4 12 0 (omega arith) (omega arith) refl)
+
+-- the block of a good record is good and holds that record: what was stored is loaded
+pub stored-loads : StoredLoads
+unfolding loadOf isGood
+stored-loads e sized g =
+    let well : isGood (bytesOf e) ≡ true =
+    simp (eq-eqb (length (bytesOf e)) 64 (long e sized g), spare-back e sized g) (ap good (record-back e sized g) ∙ g) in
+    λ i. record { good = well i; endpoint = record-back e sized g i }
+
+-- what a good block says
+record BlockTold (block : List ℕ) : Type 0 where
+  full : length block ≡ 64
+  spare-two : numberAt 2 block 6 ≡ 0
+  spare-four : numberAt 4 block 12 ≡ 0
+  good-record : good (recordIn block) ≡ true
+
+block-told : (block : List ℕ) → isGood block ≡ true → BlockTold block
+unfolding isGood spareIsZero
+block-told block g =
+    let p = both-true (eqb (length block) 64 && spareIsZero block) (good (recordIn block)) g in
+    let q = both-true (eqb (length block) 64) (spareIsZero block) (p .0) in
+    let r = both-true (eqb (numberAt 2 block 6) 0) (eqb (numberAt 4 block 12) 0) (q .1) in
+    record { full = eqb-true _ _ (q .0); spare-two = eqb-true _ _ (r .0); spare-four = eqb-true _ _ (r .1); good-record = p .1 }
+
+-- a good block holds a good record
+pub loaded-good : (block : List ℕ) → isGood block ≡ true → good (recordIn block) ≡ true
+loaded-good block g = block-told block g .good-record
+
+module _ (block : List ℕ) (bytes : Bytes block) where
+  -- the entries of a block of bytes are sixteen, each with a type-data of two bytes
+  pub loaded-sized : Sized (recordIn block)
+  unfolding recordIn entriesIn entryIn
+  loaded-sized = record { sixteen = length-tabulate (entryIn block) 0 capacity; small = λ i. small-at i (ltb i capacity) refl }
+    where
+      small-at : (i : ℕ) (t : Bool) → ltb i capacity ≡ t → getD (tabulate 0 capacity (entryIn block)) i none .«type_data» < 256 ^ 2
+      small-at i true inside = rw (getD-tabulate (entryIn block) 0 capacity i none (ltb-true i capacity inside)) (number-below 2 block (17 + 3 * (0 + i)) bytes)
+      small-at i false outside =
+          rw (List·getD-eq-default (tabulate 0 capacity (entryIn block)) none {n = i} (omega (arith, length-tabulate (entryIn block) 0 capacity, ltb-false i capacity outside))) (omega arith)
+
+  module _ (full : length block ≡ 64) where
+    -- the bytes of the numbers at their places are those of the block
+    bytes-at : (width at : ℕ) → at + width ≤ 64 → toBytes width (numberAt width block at) ≡ part block at width
+    bytes-at width at inside = bytes-there width block at bytes (omega arith)
+
+    byte-at : (at : ℕ) → at < 64 → numberAt 1 block at ∷ [] ≡ part block at 1
+    unfolding toBytes
+    byte-at at inside =
+        let byte : numberAt 1 block at ≡ numberAt 1 block at % 256 = omega (arith, number-below 1 block at bytes) in
+        ap (λ (k : ℕ). k ∷ []) byte ∙ bytes-at 1 at (omega arith)
+
+    entries-there : (i k : ℕ) → i + k ≤ 16 → flatMap entryBytes (tabulate i k (entryIn block)) ≡ part block (16 + 3 * i) (3 * k)
+    unfolding flatMap entryBytes entryIn
+    entries-there i zero h = refl
+    entries-there i (suc k) h =
+        let here : entryBytes (entryIn block i) ≡ part block (16 + 3 * i) 3 =
+        (λ j. byte-at (16 + 3 * i) (omega arith) j ++ bytes-at 2 (17 + 3 * i) (omega arith) j) ∙ part-then block (16 + 3 * i) 1 2 (17 + 3 * i) (omega arith) in
+        let all : 3 + 3 * k ≡ 3 * suc k = omega arith in
+        ap₂ (λ (a b : List ℕ). a ++ b) here (entries-there (suc i) k (omega arith))
+        ∙ part-then block (16 + 3 * i) 3 (3 * k) (16 + 3 * suc i) (omega arith)
+        ∙ ap (part block (16 + 3 * i)) all
+
+    head-there : numberAt 2 block 6 ≡ 0 → numberAt 4 block 12 ≡ 0 → headBytes (recordIn block) ≡ part block 0 16
+    unfolding headBytes recordIn
+    head-there spare-two spare-four =
+        let two : toBytes 2 0 ≡ part block 6 2 = ap (toBytes 2) (sym spare-two) ∙ bytes-at 2 6 (omega arith) in
+        let four : toBytes 4 0 ≡ part block 12 4 = ap (toBytes 4) (sym spare-four) ∙ bytes-at 4 12 (omega arith) in
+        (λ i. (byte-at 0 (omega arith) i ++ byte-at 1 (omega arith) i ++ byte-at 2 (omega arith) i ++ byte-at 3 (omega arith) i)
+        ++ bytes-at 2 4 (omega arith) i ++ two i ++ bytes-at 4 8 (omega arith) i ++ four i)
+        ∙ simp (
+          part-then block 0 1 1 1 refl,
+          part-then block 0 2 1 2 refl,
+          part-then block 0 3 1 3 refl,
+          part-then block 0 4 2 4 refl,
+          part-then block 0 6 2 6 refl,
+          part-then block 0 8 4 8 refl,
+          part-then block 0 12 4 12 refl,
+        )
+
+-- a good block is the block of its record: what was loaded is stored again as it was
+pub loaded-stores : LoadedStores
+unfolding bytesOf recordIn entriesIn
+loaded-stores block bytes g =
+    let told = block-told block g in
+    ap₂ (λ (a b : List ℕ). a ++ b) (head-there block bytes (told .full) (told .spare-two) (told .spare-four)) (entries-there block bytes (told .full) 0 16 (omega arith))
+    ∙ part-then block 0 16 48 16 refl
+    ∙ take-all 64 block (omega (arith, told .full))
