@@ -11,7 +11,7 @@ use Rattle.bytes_be.specs.Number.{toBytes}
 use Rattle.bytes_be.proofs.Parts.{put-then, put-none}
 use Rattle.bytes_be.proofs.Numbers.{length-toBytes}
 use Rattle.bundle.specs.Reading.{counted}
-use Rattle.bundle.specs.Writing.{lengthBytes, bundleOf, lengthsFit, writable, Written}
+use Rattle.bundle.specs.Writing.{lengthBytes, bundleOf, headOf, lengthsFit, writable, Written}
 
 pub length-lengths : (frames : List (List ℕ)) → length (flatMap lengthBytes frames) ≡ 4 * length frames
 unfolding flatMap
@@ -85,9 +85,22 @@ module _ (first : List ℕ) (eight : length first ≡ 8) (out : List ℕ) where
   pub no-room-one : length out < 14 → Written (first ∷ []) out 0 out
   no-room-one less = no-room (first ∷ []) out one-made (omega (arith, one-long))
 
+  pub length-front : (size : ℕ) → length (headOf first size) ≡ 18
+  unfolding headOf toBytes
+  length-front size = simp length-append (omega arith)
+
+  -- what stands in front of the second frame, in the three writes of its parts
+  pub put-head : (size : ℕ) → 18 ≤ length out →
+      putAt (putAt (putAt out 0 (0 ∷ 2 ∷ 0 ∷ 0 ∷ 0 ∷ 8 ∷ [])) 6 (toBytes 4 size)) 10 first ≡ putAt out 0 (headOf first size)
+  unfolding headOf toBytes
+  put-head size room =
+      let head : List ℕ = 0 ∷ 2 ∷ 0 ∷ 0 ∷ 0 ∷ 8 ∷ [] in
+      ap (λ (o : List ℕ). putAt o 10 first) (put-then out 0 head (toBytes 4 size) 6 refl (omega arith))
+      ∙ put-then out 0 (head ++ toBytes 4 size) first 10 refl (omega arith)
+
   module _ (second : List ℕ) where
-    two-is : bundleOf (first ∷ second ∷ []) ≡ (0 ∷ 2 ∷ 0 ∷ 0 ∷ 0 ∷ 8 ∷ []) ++ toBytes 4 (length second) ++ first ++ second
-    unfolding bundleOf toBytes flatMap flatten
+    pub two-is : bundleOf (first ∷ second ∷ []) ≡ headOf first (length second) ++ second
+    unfolding bundleOf headOf toBytes flatMap flatten
     two-is = simp (eight, append-nil)
 
     pub two-made : length second < 4294967296 → counted 2 && lengthsFit (first ∷ second ∷ []) ≡ true
@@ -98,22 +111,15 @@ module _ (first : List ℕ) (eight : length first ≡ 8) (out : List ℕ) where
     unfolding flatten
     two-long = simp (length-bundle, append-nil, length-append) (omega arith)
 
-    -- the bundle of two frames, in the four writes of its parts
+    -- the bundle of two frames, in the two writes of its parts
+    pub put-two : 18 + length second ≤ length out → putAt (putAt out 0 (headOf first (length second))) 18 second ≡ putAt out 0 (bundleOf (first ∷ second ∷ []))
+    put-two room =
+        put-then out 0 (headOf first (length second)) second 18 (omega (arith, length-front (length second))) room
+        ∙ ap (putAt out 0) (sym two-is)
+
     pub wrote-two : length second < 4294967296 → 18 + length second ≤ length out →
-        Written (first ∷ second ∷ []) out (18 + length second)
-        (putAt (putAt (putAt (putAt out 0 (0 ∷ 2 ∷ 0 ∷ 0 ∷ 0 ∷ 8 ∷ [])) 6 (toBytes 4 (length second))) 10 first) 18 second)
-    unfolding toBytes
-    wrote-two small room =
-        let head : List ℕ = 0 ∷ 2 ∷ 0 ∷ 0 ∷ 0 ∷ 8 ∷ [] in
-        let size : List ℕ = toBytes 4 (length second) in
-        let sized = put-then out 0 head size 6 refl (omega arith) in
-        let framed = put-then out 0 (head ++ size) first 10 refl (omega arith) in
-        let whole = put-then out 0 (head ++ size ++ first) second 18 (omega arith) room in
-        wrote (first ∷ second ∷ []) out (18 + length second) _ (two-made small) two-long room
-        (ap (λ (o : List ℕ). putAt (putAt o 10 first) 18 second) sized
-        ∙ ap (λ (o : List ℕ). putAt o 18 second) framed
-        ∙ whole
-        ∙ ap (putAt out 0) (sym two-is))
+        Written (first ∷ second ∷ []) out (18 + length second) (putAt (putAt out 0 (headOf first (length second))) 18 second)
+    wrote-two small room = wrote (first ∷ second ∷ []) out (18 + length second) _ (two-made small) two-long room (put-two room)
 
     pub too-long-two : 4294967296 ≤ length second → Written (first ∷ second ∷ []) out 0 out
     unfolding lengthsFit

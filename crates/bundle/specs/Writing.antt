@@ -18,6 +18,10 @@ lengthBytes frame = toBytes 4 (length frame)
 unfoldable pub bundleOf : List (List ℕ) → List ℕ
 bundleOf frames = toBytes 2 (length frames) ++ flatMap lengthBytes frames ++ flatten frames
 
+-- what stands in front of the second of two frames, if the first has 8 bytes
+unfoldable pub headOf : List ℕ → ℕ → List ℕ
+headOf first size = toBytes 2 2 ++ toBytes 4 8 ++ toBytes 4 size ++ first
+
 -- whether every length has room in its 4 bytes
 unfoldable pub lengthsFit : List (List ℕ) → Bool
 lengthsFit [] = true

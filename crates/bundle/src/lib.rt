@@ -2,8 +2,9 @@
 ghost use mathlib.Core.Path.{_≡_};
 ghost use mathlib.Core.List.{[], _∷_};
 ghost use Prim.Native.Nat.{_*_, _≤_};
+ghost use Rattle.bytes_be.specs.Part.{putAt};
 ghost use Rattle.bundle.specs.Reading.{countOf, lengthOf, lengthsBefore, contentsOf, contentsNumber, frameOf, frameNumber};
-ghost use Rattle.bundle.specs.Writing.{Written};
+ghost use Rattle.bundle.specs.Writing.{headOf, Written};
 use bytes_be::Place;
 
 pub enum Contents {
@@ -137,6 +138,19 @@ pub fn write_one(out: &mut [u8], frame: [u8; 8]) -> usize
     14
 }
 
+// Writes what stands in front of the second of two frames: the contents, and the first frame, of 8 bytes. Where there is no room for it,
+// `out` stays as it is.
+pub fn write_head(out: &mut [u8], first: [u8; 8], length: u32)
+    ensures { λ _. ⌜ now (out .exit) ≡ putAt (now (out .entry)) 0 (headOf first length) ⌝ }
+{
+    let room = 18 <= out.len();
+    if room {
+        bytes_be::copy_at(out, 0, &[0, 2, 0, 0, 0, 8]);
+        bytes_be::store32(out, 6, length);
+        bytes_be::copy_at(out, 10, &first);
+    }
+}
+
 // Writes the bundle of a frame of 8 bytes and another, and answers its length, or 0 where it cannot be written.
 pub fn write_two(out: &mut [u8], first: [u8; 8], second: &[u8]) -> usize
     ensures { λ r. ⌜ Written (first ∷ now (second .entry) ∷ []) (now (out .entry)) r (now (out .exit)) ⌝ }
@@ -150,9 +164,7 @@ pub fn write_two(out: &mut [u8], first: [u8; 8], second: &[u8]) -> usize
     if !room {
         return 0;
     }
-    bytes_be::copy_at(out, 0, &[0, 2, 0, 0, 0, 8]);
-    bytes_be::store32(out, 6, length as u32);
-    bytes_be::copy_at(out, 10, &first);
+    write_head(out, first, length as u32);
     bytes_be::copy_at(out, 18, second);
     18 + length
 }

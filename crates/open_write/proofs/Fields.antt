@@ -16,7 +16,7 @@ use Rattle.wire.proofs.Written.{length-bytes-field}
 use Rattle.double.specs.Double.{bytesOf}
 use Rattle.double.proofs.Order.{length-bytesOf}
 use Rattle.terms.specs.Announced.{limitKey}
-use Rattle.open_write.specs.Frame.{goodName, goodFormat, socketOf, nameField, socketField, formatField, limitStruct, parametersField, frameFor}
+use Rattle.open_write.specs.Frame.{goodName, goodFormat, socketOf, nameField, socketField, formatField, limitStruct, parametersField, frameFor, isGood}
 
 -- what a good name and a good format are
 pub name-says : (name : List ℕ) → goodName name ≡ true → (1 ≤ length name) × (length name ≤ 255) × (wellFormed name ≡ true)
@@ -112,3 +112,15 @@ length-frame flow name format limit =
     (length-append (nameField name ++ socketField flow) (formatField format)
     ∙ ap (λ (k : ℕ). k + length (formatField format))
     (length-append (nameField name) (socketField flow) ∙ ap₂ (λ (j k : ℕ). j + k) (length-bytes-field 1 name (omega arith)) (length-socket flow)))
+
+-- the frame of a good name and a good format is short
+pub frame-short : (flow : ℕ) (name format : List ℕ) (limit : ℕ) → isGood name format ≡ true → length (frameFor flow name format limit) ≤ 568
+unfolding isGood frameFor
+frame-short flow name format limit good =
+    let both = both-true (goodName name) (goodFormat format) good in
+    let named = name-says name (both .0) in
+    let formatted = format-says format (both .1) in
+    let first = length-append (nameField name) (socketField flow) in
+    let second = length-append (nameField name ++ socketField flow) (formatField format) in
+    let whole = length-append (nameField name ++ socketField flow ++ formatField format) (parametersField limit) in
+    omega (arith, first, second, whole, length-bytes-field 1 name (omega arith), varint-at-most (length name), length-socket flow, format-short format (formatted .0), parameters-short limit)

@@ -1,0 +1,85 @@
+use mathlib.Core.Path.{_∙_, _≡_, sym}
+use mathlib.Core.Bool.{false}
+use lib.Dec.{eqb}
+use borrow.Author.Needs.{needs}
+use borrow.Author.Tests.{eq-eqb, le-ltb, lt-ltb, ne-eqb}
+use Rattle.table.specs.Table.{aboveOffer, notAllowed}
+use Rattle.sending.specs.Sending.{isFull, numberFor}
+use Rattle.sending.proofs.number_for.Statement.{statement}
+use Rattle.sending.proofs.number_for.Tie as tie
+
+-- the tests that were passed
+
+open-still : (c : tie.Else1) → eqb (c .before .before .args .e .phase) 5 ≡ false
+open-still c = ne-eqb _ _ (c .if1 .left)
+
+permitted : (c : tie.Else2) → notAllowed (c .before .before .before .before .args .row) ≡ false
+permitted c = sym (c .before .not-allowed .ensures) ∙ c .if2 .left
+
+within : (c : tie.Else3) → aboveOffer (c .before .before .before .before .before .before .args .row) ≡ false
+within c = sym (c .before .above-offer .ensures) ∙ c .if3 .left
+
+roomy : (c : tie.Else4) → isFull (c .before .before .before .before .before .before .before .before .args .e) (c .before .before .before .before .before .before .before .before .args .o) ≡ false
+roomy c = sym (c .before .is-full .ensures) ∙ c .if4 .left
+
+returns : tie.Need-returns
+unfolding numberFor
+returns c = simp (eq-eqb _ _ (c .if1 .taken))
+
+not-allowed-requires : tie.Need-not-allowed-requires
+not-allowed-requires c κs = search needs
+
+returns-2 : tie.Need-returns-2
+unfolding numberFor
+returns-2 c = simp (open-still (c .before .before), sym (c .before .not-allowed .ensures) ∙ c .if2 .taken)
+
+above-offer-requires : tie.Need-above-offer-requires
+above-offer-requires c κs = search needs
+
+returns-3 : tie.Need-returns-3
+unfolding numberFor
+returns-3 c = simp (open-still (c .before .before .before .before), permitted (c .before .before), sym (c .before .above-offer .ensures) ∙ c .if3 .taken)
+
+is-full-requires : tie.Need-is-full-requires
+is-full-requires c κs = search needs
+
+returns-4 : tie.Need-returns-4
+unfolding numberFor
+returns-4 c = simp (open-still (c .before .before .before .before .before .before), permitted (c .before .before .before .before), within (c .before .before), sym (c .before .is-full .ensures) ∙ c .if4 .taken)
+
+returns-5 : tie.Need-returns-5
+unfolding numberFor
+returns-5 c = simp (open-still (c .before .before .before .before .before .before .before), permitted (c .before .before .before .before .before), within (c .before .before .before), roomy (c .before), c .if5 .taken)
+
+returns-6 : tie.Need-returns-6
+unfolding numberFor
+returns-6 c = simp (open-still (c .before .before .before .before .before .before .before .before), permitted (c .before .before .before .before .before .before), within (c .before .before .before .before), roomy (c .before .before), c .before .if5 .left, c .if6 .taken)
+
+returns-7 : tie.Need-returns-7
+unfolding numberFor
+returns-7 c = simp (open-still (c .before .before .before .before .before .before .before .before .before), permitted (c .before .before .before .before .before .before .before), within (c .before .before .before .before .before), roomy (c .before .before .before), c .before .before .if5 .left, c .before .if6 .left, c .if7 .taken)
+
+returns-8 : tie.Need-returns-8
+unfolding numberFor
+returns-8 c = simp (open-still (c .before .before .before .before .before .before .before .before .before .before .before), permitted (c .before .before .before .before .before .before .before .before .before), within (c .before .before .before .before .before .before .before), roomy (c .before .before .before .before .before), c .before .before .before .before .if5 .left, c .before .before .before .if6 .left, c .before .before .if7 .left, lt-ltb _ _ (c .if8 .taken))
+
+returns-9 : tie.Need-returns-9
+unfolding numberFor
+returns-9 c = simp (open-still (c .before .before .before .before .before .before .before .before .before .before .before), permitted (c .before .before .before .before .before .before .before .before .before), within (c .before .before .before .before .before .before .before), roomy (c .before .before .before .before .before), c .before .before .before .before .if5 .left, c .before .before .before .if6 .left, c .before .before .if7 .left, le-ltb _ _ (c .if8 .left))
+
+pub number-for-spec : {M : Type 1} → statement M
+number-for-spec =
+    tie.close
+    (tie.spec
+    returns
+    not-allowed-requires
+    returns-2
+    above-offer-requires
+    returns-3
+    is-full-requires
+    returns-4
+    returns-5
+    returns-6
+    returns-7
+    returns-8
+    returns-9)

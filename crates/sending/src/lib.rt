@@ -1,0 +1,233 @@
+// Sending: which of an endpoint's own messages is allowed, what it writes, and what the endpoint becomes.
+ghost use mathlib.Core.Path.{_≡_};
+ghost use mathlib.Core.List.{[]};
+ghost use Rattle.control.specs.Frame.{bytesOf};
+ghost use Rattle.sending.specs.Calls.{OPEN, READY, DATA, NOOP, CLOSE, flagsFor, goodCode as Calls·goodCode, bundleWith, frameLength, plain};
+ghost use Rattle.sending.specs.Sending.{sendRow, isFull, numberFor, askedBy, sentIf, sentBy, Answered, SendAnswer};
+use control::MessageType;
+use endpoint::Endpoint;
+use endpoint::Entry;
+use open_write::Given;
+use table::Row;
+
+// What is to be tested of an own message.
+pub struct Outgoing {
+    pub message: MessageType,
+    pub type_data: u16,
+    // Whether it asks for a confirmation.
+    pub ask: bool,
+    // Whether 33, 34 or 35 refuses it.
+    pub large: bool,
+    pub misgiven: bool,
+    pub miscoded: bool,
+    // How many bytes its bundle has.
+    pub length: usize,
+}
+
+// What came of a send.
+pub struct Sent {
+    // 0, or the number of 01 that refuses it.
+    pub number: u8,
+    pub next: Endpoint,
+    // How many bytes of the output are the message.
+    pub written: usize,
+}
+
+fn send_row(e: Endpoint, o: Outgoing) -> Row
+    ensures { λ r. ⌜ r ≡ sendRow e o ⌝ }
+{
+    let message = o.message;
+    table::row_of(e.role, e.flow, e.phase, e.n, message, o.type_data)
+}
+
+// The first test that refuses, or 0.
+fn number_for(e: Endpoint, o: Outgoing, row: Row, room: usize) -> u8
+    ensures { λ r. ⌜ r ≡ numberFor e o row room ⌝ }
+{
+    if e.phase == 5 {
+        return 3;
+    }
+    if table::not_allowed(row) {
+        return 30;
+    }
+    if table::above_offer(row) {
+        return 31;
+    }
+    if is_full(e, o) {
+        return 32;
+    }
+    if o.large {
+        return 33;
+    }
+    if o.misgiven {
+        return 34;
+    }
+    if o.miscoded {
+        return 35;
+    }
+    if room < o.length {
+        return 2;
+    }
+    0
+}
+
+// An ask with sixteen confirmations awaited.
+fn is_full(e: Endpoint, o: Outgoing) -> bool
+    ensures { λ r. ⌜ r ≡ isFull e o ⌝ }
+{
+    o.ask & (16 <= e.w)
+}
+
+fn asked_by(e: Endpoint, o: Outgoing) -> Endpoint
+    ensures { λ r. ⌜ r ≡ askedBy e o ⌝ }
+{
+    let message = o.message;
+    let entry = Entry {
+        message: control::type_of(message),
+        type_data: o.type_data,
+    };
+    if o.ask {
+        return endpoint::asked(e, entry);
+    }
+    e
+}
+
+fn sent_if(number: u8, e: Endpoint, o: Outgoing, row: Row) -> Sent
+    ensures { λ r. ⌜ r ≡ sentIf number e o row ⌝ }
+{
+    if number == 0 {
+        return Sent {
+            number: 0,
+            next: asked_by(table::moved(e, row), o),
+            written: o.length,
+        };
+    }
+    Sent {
+        number: number,
+        next: e,
+        written: 0,
+    }
+}
+
+// What comes of an own message where the output has so much room. Nothing is written.
+fn decide(e: Endpoint, o: Outgoing, room: usize) -> Sent
+    ensures { λ r. ⌜ r ≡ sentBy e o room ⌝ }
+{
+    let row = send_row(e, o);
+    sent_if(number_for(e, o, row, room), e, o, row)
+}
+
+fn flags_for(ask: bool) -> u8
+    ensures { λ r. ⌜ r ≡ flagsFor ask ⌝ }
+{
+    if ask {
+        return 1;
+    }
+    0
+}
+
+fn control_frame(message: MessageType, ask: bool, type_data: u16) -> [u8; 8]
+    ensures { λ r. ⌜ r ≡ bytesOf message (flagsFor ask) «type_data» ⌝ }
+{
+    control::bytes_of(message, flags_for(ask), type_data)
+}
+
+// Sends a message without a data frame.
+fn send_plain(e: Endpoint, message: MessageType, type_data: u16, ask: bool, miscoded: bool, out: &mut [u8]) -> Sent
+    ensures { λ r. ⌜ Answered e (plain message «type_data» ask miscoded) (bundleWith message ask «type_data» []) (now (out .entry)) r (now (out .exit)) ⌝ }
+{
+    let o = Outgoing {
+        message: message,
+        type_data: type_data,
+        ask: ask,
+        large: false,
+        misgiven: false,
+        miscoded: miscoded,
+        length: 14,
+    };
+    let sent = decide(e, o, out.len());
+    if sent.number == 0 {
+        bundle::write_one(out, control_frame(message, ask, type_data));
+    }
+    sent
+}
+
+// Sends READY with this count.
+pub fn send_ready(e: Endpoint, count: u16, out: &mut [u8]) -> Sent
+    ensures { λ r. ⌜ SendAnswer e (READY count) (now (out .entry)) r (now (out .exit)) ⌝ }
+{
+    send_plain(e, MessageType::Ready, count, false, false, out)
+}
+
+// Sends NOOP, with an ask for confirmation or without.
+pub fn send_noop(e: Endpoint, type_data: u16, ask: bool, out: &mut [u8]) -> Sent
+    ensures { λ r. ⌜ SendAnswer e (NOOP «type_data» ask) (now (out .entry)) r (now (out .exit)) ⌝ }
+{
+    send_plain(e, MessageType::Noop, type_data, ask, false, out)
+}
+
+fn good_code(e: Endpoint, code: u16) -> bool
+    ensures { λ r. ⌜ r ≡ Calls·goodCode e code ⌝ }
+{
+    (code <= 6) | (((100 <= code) & (code <= 103)) & ((e.role == 2) & (e.phase == 1)))
+}
+
+// Sends CLOSE with this code.
+pub fn send_close(e: Endpoint, code: u16, out: &mut [u8]) -> Sent
+    ensures { λ r. ⌜ SendAnswer e (CLOSE code) (now (out .entry)) r (now (out .exit)) ⌝ }
+{
+    send_plain(e, MessageType::Close, code, false, !good_code(e, code), out)
+}
+
+// Sends DATA with this body, with an ask for confirmation or without. The body is copied once.
+pub fn send_data(e: Endpoint, type_data: u16, ask: bool, body: &[u8], out: &mut [u8]) -> Sent
+    ensures { λ r. ⌜ SendAnswer e (DATA «type_data» ask (now (body .entry))) (now (out .entry)) r (now (out .exit)) ⌝ }
+{
+    let o = Outgoing {
+        message: MessageType::Data,
+        type_data: type_data,
+        ask: ask,
+        large: (e.limit as usize) < 8 + body.len(),
+        misgiven: false,
+        miscoded: false,
+        length: 18 + body.len(),
+    };
+    let sent = decide(e, o, out.len());
+    if sent.number == 0 {
+        bundle::write_two(out, control_frame(MessageType::Data, ask, type_data), body);
+    }
+    sent
+}
+
+// How many bytes the frame of an OPEN has; 0 where 34 refuses it.
+fn frame_length(given: Given) -> usize
+    ensures { λ r. ⌜ r ≡ frameLength given ⌝ }
+{
+    match given {
+        Given::Good(length) => length,
+        Given::Bad => 0,
+    }
+}
+
+// Sends OPEN for this pipe name and this format.
+pub fn send_open(e: Endpoint, name: &[u8], format: &[u8], out: &mut [u8]) -> Sent
+    ensures { λ r. ⌜ SendAnswer e (OPEN (now (name .entry)) (now (format .entry))) (now (out .entry)) r (now (out .exit)) ⌝ }
+{
+    let given = open_write::given_of(e.flow, name, format, e.limit);
+    let frame = frame_length(given);
+    let o = Outgoing {
+        message: MessageType::Open,
+        type_data: 0,
+        ask: false,
+        large: false,
+        misgiven: open_write::given_number(given) != 0,
+        miscoded: false,
+        length: 18 + frame,
+    };
+    let sent = decide(e, o, out.len());
+    if sent.number == 0 {
+        bundle::write_head(out, control_frame(MessageType::Open, false, 0), frame as u32);
+        open_write::write(out, 18, e.flow, name, format, e.limit);
+    }
+    sent
+}
