@@ -102,9 +102,9 @@ unfolding sentBy numberFor isFull sendRow
 misgiven-any e o room size bad =
     let row : Row = rowOf (e .role) (e .flow) (e .phase) (e .n) (o .message) (o .«type_data») in
     let none : eqb (cond (eqb (e .phase) shut) 3 (cond (notAllowed row) 30 (cond (aboveOffer row) 31 (cond (o .ask && leb capacity (e .w)) 32 (cond (o .large) 33 34))))) 0 ≡ false =
-        refused-if (eqb (e .phase) shut) 3 _ (lit< tt)
-        (refused-if (notAllowed row) 30 _ (lit< tt)
-        (refused-if (aboveOffer row) 31 _ (lit< tt)
-        (refused-if (o .ask && leb capacity (e .w)) 32 _ (lit< tt)
-        (refused-if (o .large) 33 34 (lit< tt) refl)))) in
+    refused-if (eqb (e .phase) shut) 3 _ (lit< tt)
+    (refused-if (notAllowed row) 30 _ (lit< tt)
+    (refused-if (aboveOffer row) 31 _ (lit< tt)
+    (refused-if (o .ask && leb capacity (e .w)) 32 _ (lit< tt)
+    (refused-if (o .large) 33 34 (lit< tt) refl)))) in
     simp (bad, none)

@@ -133,7 +133,14 @@ fn control_frame(message: MessageType, ask: bool, type_data: u16) -> [u8; 8]
 }
 
 // Sends a message without a data frame.
-fn send_plain(e: Endpoint, message: MessageType, type_data: u16, ask: bool, miscoded: bool, out: &mut [u8]) -> Sent
+fn send_plain(
+    e: Endpoint,
+    message: MessageType,
+    type_data: u16,
+    ask: bool,
+    miscoded: bool,
+    out: &mut [u8],
+) -> Sent
     ensures { λ r. ⌜ Answered e (plain message «type_data» ask miscoded) (bundleWith message ask «type_data» []) (now (out .entry)) r (now (out .exit)) ⌝ }
 {
     let o = Outgoing {
@@ -226,7 +233,11 @@ pub fn send_open(e: Endpoint, name: &[u8], format: &[u8], out: &mut [u8]) -> Sen
     };
     let sent = decide(e, o, out.len());
     if sent.number == 0 {
-        bundle::write_head(out, control_frame(MessageType::Open, false, 0), frame as u32);
+        bundle::write_head(
+            out,
+            control_frame(MessageType::Open, false, 0),
+            frame as u32,
+        );
         open_write::write(out, 18, e.flow, name, format, e.limit);
     }
     sent

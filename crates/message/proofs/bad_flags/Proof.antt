@@ -1,3 +1,5 @@
+-- `message::bad_flags` meets its contract: each type has its own test.
+-- Assumes nothing.
 use borrow.Author.Needs.{needs}
 use Rattle.message.proofs.bad_flags.Statement.{statement}
 use Rattle.message.proofs.bad_flags.Tie as tie

@@ -1,3 +1,5 @@
+-- `message::bad_frames` meets its contract: each type has its own count.
+-- Assumes nothing.
 use borrow.Author.Needs.{needs}
 use borrow.Author.Tests.{ne-eqb}
 use Rattle.message.proofs.bad_frames.Statement.{statement}

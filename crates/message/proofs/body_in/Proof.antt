@@ -1,3 +1,5 @@
+-- `message::body_in` meets its contract: only a frame that is there has a place.
+-- Assumes nothing.
 use borrow.Author.Needs.{needs}
 use Rattle.message.proofs.body_in.Statement.{statement}
 use Rattle.message.proofs.body_in.Tie as tie

@@ -1,3 +1,5 @@
+-- `message::body_of` meets its contract: the second frame is asked for only where it is looked at.
+-- Assumes nothing.
 use mathlib.Core.Path.{sym}
 use borrow.Author.Needs.{needs}
 use Rattle.message.specs.Reading.{bodyOf}

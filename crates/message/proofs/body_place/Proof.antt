@@ -1,3 +1,5 @@
+-- `message::body_place` meets its contract: a body that is missing stands nowhere.
+-- Assumes nothing.
 use borrow.Author.Needs.{needs}
 use Rattle.message.proofs.body_place.Statement.{statement}
 use Rattle.message.proofs.body_place.Tie as tie

@@ -1,3 +1,5 @@
+-- `message::carries` meets its contract: each type has its own answer.
+-- Assumes nothing.
 use borrow.Author.Needs.{needs}
 use Rattle.message.proofs.carries.Statement.{statement}
 use Rattle.message.proofs.carries.Tie as tie

@@ -1,3 +1,5 @@
+-- `message::read` meets its contract: each answer is the case of `readingOf` whose stages were passed.
+-- Assumes nothing.
 use mathlib.Core.Path.{_∙_, _≡_, sym}
 use native.Mathlib.Nat.{add-sub-cancel-left}
 use native.Mathlib.Omega.{arith}

@@ -1,3 +1,5 @@
+-- `message::read_as` meets its contract: each answer is the case of `readAs` whose tests were passed.
+-- Assumes nothing.
 use mathlib.Core.Path.{_∙_, _≡_, ap, sym}
 use borrow.Author.Needs.{needs}
 use Rattle.message.specs.declared.Test.the-variants.{Passes}

@@ -1,3 +1,5 @@
+-- `message::strange_flags` meets its contract: the tests are those of the definition.
+-- Assumes nothing.
 use borrow.Author.Needs.{needs}
 use Rattle.message.specs.Reading.{strangeFlags}
 use Rattle.message.proofs.strange_flags.Statement.{statement}

@@ -1,3 +1,5 @@
+-- `receiving::accept` meets its contract: what is heard, the next record and the reply are those of the definition.
+-- Assumes nothing.
 use borrow.Author.Needs.{needs}
 use Rattle.receiving.specs.Hearing.{accepted}
 use Rattle.receiving.proofs.accept.Statement.{statement}

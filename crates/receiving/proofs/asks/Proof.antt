@@ -1,3 +1,5 @@
+-- `receiving::asks` meets its contract: each type has its own answer.
+-- Assumes nothing.
 use borrow.Author.Needs.{needs}
 use Rattle.receiving.proofs.asks.Statement.{statement}
 use Rattle.receiving.proofs.asks.Tie as tie

@@ -1,3 +1,5 @@
+-- `receiving::body_carried` meets its contract: a body that is missing carries nothing.
+-- Assumes nothing.
 use borrow.Author.Needs.{needs}
 use Rattle.receiving.proofs.body_carried.Statement.{statement}
 use Rattle.receiving.proofs.body_carried.Tie as tie

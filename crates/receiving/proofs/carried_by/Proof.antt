@@ -1,3 +1,5 @@
+-- `receiving::carried_by` meets its contract: only OPEN is read inside.
+-- Assumes nothing.
 use mathlib.Core.Path.{sym}
 use borrow.Author.Needs.{needs}
 use Rattle.receiving.specs.Hearing.{carriedBy}

@@ -1,3 +1,5 @@
+-- `receiving::close_code` meets its contract: each number has its own code.
+-- Assumes nothing.
 use borrow.Author.Needs.{needs}
 use borrow.Author.Tests.{ne-eqb}
 use Rattle.receiving.specs.Refusing.{closeCode}

@@ -1,3 +1,5 @@
+-- `receiving::confirmed_by` meets its contract: only a confirmation removes an entry.
+-- Assumes nothing.
 use mathlib.Core.Path.{sym}
 use borrow.Author.Needs.{needs}
 use Rattle.receiving.specs.Hearing.{confirmedBy}

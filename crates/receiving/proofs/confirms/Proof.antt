@@ -1,3 +1,5 @@
+-- `receiving::confirms` meets its contract: each type has its own answer.
+-- Assumes nothing.
 use borrow.Author.Needs.{needs}
 use Rattle.receiving.proofs.confirms.Statement.{statement}
 use Rattle.receiving.proofs.confirms.Tie as tie

@@ -1,3 +1,5 @@
+-- `receiving::hear` meets its contract: each answer is the case of `hearOf` that led there.
+-- Assumes nothing.
 use mathlib.Core.Path.{_∙_, subst, sym}
 use borrow.Author.Needs.{needs}
 use borrow.Author.Tests.{eq-eqb, ne-eqb}

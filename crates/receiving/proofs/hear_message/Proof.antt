@@ -1,3 +1,5 @@
+-- `receiving::hear_message` meets its contract: each answer is the case of `hearMessage` whose tests were passed.
+-- Assumes nothing.
 use mathlib.Core.Path.{_∙_, _≡_, ap, sym}
 use borrow.Author.Needs.{needs}
 use Rattle.message.specs.declared.Test.the-variants.{Passes}

@@ -1,3 +1,5 @@
+-- `receiving::hear_row` meets its contract: the row is that of the other role and flow.
+-- Assumes nothing.
 use mathlib.Core.Path.{sym}
 use borrow.Author.Needs.{needs}
 use Rattle.receiving.specs.Hearing.{hearRow}

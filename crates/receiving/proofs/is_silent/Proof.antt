@@ -1,3 +1,5 @@
+-- `receiving::is_silent` meets its contract: the tests are those of the definition.
+-- Assumes nothing.
 use borrow.Author.Needs.{needs}
 use Rattle.receiving.specs.Refusing.{silent}
 use Rattle.receiving.proofs.is_silent.Statement.{statement}

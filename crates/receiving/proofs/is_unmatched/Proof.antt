@@ -1,3 +1,5 @@
+-- `receiving::is_unmatched` meets its contract: the tests are those of the definition.
+-- Assumes nothing.
 use borrow.Author.Needs.{needs}
 use Rattle.receiving.specs.Hearing.{unmatched}
 use Rattle.receiving.proofs.is_unmatched.Statement.{statement}

@@ -1,3 +1,5 @@
+-- `receiving::limited_by` meets its contract: only OPEN sets the limit.
+-- Assumes nothing.
 use mathlib.Core.Path.{sym}
 use borrow.Author.Needs.{needs}
 use Rattle.receiving.proofs.limited_by.Statement.{statement}

@@ -1,3 +1,5 @@
+-- `receiving::matches_oldest` meets its contract: the tests are those of the definition.
+-- Assumes nothing.
 use borrow.Author.Needs.{needs}
 use Rattle.receiving.specs.Hearing.{matchesOldest}
 use Rattle.receiving.proofs.matches_oldest.Statement.{statement}

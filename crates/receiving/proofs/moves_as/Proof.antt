@@ -1,3 +1,5 @@
+-- `receiving::moves_as` meets its contract: a confirmation moves as NOOP.
+-- Assumes nothing.
 use mathlib.Core.Path.{sym}
 use borrow.Author.Needs.{needs}
 use Rattle.receiving.specs.Hearing.{movesAs}

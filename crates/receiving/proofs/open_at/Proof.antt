@@ -1,3 +1,5 @@
+-- `receiving::open_at` meets its contract: the frame is read at its place.
+-- Assumes nothing.
 use mathlib.Core.Path.{sym}
 use borrow.Author.Needs.{needs}
 use Rattle.receiving.specs.Hearing.{openAt}

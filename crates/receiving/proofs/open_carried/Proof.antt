@@ -1,3 +1,5 @@
+-- `receiving::open_carried` meets its contract: an OPEN that is refused carries its number.
+-- Assumes nothing.
 use borrow.Author.Needs.{needs}
 use Rattle.receiving.proofs.open_carried.Statement.{statement}
 use Rattle.receiving.proofs.open_carried.Tie as tie

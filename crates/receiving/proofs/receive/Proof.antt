@@ -1,3 +1,5 @@
+-- `receiving::receive` meets its contract: 2 is tested first, and then the reply of what was heard is written.
+-- Assumes nothing.
 use mathlib.Core.Path.{_∙_, ap, sym}
 use lib.ListN.{length}
 use borrow.Author.Needs.{needs}

@@ -1,3 +1,5 @@
+-- `receiving::refuse` meets its contract: the reply is left out where the refusal is silent.
+-- Assumes nothing.
 use mathlib.Core.Path.{sym}
 use borrow.Author.Needs.{needs}
 use Rattle.receiving.specs.Refusing.{refused}

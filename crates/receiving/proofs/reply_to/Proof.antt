@@ -1,3 +1,5 @@
+-- `receiving::reply_to` meets its contract: only an ask is replied to.
+-- Assumes nothing.
 use mathlib.Core.Path.{sym}
 use borrow.Author.Needs.{needs}
 use Rattle.receiving.specs.Hearing.{replyTo}

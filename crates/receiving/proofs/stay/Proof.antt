@@ -1,3 +1,5 @@
+-- `receiving::stay` meets its contract: nothing is changed.
+-- Assumes nothing.
 use mathlib.Core.Path.{refl}
 use Rattle.receiving.specs.Refusing.{unchanged}
 use Rattle.receiving.proofs.stay.Statement.{statement}

@@ -1,3 +1,5 @@
+-- `receiving::too_large` meets its contract: each type has its own test.
+-- Assumes nothing.
 use mathlib.Core.Path.{sym}
 use borrow.Author.Needs.{needs}
 use Rattle.receiving.specs.Hearing.{tooLarge}

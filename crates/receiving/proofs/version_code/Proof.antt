@@ -1,3 +1,5 @@
+-- `receiving::version_code` meets its contract: the test is that of the definition.
+-- Assumes nothing.
 use Rattle.receiving.specs.Refusing.{versionCode}
 use Rattle.receiving.proofs.version_code.Statement.{statement}
 use Rattle.receiving.proofs.version_code.Tie as tie

@@ -1,3 +1,5 @@
+-- `receiving::write_reply` meets its contract: a control frame is written as a bundle of one frame.
+-- Assumes nothing.
 use mathlib.Core.Path.{_∙_, _≡_, ap, sym}
 use Prim.Native.Nat.{ℕ}
 use mathlib.Core.List.{List, [], _∷_}

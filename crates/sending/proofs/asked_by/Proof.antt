@@ -1,3 +1,5 @@
+-- `sending::asked_by` meets its contract: only an ask adds an entry.
+-- Assumes nothing.
 use mathlib.Core.Path.{sym}
 use borrow.Author.Needs.{needs}
 use Rattle.sending.specs.Sending.{askedBy}

@@ -1,3 +1,5 @@
+-- `sending::control_frame` meets its contract: the flags are those of the ask.
+-- Assumes nothing.
 use mathlib.Core.Path.{sym}
 use borrow.Author.Needs.{needs}
 use Rattle.sending.proofs.control_frame.Statement.{statement}

@@ -1,3 +1,5 @@
+-- `sending::decide` meets its contract: the tests are made on the row of the message.
+-- Assumes nothing.
 use mathlib.Core.Path.{sym}
 use borrow.Author.Needs.{needs}
 use Rattle.sending.specs.Sending.{sentBy}

@@ -1,3 +1,5 @@
+-- `sending::good_code` meets its contract: the tests are those of the definition.
+-- Assumes nothing.
 use borrow.Author.Needs.{needs}
 use Rattle.sending.specs.Calls.{goodCode}
 use Rattle.sending.proofs.good_code.Statement.{statement}

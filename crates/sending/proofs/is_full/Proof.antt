@@ -1,3 +1,5 @@
+-- `sending::is_full` meets its contract: the tests are those of the definition.
+-- Assumes nothing.
 use borrow.Author.Needs.{needs}
 use Rattle.sending.specs.Sending.{isFull}
 use Rattle.sending.proofs.is_full.Statement.{statement}

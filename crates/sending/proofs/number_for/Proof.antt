@@ -1,3 +1,5 @@
+-- `sending::number_for` meets its contract: each number is that of the first test that was not passed.
+-- Assumes nothing.
 use mathlib.Core.Path.{_∙_, _≡_, sym}
 use mathlib.Core.Bool.{false}
 use lib.Dec.{eqb}

@@ -1,3 +1,5 @@
+-- `sending::send_close` meets its contract: the code is tested, and the message has no data frame.
+-- Assumes nothing.
 use borrow.Author.Needs.{needs}
 use Rattle.sending.proofs.send_close.Statement.{statement}
 use Rattle.sending.proofs.send_close.Tie as tie

@@ -1,3 +1,5 @@
+-- `sending::send_data` meets its contract: an accepted body is below 2^32 bytes, and so makes a bundle.
+-- Assumes nothing.
 use mathlib.Core.Path.{_∙_, _≡_, ap, sym}
 use Prim.Native.Nat.{_<_, ℕ, _+_}
 use mathlib.Core.List.{List, [], _∷_}

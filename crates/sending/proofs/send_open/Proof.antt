@@ -1,3 +1,5 @@
+-- `sending::send_open` meets its contract: an accepted name and format are good, and their frame stands behind the control frame.
+-- Assumes nothing.
 use mathlib.Core.Path.{_∙_, _≡_, ap, ap₂, sym}
 use Prim.Native.Nat.{_+_, _≤_, ℕ}
 use mathlib.Core.List.{List}

@@ -1,3 +1,5 @@
+-- `sending::send_plain` meets its contract: the bundle of a control frame alone is written where the send is accepted.
+-- Assumes nothing.
 use mathlib.Core.Path.{_∙_, _≡_, ap, sym}
 use Prim.Native.Nat.{ℕ}
 use mathlib.Core.List.{List, [], _∷_}

@@ -1,3 +1,5 @@
+-- `sending::send_row` meets its contract: the row is that of its own role and flow.
+-- Assumes nothing.
 use borrow.Author.Needs.{needs}
 use Rattle.sending.specs.Sending.{sendRow}
 use Rattle.sending.proofs.send_row.Statement.{statement}

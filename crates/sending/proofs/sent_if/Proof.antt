@@ -1,3 +1,5 @@
+-- `sending::sent_if` meets its contract: only the number 0 moves the endpoint.
+-- Assumes nothing.
 use mathlib.Core.Path.{sym}
 use borrow.Author.Needs.{needs}
 use borrow.Author.Tests.{eq-eqb, ne-eqb}

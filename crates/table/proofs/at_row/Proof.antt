@@ -1,3 +1,5 @@
+-- `table::at_row` meets its contract: only phase 5 closes.
+-- Assumes nothing.
 use borrow.Author.Needs.{needs}
 use borrow.Author.Tests.{eq-eqb, ne-eqb}
 use Rattle.table.specs.Table.{atRow}

@@ -1,3 +1,5 @@
+-- `table::begun` meets its contract: a count of 0 leads to idle.
+-- Assumes nothing.
 use borrow.Author.Tests.{eq-eqb, ne-eqb}
 use Rattle.table.specs.Table.{begun}
 use Rattle.table.proofs.begun.Statement.{statement}

@@ -1,3 +1,5 @@
+-- `table::close_row` meets its contract: the test is that of the definition.
+-- Assumes nothing.
 use borrow.Author.Needs.{needs}
 use Rattle.table.specs.Table.{closeRow}
 use Rattle.table.proofs.close_row.Statement.{statement}

@@ -1,3 +1,5 @@
+-- `table::data_row` meets its contract: the count less one is begun.
+-- Assumes nothing.
 use borrow.Author.Needs.{needs}
 use Rattle.table.specs.Table.{dataRow}
 use Rattle.table.proofs.data_row.Statement.{statement}

@@ -1,3 +1,5 @@
+-- `table::moved` meets its contract: only a row that leads somewhere moves the endpoint.
+-- Assumes nothing.
 use borrow.Author.Needs.{needs}
 use Rattle.table.proofs.moved.Statement.{statement}
 use Rattle.table.proofs.moved.Tie as tie

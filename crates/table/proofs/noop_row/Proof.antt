@@ -1,3 +1,5 @@
+-- `table::noop_row` meets its contract: the test is that of the definition.
+-- Assumes nothing.
 use borrow.Author.Needs.{needs}
 use Rattle.table.specs.Table.{noopRow}
 use Rattle.table.proofs.noop_row.Statement.{statement}

@@ -1,3 +1,5 @@
+-- `table::open_row` meets its contract: the test is that of the definition.
+-- Assumes nothing.
 use borrow.Author.Needs.{needs}
 use Rattle.table.specs.Table.{openRow}
 use Rattle.table.proofs.open_row.Statement.{statement}

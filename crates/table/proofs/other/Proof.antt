@@ -1,3 +1,5 @@
+-- `table::other` meets its contract: 1 is turned into 2 and all else into 1.
+-- Assumes nothing.
 use borrow.Author.Tests.{eq-eqb, ne-eqb}
 use Rattle.table.proofs.other.Statement.{statement}
 use Rattle.table.proofs.other.Tie as tie

@@ -1,3 +1,5 @@
+-- `table::ready_row` meets its contract: the role says which of the two rows is read.
+-- Assumes nothing.
 use mathlib.Core.Path.{sym}
 use borrow.Author.Needs.{needs}
 use borrow.Author.Tests.{eq-eqb, ne-eqb}

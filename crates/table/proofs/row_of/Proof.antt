@@ -1,3 +1,5 @@
+-- `table::row_of` meets its contract: each type has its own row.
+-- Assumes nothing.
 use borrow.Author.Needs.{needs}
 use Rattle.table.proofs.row_of.Statement.{statement}
 use Rattle.table.proofs.row_of.Tie as tie
