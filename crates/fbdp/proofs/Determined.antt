@@ -2,7 +2,9 @@
 use mathlib.Core.Path.{_≡_, sym, _∙_}
 use mathlib.Core.List.{List}
 use Prim.Native.Nat.{ℕ}
+use Rattle.sending.specs.Calls.{Call}
 use Rattle.fbdp.specs.Entries.{FrameAnswer, ValueAnswer, LookupAnswer}
+use Rattle.fbdp.specs.Blocks.{MakeAnswer, SendAnswer, ReceiveAnswer}
 
 pub frame-determined : {bundle : List ℕ} {index number number′ : ℕ} {slots slots′ : List ℕ} → FrameAnswer bundle index number slots →
     FrameAnswer bundle index number′ slots′ → (number ≡ number′) × (slots ≡ slots′)
@@ -15,3 +17,19 @@ value-determined one other = (one .numbered ∙ sym (other .numbered), one .told
 pub lookup-determined : {client defaults key : List ℕ} {number number′ : ℕ} {slots slots′ : List ℕ} → LookupAnswer client defaults key number slots →
     LookupAnswer client defaults key number′ slots′ → (number ≡ number′) × (slots ≡ slots′)
 lookup-determined one other = (one .numbered ∙ sym (other .numbered), one .told ∙ sym (other .told))
+
+pub make-determined : {role flow limit : ℕ} {before : List ℕ} {number number′ : ℕ} {after after′ : List ℕ} →
+    MakeAnswer role flow limit before number after → MakeAnswer role flow limit before number′ after′ → (number ≡ number′) × (after ≡ after′)
+make-determined one other = (one .numbered ∙ sym (other .numbered), one .kept ∙ sym (other .kept))
+
+pub send-determined : {call : Call} {block out : List ℕ} {number number′ count count′ : ℕ} {block₁ block₂ out₁ out₂ : List ℕ} →
+    SendAnswer call block out number count block₁ out₁ → SendAnswer call block out number′ count′ block₂ out₂ →
+    (number ≡ number′) × (count ≡ count′) × (block₁ ≡ block₂) × (out₁ ≡ out₂)
+send-determined one other =
+    (one .numbered ∙ sym (other .numbered), one .counted ∙ sym (other .counted), one .kept ∙ sym (other .kept), one .left ∙ sym (other .left))
+
+pub receive-determined : {s name format block out : List ℕ} {number number′ : ℕ} {slots slots′ block₁ block₂ out₁ out₂ : List ℕ} →
+    ReceiveAnswer s name format block out number slots block₁ out₁ → ReceiveAnswer s name format block out number′ slots′ block₂ out₂ →
+    (number ≡ number′) × (slots ≡ slots′) × (block₁ ≡ block₂) × (out₁ ≡ out₂)
+receive-determined one other =
+    (one .numbered ∙ sym (other .numbered), one .told ∙ sym (other .told), one .kept ∙ sym (other .kept), one .left ∙ sym (other .left))

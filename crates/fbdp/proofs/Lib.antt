@@ -1,2 +1,3 @@
--- `Determined` has for each entry that any two results which meet its contract coincide.
+-- `Determined` has for each entry that any two results which meet its contract coincide; `OnBlocks` leads from a record to its block.
 pub mod Determined
+pub mod OnBlocks

@@ -1,2 +1,3 @@
--- What each entry of the C interface answers and leaves.
+-- What the entries of the C interface answer and leave.
 pub mod Entries
+pub mod Blocks

@@ -1,7 +1,17 @@
 // The C interface: numbers and byte slices in, a number out.
 ghost use mathlib.Core.Path.{_≡_};
+ghost use Rattle.endpoint.specs.Record.{client, server};
+ghost use Rattle.double.specs.Limit.{mostLimit};
+ghost use Rattle.sending.specs.Calls.{OPEN, READY, DATA, NOOP, CLOSE};
+ghost use Rattle.fbdp.specs.Blocks.{MakeAnswer, Finished, asksFor, SendAnswer, answerNumber, replyLength, contentSlots, heardSlots, answerSlots, ReceiveAnswer};
 ghost use Rattle.fbdp.specs.Entries.{frameSlots, FrameAnswer, valueSlots, ValueAnswer, termSlots, LookupAnswer};
 use bundle::Frame;
+use endpoint::Given;
+use receiving::Answer;
+use receiving::Content;
+use receiving::Heard;
+use receiving::Reply;
+use sending::Sent;
 use terms::Term;
 use terms::Value;
 
@@ -90,4 +100,261 @@ pub extern "C" fn fbdp_lookup(
     let term = terms::term_of(client, defaults, key);
     *slots = term_slots(term);
     terms::term_number(term) as u32
+}
+
+// Makes a fresh endpoint of this role in a block of 64 bytes.
+fn make(block: &mut [u8], role: u8, flow: u8, limit: u32) -> u32
+    ensures { λ r. ⌜ MakeAnswer role flow limit (now (block .entry)) r (now (block .exit)) ⌝ }
+{
+    if block.len() != 64 {
+        return 1;
+    }
+    let Given::Good = endpoint::given_of(flow, limit) else {
+        return 34;
+    };
+    endpoint::store(endpoint::fresh(role, flow, limit), block);
+    0
+}
+
+// Makes a fresh client of this flow and limit.
+#[no_mangle]
+pub extern "C" fn fbdp_make_client(block: &mut [u8], flow: u8, limit: u32) -> u32
+    ensures { λ r. ⌜ MakeAnswer client flow limit (now (block .entry)) r (now (block .exit)) ⌝ }
+{
+    make(block, 1, flow, limit)
+}
+
+// Makes a fresh server of this flow.
+#[no_mangle]
+pub extern "C" fn fbdp_make_server(block: &mut [u8], flow: u8) -> u32
+    ensures { λ r. ⌜ MakeAnswer server flow mostLimit (now (block .entry)) r (now (block .exit)) ⌝ }
+{
+    make(block, 2, flow, 50000000)
+}
+
+// Stores what came of a send on a good block.
+fn finish(sent: Sent, block: &mut [u8], written: &mut u64) -> u32
+    ensures { λ r. ⌜ Finished sent (now (block .entry)) r (now (written .exit)) (now (block .exit)) ⌝ }
+{
+    let next = sent.next;
+    endpoint::store(next, block);
+    *written = sent.written as u64;
+    sent.number as u32
+}
+
+// Any ask but 0 is one.
+fn asks_for(ask: u8) -> bool
+    ensures { λ r. ⌜ r ≡ asksFor ask ⌝ }
+{
+    ask != 0
+}
+
+// Sends OPEN for this pipe name and this format.
+#[no_mangle]
+pub extern "C" fn fbdp_send_open(
+    block: &mut [u8],
+    name: &[u8],
+    format: &[u8],
+    out: &mut [u8],
+    written: &mut u64,
+) -> u32
+    ensures { λ r. ⌜ SendAnswer (OPEN (now (name .entry)) (now (format .entry))) (now (block .entry)) (now (out .entry)) r (now (written .exit)) (now (block .exit)) (now (out .exit)) ⌝ }
+{
+    let loaded = endpoint::load(block);
+    if !loaded.good {
+        *written = 0;
+        return 1;
+    }
+    let e = loaded.endpoint;
+    finish(sending::send_open(e, name, format, out), block, written)
+}
+
+// Sends READY with this count.
+#[no_mangle]
+pub extern "C" fn fbdp_send_ready(
+    block: &mut [u8],
+    count: u16,
+    out: &mut [u8],
+    written: &mut u64,
+) -> u32
+    ensures { λ r. ⌜ SendAnswer (READY count) (now (block .entry)) (now (out .entry)) r (now (written .exit)) (now (block .exit)) (now (out .exit)) ⌝ }
+{
+    let loaded = endpoint::load(block);
+    if !loaded.good {
+        *written = 0;
+        return 1;
+    }
+    let e = loaded.endpoint;
+    finish(sending::send_ready(e, count, out), block, written)
+}
+
+// Sends DATA with this body.
+#[no_mangle]
+pub extern "C" fn fbdp_send_data(
+    block: &mut [u8],
+    type_data: u16,
+    ask: u8,
+    body: &[u8],
+    out: &mut [u8],
+    written: &mut u64,
+) -> u32
+    ensures { λ r. ⌜ SendAnswer (DATA «type_data» (asksFor ask) (now (body .entry))) (now (block .entry)) (now (out .entry)) r (now (written .exit)) (now (block .exit)) (now (out .exit)) ⌝ }
+{
+    let loaded = endpoint::load(block);
+    if !loaded.good {
+        *written = 0;
+        return 1;
+    }
+    let e = loaded.endpoint;
+    let asked = asks_for(ask);
+    finish(
+        sending::send_data(e, type_data, asked, body, out),
+        block,
+        written,
+    )
+}
+
+// Sends NOOP.
+#[no_mangle]
+pub extern "C" fn fbdp_send_noop(
+    block: &mut [u8],
+    type_data: u16,
+    ask: u8,
+    out: &mut [u8],
+    written: &mut u64,
+) -> u32
+    ensures { λ r. ⌜ SendAnswer (NOOP «type_data» (asksFor ask)) (now (block .entry)) (now (out .entry)) r (now (written .exit)) (now (block .exit)) (now (out .exit)) ⌝ }
+{
+    let loaded = endpoint::load(block);
+    if !loaded.good {
+        *written = 0;
+        return 1;
+    }
+    let e = loaded.endpoint;
+    let asked = asks_for(ask);
+    finish(sending::send_noop(e, type_data, asked, out), block, written)
+}
+
+// Sends CLOSE with this code.
+#[no_mangle]
+pub extern "C" fn fbdp_send_close(
+    block: &mut [u8],
+    code: u16,
+    out: &mut [u8],
+    written: &mut u64,
+) -> u32
+    ensures { λ r. ⌜ SendAnswer (CLOSE code) (now (block .entry)) (now (out .entry)) r (now (written .exit)) (now (block .exit)) (now (out .exit)) ⌝ }
+{
+    let loaded = endpoint::load(block);
+    if !loaded.good {
+        *written = 0;
+        return 1;
+    }
+    let e = loaded.endpoint;
+    finish(sending::send_close(e, code, out), block, written)
+}
+
+fn answer_number(answer: Answer) -> u8
+    ensures { λ r. ⌜ r ≡ answerNumber answer ⌝ }
+{
+    match answer {
+        Answer::Heard(_) => 0,
+        Answer::Refused(number) => number,
+    }
+}
+
+fn reply_length(reply: Reply) -> u64
+    ensures { λ r. ⌜ r ≡ replyLength reply ⌝ }
+{
+    match reply {
+        Reply::Nothing => 0,
+        Reply::Frame {
+            message: _,
+            flags: _,
+            type_data: _,
+        } => 14,
+    }
+}
+
+// Socket, and the places of name, format, parameters and body.
+fn content_slots(content: Content) -> [u64; 9]
+    ensures { λ r. ⌜ r ≡ contentSlots content ⌝ }
+{
+    match content {
+        Content::Nothing => [0, 0, 0, 0, 0, 0, 0, 0, 0],
+        Content::Opening(opening) => [
+            opening.socket,
+            opening.name.at as u64,
+            opening.name.length as u64,
+            opening.format.at as u64,
+            opening.format.length as u64,
+            opening.parameters.at as u64,
+            opening.parameters.length as u64,
+            0,
+            0,
+        ],
+        Content::Body(place) => [0, 0, 0, 0, 0, 0, 0, place.at as u64, place.length as u64],
+    }
+}
+
+fn heard_slots(heard: Heard, reply: u64) -> [u64; 16]
+    ensures { λ r. ⌜ r ≡ heardSlots heard reply ⌝ }
+{
+    let message = heard.message;
+    let content = heard.content;
+    let said = content_slots(content);
+    [
+        control::type_of(message) as u64,
+        heard.flags as u64,
+        heard.type_data as u64,
+        reply,
+        heard.frames as u64,
+        said[0],
+        said[1],
+        said[2],
+        said[3],
+        said[4],
+        said[5],
+        said[6],
+        said[7],
+        said[8],
+        0,
+        0,
+    ]
+}
+
+fn answer_slots(answer: Answer, reply: u64) -> [u64; 16]
+    ensures { λ r. ⌜ r ≡ answerSlots answer reply ⌝ }
+{
+    match answer {
+        Answer::Heard(heard) => heard_slots(heard, reply),
+        Answer::Refused(_) => [0, 0, 0, reply, 0, 0, 0, 0, 0, 0, 0, 0, 0, 0, 0, 0],
+    }
+}
+
+// Receives a message.
+#[no_mangle]
+pub extern "C" fn fbdp_receive(
+    block: &mut [u8],
+    message: &[u8],
+    name: &[u8],
+    format: &[u8],
+    out: &mut [u8],
+    heard: &mut [u64; 16],
+) -> u32
+    ensures { λ r. ⌜ ReceiveAnswer (now (message .entry)) (now (name .entry)) (now (format .entry)) (now (block .entry)) (now (out .entry)) r (now (heard .exit)) (now (block .exit)) (now (out .exit)) ⌝ }
+{
+    let loaded = endpoint::load(block);
+    if !loaded.good {
+        *heard = [0, 0, 0, 0, 0, 0, 0, 0, 0, 0, 0, 0, 0, 0, 0, 0];
+        return 1;
+    }
+    let e = loaded.endpoint;
+    let received = receiving::receive(e, message, name, format, out);
+    let next = received.next;
+    let answer = received.answer;
+    let reply = received.reply;
+    endpoint::store(next, block);
+    *heard = answer_slots(answer, reply_length(reply));
+    answer_number(answer) as u32
 }

@@ -41,12 +41,16 @@ numberFor e o row room =
 unfoldable pub askedBy : Endpoint → Outgoing → Endpoint
 askedBy e o = cond (o .ask) (asked e (record { message = typeOf (o .message); «type_data» = o .«type_data» })) e
 
--- the number, the endpoint "After it", and how many bytes are written; a refusal changes nothing
+-- a refusal changes nothing
+abbrev pub unsent : Endpoint → ℕ → Sent
+unsent e number = record { number = number; next = e; written = 0 }
+
+-- the number, the endpoint "After it", and how many bytes are written
 abbrev pub sentIf : ℕ → Endpoint → Outgoing → Row → Sent
 sentIf number e o row =
     cond (eqb number 0)
     (record { number = 0; next = askedBy (moved e row) o; written = o .length })
-    (record { number = number; next = e; written = 0 })
+    (unsent e number)
 
 unfoldable pub sentBy : Endpoint → Outgoing → ℕ → Sent
 sentBy e o room = sentIf (numberFor e o (sendRow e o) room) e o (sendRow e o)

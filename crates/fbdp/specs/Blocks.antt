@@ -1,0 +1,111 @@
+-- What each entry on a state block answers and leaves: making, the five sends and receive, each with an equation for the number, for every
+-- output of numbers, for the block and for the output. "1 block not 64 bytes, or not good" comes first.
+use Prim.Native.Nat.{ℕ}
+use mathlib.Core.Path.{_≡_}
+use mathlib.Core.List.{List, [], _∷_, _++_}
+use mathlib.Core.Bool.{Bool, cond, not}
+use lib.ListN.{length}
+use lib.Dec.{eqb}
+use Rattle.bytes_be.specs.Part.{putAt}
+use Rattle.control.specs.Frame.{typeOf}
+use Rattle.endpoint.specs.declared.Endpoint.{Endpoint}
+use Rattle.endpoint.specs.Record.{givenOf, givenNumber, freshOf}
+use Rattle.endpoint.specs.Block.{bytesOf, recordIn, isGood}
+use Rattle.receiving.specs.declared.Content.{Content}
+use Rattle.receiving.specs.declared.Content.the-variants.{Nothing, Opening, Body}
+use Rattle.receiving.specs.declared.Heard.{Heard}
+use Rattle.receiving.specs.declared.Answer.{Answer}
+use Rattle.receiving.specs.declared.Answer.the-variants.{Heard as Answer·Heard, Refused}
+use Rattle.receiving.specs.declared.Reply.{Reply}
+use Rattle.receiving.specs.declared.Reply.the-variants.{Nothing as Reply·Nothing, Frame}
+use Rattle.receiving.specs.declared.Received.{Received}
+use Rattle.receiving.specs.Refusing.{unchanged}
+use Rattle.receiving.specs.Receiving.{replied, receivedOf}
+use Rattle.sending.specs.declared.Sent.{Sent}
+use Rattle.sending.specs.Calls.{Call, written}
+use Rattle.sending.specs.Sending.{unsent, sendOf, leftBy}
+
+-- the block with the 64 bytes of a record
+unfoldable pub stored : Endpoint → List ℕ → List ℕ
+stored e block = putAt block 0 (bytesOf e)
+
+-- "Making tests 1 (length only), 34."
+unfoldable pub makeNumber : ℕ → ℕ → List ℕ → ℕ
+makeNumber flow limit block = cond (eqb (length block) 64) (givenNumber (givenOf flow limit)) 1
+
+-- `fbdp_make_client` and `fbdp_make_server`
+pub record MakeAnswer (role flow limit : ℕ) (before : List ℕ) (number : ℕ) (after : List ℕ) : Type 0 where
+  pub numbered : number ≡ makeNumber flow limit before
+  pub kept : after ≡ cond (eqb (makeNumber flow limit before) 0) (stored (freshOf role flow limit) before) before
+
+-- what comes of a call on a block
+unfoldable pub sentOn : List ℕ → Call → ℕ → Sent
+sentOn block call room = cond (isGood block) (sendOf (recordIn block) call room) (unsent (recordIn block) 1)
+
+-- what a send leaves on a block that is good
+pub record Finished (sent : Sent) (before : List ℕ) (number count : ℕ) (after : List ℕ) : Type 0 where
+  pub numbered : number ≡ sent .number
+  pub counted : count ≡ sent .written
+  pub kept : after ≡ stored (sent .next) before
+
+-- an ask: 0 is none, and any other number one
+abbrev pub asksFor : ℕ → Bool
+asksFor ask = not (eqb ask 0)
+
+-- `fbdp_send_open`, `fbdp_send_ready`, `fbdp_send_data`, `fbdp_send_noop` and `fbdp_send_close`
+pub record SendAnswer (call : Call) (block out : List ℕ) (number count : ℕ) (block′ out′ : List ℕ) : Type 0 where
+  pub numbered : number ≡ sentOn block call (length out) .number
+  pub counted : count ≡ sentOn block call (length out) .written
+  pub kept : block′ ≡ cond (isGood block) (stored (sentOn block call (length out) .next) block) block
+  pub left : out′ ≡ leftBy (sentOn block call (length out)) (written (recordIn block) call) out
+
+-- what comes of a message on a block
+unfoldable pub receivedOn : List ℕ → List ℕ → List ℕ → List ℕ → ℕ → Received
+receivedOn block s name format room =
+    cond (isGood block) (receivedOf (recordIn block) s name format room) (unchanged (recordIn block) 1)
+
+abbrev pub answerNumber : Answer → ℕ
+answerNumber (Answer·Heard heard) = 0
+answerNumber (Refused number) = number
+
+-- "A reply is one bundle of 14 bytes"
+abbrev pub replyLength : Reply → ℕ
+replyLength Reply·Nothing = 0
+replyLength (Frame message flags type-data) = 14
+
+-- socket; the places of name, format and parameters; the place of the body
+abbrev pub contentSlots : Content → List ℕ
+contentSlots Nothing = 0 ∷ 0 ∷ 0 ∷ 0 ∷ 0 ∷ 0 ∷ 0 ∷ 0 ∷ 0 ∷ []
+contentSlots (Opening opening) =
+    opening .socket
+    ∷ opening .name .at
+    ∷ opening .name .length
+    ∷ opening .format .at
+    ∷ opening .format .length
+    ∷ opening .parameters .at
+    ∷ opening .parameters .length
+    ∷ 0
+    ∷ 0
+    ∷ []
+contentSlots (Body place) = 0 ∷ 0 ∷ 0 ∷ 0 ∷ 0 ∷ 0 ∷ 0 ∷ place .at ∷ place .length ∷ []
+
+-- type, flags, type-data, reply length, data frames, what it carries, and two spare
+unfoldable pub heardSlots : Heard → ℕ → List ℕ
+heardSlots heard reply =
+    (typeOf (heard .message) ∷ heard .flags ∷ heard .«type_data» ∷ reply ∷ heard .frames ∷ [])
+    ++ contentSlots (heard .content)
+    ++ (0 ∷ 0 ∷ [])
+
+-- a refusal says nothing but how long its reply is
+abbrev pub answerSlots : Answer → ℕ → List ℕ
+answerSlots (Answer·Heard heard) reply = heardSlots heard reply
+answerSlots (Refused number) reply = 0 ∷ 0 ∷ 0 ∷ reply ∷ 0 ∷ 0 ∷ 0 ∷ 0 ∷ 0 ∷ 0 ∷ 0 ∷ 0 ∷ 0 ∷ 0 ∷ 0 ∷ 0 ∷ []
+
+-- `fbdp_receive`
+pub record ReceiveAnswer (s name format block out : List ℕ) (number : ℕ) (slots block′ out′ : List ℕ) : Type 0 where
+  pub numbered : number ≡ answerNumber (receivedOn block s name format (length out) .answer)
+  pub told :
+      slots
+      ≡ answerSlots (receivedOn block s name format (length out) .answer) (replyLength (receivedOn block s name format (length out) .reply))
+  pub kept : block′ ≡ cond (isGood block) (stored (receivedOn block s name format (length out) .next) block) block
+  pub left : out′ ≡ replied (receivedOn block s name format (length out) .reply) out
