@@ -28,7 +28,7 @@ pub fn put_request(request: &mut Vec<u8>, call: &dyn Call, pattern: u64) {
     for (_, argument) in call.arguments() {
         match argument {
             Argument::Number(number) => request.extend(number.to_le_bytes()),
-            Argument::Input(bytes) => {
+            Argument::Input(bytes) | Argument::InPlace(bytes) => {
                 request.extend((bytes.len() as u32).to_le_bytes());
                 request.extend(bytes);
             }
@@ -63,7 +63,7 @@ fn before(argument: &Argument, pattern: u64) -> Option<Vec<u8>> {
         Argument::Room(length) | Argument::FixedRoom(length) => {
             Some(area(pattern, *length)[GUARD..GUARD + length].to_vec())
         }
-        Argument::Number(_) | Argument::Input(_) | Argument::Numbers(_) => None,
+        Argument::Number(_) | Argument::Input(_) | Argument::InPlace(_) | Argument::Numbers(_) => None,
     }
 }
 
@@ -93,6 +93,7 @@ pub fn parts(call: &dyn Call) -> Vec<Part> {
     for (name, argument) in call.arguments() {
         let (kind, length) = match argument {
             Argument::Number(_) | Argument::Input(_) => continue,
+            Argument::InPlace(bytes) => (Kind::Bytes, bytes.len()),
             Argument::Room(length) | Argument::FixedRoom(length) => (Kind::Bytes, length),
             Argument::Numbers(count) => (Kind::Numbers, 8 * count),
         };
