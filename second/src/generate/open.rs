@@ -59,7 +59,7 @@ fn skipped_payload(random: &mut Random) -> Payload {
 }
 
 /// A text of 1 to 255 bytes, mostly short.
-fn short_text(random: &mut Random) -> Vec<u8> {
+pub fn short_text(random: &mut Random) -> Vec<u8> {
     let length = match random.between(0, 9) {
         0 => random.choose(&[1, 127, 128, 254, 255]),
         1 => random.between(1, 255),
@@ -124,7 +124,7 @@ fn said(random: &mut Random, opening: &Opening) -> Said {
 }
 
 /// A frame that meets an offer.
-fn met(random: &mut Random) -> (Said, Offer) {
+pub fn met(random: &mut Random) -> (Said, Offer) {
     let opening = opening(random);
     (said(random, &opening), offer(random, &opening))
 }
