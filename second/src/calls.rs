@@ -112,8 +112,8 @@ pub enum Written {
     Numbers(Vec<u64>),
 }
 
-/// The whole answer to a call: the number returned, and each slice that may be written and array of numbers in the order
-/// of the arguments.
+/// The whole answer to a call: the number returned, and each slice that may be written and array of numbers, in the
+/// order of the arguments.
 pub struct Answer {
     pub returned: u64,
     pub written: Vec<Written>,

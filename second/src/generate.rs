@@ -90,6 +90,7 @@ pub const EXHAUSTIVE: &[Set] = &[
     Set { kind: "every room for sends and replies", make: endpoint::every::rooms },
     Set { kind: "every name and format to open", make: endpoint::sends::every_opening },
     Set { kind: "sizes around the limit", make: endpoint::sizes::around_the_limit },
+    Set { kind: "messages that are too large and more", make: endpoint::sizes::with_other_causes },
     Set { kind: "sizes of some megabytes", make: endpoint::sizes::of_some_megabytes },
     Set { kind: "sizes around the largest limit", make: endpoint::sizes::around_the_largest },
     Set { kind: "OPEN frames around the longest", make: endpoint::sizes::long_opens },

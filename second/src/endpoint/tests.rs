@@ -81,50 +81,43 @@ fn good_blocks_are_read_as_they_were_written() {
     }
 }
 
-/// Each with one byte or two of a good block changed.
+/// Each with one byte of a good block changed.
 #[test]
 fn blocks_that_break_a_rule_are_bad() {
-    let batch = state(Client, Producer, Batch).block();
-    let idle = state(Client, Consumer, Idle).block();
-    let fresh = state(Server, Consumer, Fresh).block();
-    let bad: &[(&[u8], &[(usize, u8)])] = &[
-        (&batch, &[(0, 0)]),
-        (&batch, &[(0, 3)]),
-        (&batch, &[(1, 0)]),
-        (&batch, &[(1, 3)]),
-        (&batch, &[(2, 6)]),
-        (&batch, &[(2, 2)]),
-        (&batch, &[(3, 0)]),
-        (&batch, &[(3, 2)]),
-        (&batch, &[(3, 17)]),
-        (&batch, &[(5, 0)]),
-        (&batch, &[(6, 1)]),
-        (&batch, &[(7, 1)]),
-        (&batch, &[(12, 1)]),
-        (&batch, &[(15, 1)]),
-        (&batch, &[(8, 3)]),
-        (&batch, &[(9, 0)]),
-        (&batch, &[(16, 5)]),
-        (&batch, &[(16, 0)]),
-        (&batch, &[(19, 3)]),
-        (&batch, &[(20, 1)]),
-        (&batch, &[(63, 1)]),
-        (&idle, &[(16, 4)]),
-        (&idle, &[(4, 1)]),
-        (&idle, &[(2, 3)]),
-        (&idle, &[(2, 1)]),
-        (&idle, &[(2, 5)]),
-        (&fresh, &[(3, 1), (16, 3)]),
-        (&fresh, &[(5, 1)]),
-    ];
-    for (good, changes) in bad {
-        let mut block = good.to_vec();
-        changes.iter().for_each(|(place, value)| block[*place] = *value);
-        assert_eq!(State::read(&block), None, "{changes:?}");
+    let batch =
+        [(0, 0), (0, 3), (1, 0), (1, 3), (2, 6), (2, 2), (3, 0), (3, 2), (3, 17), (5, 0), (6, 1), (7, 1), (8, 3)];
+    let rest = [(9, 0), (12, 1), (13, 1), (14, 1), (15, 1), (16, 5), (16, 0), (19, 3), (20, 1), (21, 1), (63, 1)];
+    let idle = [(16, 4), (4, 1), (5, 1), (2, 0), (2, 1), (2, 3), (2, 5)];
+    let fresh = [(3, 1), (4, 1), (5, 1), (2, 3), (2, 4), (16, 3)];
+    for (good, changes) in [
+        (state(Client, Producer, Batch), &batch[..]),
+        (state(Client, Producer, Batch), &rest),
+        (state(Client, Consumer, Idle), &idle),
+        (state(Server, Consumer, Fresh), &fresh),
+    ] {
+        for (place, value) in changes {
+            let mut block = good.block();
+            block[*place] = *value;
+            assert_eq!(State::read(&block), None, "byte {place} is {value}");
+        }
     }
+}
+
+#[test]
+fn blocks_of_another_length_are_bad() {
     for length in [0, 63, 65, 128] {
-        let mut block = batch.clone();
+        let mut block = state(Client, Producer, Batch).block();
         block.resize(length, 0);
+        assert_eq!(State::read(&block), None);
+    }
+}
+
+/// A good entry in each phase that has none.
+#[test]
+fn nothing_is_awaited_in_phases_0_1_and_5() {
+    for phase in [Fresh, Opened, Closed] {
+        let mut block = state(Client, Consumer, phase).block();
+        (block[3], block[16]) = (1, NOOP);
         assert_eq!(State::read(&block), None);
     }
 }
@@ -384,52 +377,69 @@ fn asks_of_other_messages_are_ignored() {
     assert_eq!((received.number, received.heard[..5].to_vec()), (0, vec![1, 1, 0, 0, 1]));
 }
 
-/// A message with each number, and the code of the CLOSE that replies to it.
+/// A message to an endpoint, its number, and the code of the CLOSE that replies to it.
+type Refusal = (State, Vec<u8>, u64, u16);
+
+fn control_refusals() -> Vec<Refusal> {
+    let (fresh, offer) = (state(Server, Consumer, Fresh), state(Server, Consumer, Offer));
+    let strange = |control_byte: u8| of_frames(&[&[b'F', b'B', b'D', b'P', control_byte, 0, 0, 0]]);
+    vec![
+        (fresh.clone(), vec![0, 0], 10, 1),
+        (fresh.clone(), of_frames(&[b"FBDP"]), 11, 1),
+        (fresh.clone(), of_frames(&[b"FBDQ\x09\0\0\0"]), 11, 1),
+        (fresh.clone(), strange(8), 12, 101),
+        (fresh.clone(), strange(8 * 2), 12, 1),
+        (fresh.clone(), strange(8 * 5 + 2), 12, 1),
+        (offer, strange(8), 12, 1),
+        (state(Client, Producer, Idle), strange(8), 12, 1),
+        (fresh.clone(), strange(1), 13, 1),
+        (fresh, strange(8 * 31 + 1), 13, 1),
+    ]
+}
+
+fn flow_refusals() -> Vec<Refusal> {
+    let (offer, batch) = (state(Server, Consumer, Offer), state(Client, Consumer, Batch));
+    vec![
+        (batch.clone(), message(NOOP, 4, 0, &[]), 14, 1),
+        (batch.clone(), message(NOOP, 3, 0, &[]), 14, 1),
+        (offer.clone(), message(READY, 2, 0, &[]), 14, 1),
+        (offer.clone(), message(READY, 0, 0, &[b""]), 15, 1),
+        (batch.clone(), message(NOOP, 0, 0, &[b""]), 15, 1),
+        (batch.clone(), message(NOOP, 2, 0x0102, &[b""]), 15, 1),
+        (batch.clone(), message(DATA, 0, 0, &[]), 15, 1),
+        (batch.clone(), message(DATA, 0, 0, &[b"", b""]), 15, 1),
+        (batch.clone(), message(DATA, 0, 0, &[&[0; 1_999_993]]), 16, 2),
+        (offer.clone(), message(DATA, 0, 0, &[b""]), 17, 2),
+        (offer, message(READY, 0, 5, &[]), 23, 2),
+        (batch.clone(), message(NOOP, 2, 0x0201, &[]), 24, 2),
+        (batch, message(DATA, 2, 0x0102, &[]), 24, 2),
+    ]
+}
+
+fn open_refusals() -> Vec<Refusal> {
+    let (fresh, idle) = (state(Server, Consumer, Fresh), state(Client, Producer, Idle));
+    let frame = |fields: &[u8]| message(OPEN, 0, 0, &[fields]);
+    vec![
+        (fresh.clone(), message(OPEN, 2, 0, &[]), 14, 1),
+        (fresh.clone(), message(OPEN, 0, 0, &[]), 15, 1),
+        (fresh.clone(), frame(&[0; 4097]), 16, 2),
+        (idle.clone(), frame(&[0; 4097]), 16, 2),
+        (idle, frame(b""), 17, 2),
+        (fresh.clone(), message(NOOP, 0, 0, &[]), 17, 2),
+        (fresh.clone(), frame(b"\x00"), 18, 1),
+        (fresh.clone(), frame(b"\x10\x01"), 19, 2),
+        (fresh.clone(), frame(b"\x0A\x04pipe\x10\x03"), 20, 102),
+        (fresh.clone(), frame(b"\x0A\x04pipe\x10\x02"), 21, 100),
+        (fresh.clone(), frame(b"\x0A\x04pips\x10\x01"), 21, 100),
+        (fresh, opening(Consumer, b"pipe", b"other"), 22, 103),
+    ]
+}
+
 #[test]
 fn each_refusal_has_its_code() {
-    let fresh = state(Server, Consumer, Fresh);
-    let (offer, batch, idle) =
-        (state(Server, Consumer, Offer), state(Client, Consumer, Batch), state(Client, Producer, Idle));
-    let frame = |fields: &[u8]| message(OPEN, 0, 0, &[fields]);
-    let strange = |control_byte: u8| of_frames(&[&[b'F', b'B', b'D', b'P', control_byte, 0, 0, 0]]);
-    for (to, message, number, code) in [
-        (&fresh, vec![0, 0], 10, 1),
-        (&fresh, of_frames(&[b"FBDP"]), 11, 1),
-        (&fresh, of_frames(&[b"FBDQ\x09\0\0\0"]), 11, 1),
-        (&fresh, strange(8), 12, 101),
-        (&fresh, strange(8 * 2), 12, 1),
-        (&fresh, strange(8 * 5 + 2), 12, 1),
-        (&offer, strange(8), 12, 1),
-        (&idle, strange(8), 12, 1),
-        (&fresh, strange(1), 13, 1),
-        (&fresh, strange(8 * 31 + 1), 13, 1),
-        (&batch, message(NOOP, 4, 0, &[]), 14, 1),
-        (&batch, message(NOOP, 3, 0, &[]), 14, 1),
-        (&fresh, message(OPEN, 2, 0, &[]), 14, 1),
-        (&offer, message(READY, 2, 0, &[]), 14, 1),
-        (&offer, message(READY, 0, 0, &[b""]), 15, 1),
-        (&batch, message(NOOP, 0, 0, &[b""]), 15, 1),
-        (&batch, message(NOOP, 2, 0x0102, &[b""]), 15, 1),
-        (&batch, message(DATA, 0, 0, &[]), 15, 1),
-        (&batch, message(DATA, 0, 0, &[b"", b""]), 15, 1),
-        (&fresh, message(OPEN, 0, 0, &[]), 15, 1),
-        (&fresh, message(OPEN, 0, 0, &[&[0; 4097]]), 16, 2),
-        (&idle, message(OPEN, 0, 0, &[&[0; 4097]]), 16, 2),
-        (&batch, message(DATA, 0, 0, &[&[0; 1_999_993]]), 16, 2),
-        (&idle, message(OPEN, 0, 0, &[b""]), 17, 2),
-        (&fresh, message(NOOP, 0, 0, &[]), 17, 2),
-        (&fresh, frame(b"\x00"), 18, 1),
-        (&fresh, frame(b"\x10\x01"), 19, 2),
-        (&fresh, frame(b"\x0A\x04pipe\x10\x03"), 20, 102),
-        (&fresh, frame(b"\x0A\x04pipe\x10\x02"), 21, 100),
-        (&fresh, frame(b"\x0A\x04pips\x10\x01"), 21, 100),
-        (&fresh, opening(Consumer, b"pipe", b"other"), 22, 103),
-        (&offer, message(READY, 0, 5, &[]), 23, 2),
-        (&batch, message(NOOP, 2, 0x0201, &[]), 24, 2),
-        (&batch, message(DATA, 2, 0x0102, &[]), 24, 2),
-    ] {
-        let received = receive_at(to, &message);
-        assert_eq!((received.number, received.block), (number, to.closed().block()), "{message:?}");
+    for (to, message, number, code) in [control_refusals(), flow_refusals(), open_refusals()].concat() {
+        let received = receive_at(&to, &message);
+        assert_eq!((received.number, received.block), (number, to.closed().block()));
         assert_eq!(received.out, [&close(code)[..], &[7; 6]].concat(), "{number}");
         let mut heard = [0; 16];
         heard[3] = 14;

@@ -316,14 +316,16 @@ pub fn refused_opens(random: &mut Random) -> Calls {
     calls
 }
 
-/// Two to four causes in one message, so that the first to apply has others behind it.
+/// Two to four causes in one message, so that the first to apply has others behind it; mostly ones behind 10 to 13.
 pub fn some_causes(random: &mut Random) -> Calls {
     let mut calls = Calls::new();
+    let in_control = CAUSES.iter().filter(|cause| cause.number <= 13).count();
     for _ in 0..700 {
         let mut draft = if random.one_in(3) { refused_open(random).1 } else { valid(random) };
         for _ in 0..random.between(2, 4) {
             let before = draft.clone();
-            let cause = &CAUSES[random.between(0, CAUSES.len() - 1)];
+            let first = random.choose(&[0, in_control, in_control]);
+            let cause = &CAUSES[random.between(first, CAUSES.len() - 1)];
             let usable = draft.parts.bodies[0].len() == 8 && (1..=16).contains(&draft.parts.count);
             if !usable || !(cause.make)(&mut draft, random) {
                 draft = before;

@@ -3,7 +3,7 @@
 use super::blocks::{self, type_data};
 use super::{room_for, REPLY};
 use crate::calls::SendMessage;
-use crate::endpoint::{self, Phase, Role, Send, State, MOST_AWAITED};
+use crate::endpoint::{self, Flow, Phase, Role, Send, State, MOST_AWAITED};
 use crate::generate::open::writers::given_text;
 use crate::generate::open::{other_text, short_text};
 use crate::generate::{add, texts, Calls};
@@ -55,39 +55,38 @@ pub fn one_of_each(random: &mut Random) -> [Send; 5] {
     [open(random), Send::Ready { count: any_count(random) }, data(random), noop(random), close(random)]
 }
 
-/// A send that an endpoint accepts, which is not closed and no fresh server; a room for confirmations is made.
-pub fn fitting_to(random: &mut Random, state: &mut State) -> Send {
-    state.awaited.truncate(MOST_AWAITED - 1);
-    let mut sends = Vec::new();
-    match (state.role, state.phase) {
-        (Role::Client, Phase::Fresh) => return open(random),
-        (Role::Client, Phase::Offer) => {
-            let any = random.between(0, state.n.into()) as u16;
-            sends.push(Send::Ready { count: random.choose(&[0, 1, state.n - 1, state.n, any]) });
-        }
-        (Role::Server, Phase::Opening | Phase::Idle) => sends.push(Send::Ready { count: any_count(random) }),
-        (_, Phase::Batch) if state.is_producer() => sends.push(data(random)),
-        _ => {}
-    }
-    if state.phase.is_running() {
-        sends.push(noop(random));
-    }
-    if random.one_in(3) || sends.is_empty() {
-        sends.push(close(random));
-    }
-    sends.swap_remove(random.between(0, sends.len() - 1))
+/// An endpoint whose role, flow and phase allow a send.
+fn inviting(random: &mut Random, send: &Send) -> State {
+    let (role, flow) = (random.choose(&Role::ALL), random.choose(&Flow::ALL));
+    let (role, flow, phases): (Role, Flow, &[Phase]) = match send {
+        Send::Open { .. } => (Role::Client, flow, &[Phase::Fresh]),
+        Send::Ready { .. } if role == Role::Client => (role, flow, &[Phase::Offer]),
+        Send::Ready { .. } => (role, flow, &[Phase::Opening, Phase::Idle]),
+        Send::Data { .. } => (role, Flow::Producer, &[Phase::Batch]),
+        Send::Noop { .. } => (role, flow, &[Phase::Idle, Phase::Offer, Phase::Batch]),
+        Send::Close { .. } => (role, flow, &[Phase::Opening, Phase::Opening, Phase::Idle, Phase::Offer, Phase::Batch]),
+    };
+    let phase = random.choose(phases);
+    blocks::good_in(random, role, flow, phase)
 }
 
 /// An endpoint and a send that it accepts.
 pub fn fitting(random: &mut Random) -> (State, Send) {
-    loop {
-        let mut state = blocks::good(random);
-        let none = state.phase == Phase::Closed || state.phase == Phase::Fresh && state.role == Role::Server;
-        if !none {
-            let send = fitting_to(random, &mut state);
-            return (state, send);
+    let mut sends = one_of_each(random).to_vec();
+    let mut send = sends.swap_remove(random.between(0, sends.len() - 1));
+    let mut state = inviting(random, &send);
+    state.awaited.truncate(MOST_AWAITED - 1);
+    match (&mut send, state.role) {
+        (Send::Ready { count }, Role::Client) => {
+            let any = random.between(0, state.n.into()) as u16;
+            *count = random.choose(&[0, 1, state.n - 1, state.n, any]);
         }
+        (Send::Close { code }, Role::Server) if state.phase == Phase::Opening && random.one_in(2) => {
+            *code = random.between(100, 103) as u16;
+        }
+        _ => {}
     }
+    (state, send)
 }
 
 /// How many bytes the message of a send has; that of the shortest message where the model refuses it.
@@ -153,25 +152,6 @@ pub fn steps_off(random: &mut Random) -> Calls {
     calls
 }
 
-/// An endpoint whose role, flow and phase allow a send.
-fn inviting(random: &mut Random, send: &Send) -> State {
-    let running = [Phase::Idle, Phase::Offer, Phase::Batch];
-    let (role, flow) = (random.choose(&Role::ALL), random.choose(&endpoint::Flow::ALL));
-    match send {
-        Send::Open { .. } => blocks::good_in(random, Role::Client, flow, Phase::Fresh),
-        Send::Ready { .. } => blocks::good_in(random, Role::Client, flow, Phase::Offer),
-        Send::Data { .. } => blocks::good_in(random, role, endpoint::Flow::Producer, Phase::Batch),
-        Send::Noop { .. } => {
-            let phase = random.choose(&running);
-            blocks::good_in(random, role, flow, phase)
-        }
-        Send::Close { .. } => {
-            let phase = random.choose(&[Phase::Opening, Phase::Opening, Phase::Idle, Phase::Offer, Phase::Batch]);
-            blocks::good_in(random, role, flow, phase)
-        }
-    }
-}
-
 /// Any send from any good block.
 pub fn random_sends(random: &mut Random) -> Calls {
     let mut calls = Calls::new();
@@ -191,7 +171,7 @@ pub fn every_opening(random: &mut Random) -> Calls {
     let mut calls = Calls::new();
     for name in [0, 1, 2, 127, 128, 254, MOST_TEXT, MOST_TEXT + 1, 1000] {
         for format in [0, 1, 127, 128, MOST_TEXT, MOST_TEXT + 1] {
-            for flow in endpoint::Flow::ALL {
+            for flow in Flow::ALL {
                 let state = blocks::good_in(random, Role::Client, flow, Phase::Fresh);
                 let (name, format) = (texts::of_length(random, name), texts::of_length(random, format));
                 let send = Send::Open { name, format };
@@ -203,7 +183,7 @@ pub fn every_opening(random: &mut Random) -> Calls {
         }
     }
     for _ in 0..300 {
-        let state = blocks::good_in(random, Role::Client, endpoint::Flow::Producer, Phase::Fresh);
+        let state = blocks::good_in(random, Role::Client, Flow::Producer, Phase::Fresh);
         let good = short_text(random);
         let (other, bad) = (other_text(random, &good), texts::bad(random));
         add_send(&mut calls, random, &state, Send::Open { name: good.clone(), format: bad.clone() });

@@ -243,12 +243,26 @@ impl<'a> Session<'a> {
         self.random.choose(&[0, 1, 1, 2, 3, 5, 17]).min(most)
     }
 
-    /// What an end may send next; a client that waits for the server has only NOOPs to send.
+    /// Whether an end has something other than NOOP and CLOSE to send.
+    fn has_turn(&self, end: usize) -> bool {
+        let state = self.ends[end].state();
+        match (state.role, state.phase) {
+            (_, Phase::Batch) => state.is_producer(),
+            (Role::Client, phase) => matches!(phase, Phase::Fresh | Phase::Offer),
+            (Role::Server, phase) => matches!(phase, Phase::Opening | Phase::Idle),
+        }
+    }
+
+    /// What an end may send next; one that waits for the other has only NOOPs to send.
     fn next_send(&mut self, end: usize) -> Send {
         let state = self.ends[end].state();
         let type_data = blocks::type_data(self.random);
-        let noop = self.random.one_in(4);
+        let noop = self.random.one_in(8);
         match (state.role, state.phase) {
+            (_, Phase::Closed) => {
+                let mut sends = sends::one_of_each(self.random).to_vec();
+                sends.swap_remove(self.random.between(0, sends.len() - 1))
+            }
             (Role::Client, Phase::Fresh) => {
                 let (name, format) = self.opened.clone();
                 Send::Open { name, format }
@@ -289,10 +303,22 @@ impl<'a> Session<'a> {
             let send = self.any_send();
             self.send(end, &send);
         } else {
+            let end = if self.has_turn(end) || self.random.one_in(8) { end } else { 1 - end };
             let send = self.next_send(end);
             self.send(end, &send);
         }
         self.watch_progress();
+    }
+
+    /// Goes on for so many steps, but not long after both ends are closed.
+    fn go(&mut self, steps: usize) {
+        for _ in 0..steps {
+            let over = ENDS.iter().all(|end| self.phase(*end) == Phase::Closed);
+            if over && self.random.one_in(6) {
+                return;
+            }
+            self.step();
+        }
     }
 
     /// Goes on until an end is in this phase, which then closes with this code, and delivers what is on its way.
@@ -319,17 +345,15 @@ impl<'a> Session<'a> {
 fn add_session(calls: &mut Calls, random: &mut Random, temper: Temper, steps: usize) {
     let flow = random.choose(&Flow::ALL);
     let mut session = Session::new(random, calls, temper, flow);
-    for _ in 0..steps {
-        session.step();
-    }
+    session.go(steps);
     session.drain();
 }
 
 /// Sessions of all lengths.
 pub fn sessions(random: &mut Random) -> Calls {
     let mut calls = Calls::new();
-    for _ in 0..24 {
-        let steps = random.between(20, 160);
+    for _ in 0..30 {
+        let steps = random.between(20, 200);
         add_session(&mut calls, random, EVEN, steps);
     }
     calls
@@ -339,15 +363,14 @@ pub fn sessions(random: &mut Random) -> Calls {
 pub fn of_many_confirmations(random: &mut Random) -> Calls {
     let mut calls = Calls::new();
     for _ in 0..6 {
-        let steps = random.between(100, 200);
+        let steps = random.between(60, 160);
         let waits = random.choose(&[1, 2, 2]);
-        let mut temper = Temper { waits: 2, no_ask: 10, ..EVEN };
+        let temper = Temper { waits: 2, no_ask: 10, ..EVEN };
         let flow = random.choose(&Flow::ALL);
         let mut session = Session::new(random, &mut calls, temper, flow);
-        (0..40).for_each(|_| session.step());
-        temper.waits = waits;
-        session.temper = temper;
-        (0..steps).for_each(|_| session.step());
+        session.go(40);
+        session.temper.waits = waits;
+        session.go(steps);
         session.drain();
     }
     calls

@@ -5,7 +5,7 @@ use super::broken::lengthen;
 use super::drafts::{opening, Draft};
 use super::{blocks, REPLY};
 use crate::calls::SendMessage;
-use crate::endpoint::{Flow, Phase, Role, Send, State};
+use crate::endpoint::{Flow, Phase, Role, Send, State, MOST_AWAITED};
 use crate::endpoint::{ACK_REQUEST, CLOSE, DATA};
 use crate::generate::{add, Calls};
 use crate::random::Random;
@@ -61,6 +61,29 @@ pub fn around_the_limit(random: &mut Random) -> Calls {
         add_message(&mut calls, random, state.clone(), DATA, limit + 1, 2);
         add_message(&mut calls, random, state.clone(), CLOSE, limit + 1, 3);
         add_send(&mut calls, random, State { flow: Flow::Producer, ..state }, limit + 1, 0);
+    }
+    calls
+}
+
+/// DATA that is a byte too large, sent and received, with every other cause that there may be beside it.
+pub fn with_other_causes(random: &mut Random) -> Calls {
+    let mut calls = Calls::new();
+    let body = vec![0x3C; 1_000_001 - CONTROL];
+    for phase in [Phase::Opening, Phase::Idle, Phase::Batch, Phase::Closed] {
+        for flow in Flow::ALL {
+            let role = random.choose(&Role::ALL);
+            let awaited = if phase.is_running() { blocks::entries(random, flow, MOST_AWAITED) } else { Vec::new() };
+            let state = State { limit: 1_000_000, awaited, ..good_in(random, role, flow, phase) };
+            for (ask, room) in [(1, 0), (1, TWO + body.len()), (0, 0)] {
+                let send = Send::Data { type_data: 0, ask, body: body.clone() };
+                add(&mut calls, SendMessage { block: state.block(), send, room });
+            }
+            for (flags, frames) in [(0, 1), (1, 2), (2, 1), (3, 1), (4, 2)] {
+                let mut draft = Draft::new(state.clone(), DATA, flags, 0, random);
+                (0..frames).for_each(|frame| draft.push_frame(if frame == 0 { body.clone() } else { Vec::new() }));
+                add(&mut calls, draft.call(REPLY));
+            }
+        }
     }
     calls
 }
