@@ -69,10 +69,9 @@ pub fn good(random: &mut Random) -> State {
 }
 
 /// A cause for which a block is bad, brought into a good one: false where that one does not allow it.
-type Cause = fn(&mut Vec<u8>, &mut Random) -> bool;
+type Cause = fn(&mut [u8], &mut Random) -> bool;
 
-pub const CAUSES: &[Cause] = &[
-    other_length,
+const CAUSES: &[Cause] = &[
     |block, random| other_byte(block, random, 0, &[0, 3, 4, 129, 255]),
     |block, random| other_byte(block, random, 1, &[0, 3, 4, 129, 255]),
     |block, random| other_byte(block, random, 2, &[6, 7, 8, 130, 255]),
@@ -96,22 +95,14 @@ fn other_byte(block: &mut [u8], random: &mut Random, place: usize, numbers: &[u8
     true
 }
 
-fn other_length(block: &mut Vec<u8>, random: &mut Random) -> bool {
-    let longer = BLOCK + random.between(1, 64);
-    let length = random.choose(&[0, 1, 16, 48, 63, 65, 66, 96, 128, 256, longer]);
-    let fill = if random.one_in(2) { 0 } else { random.byte() };
-    block.resize(length, fill);
-    true
-}
-
 /// W says one entry more than there are.
-fn one_more_awaited(block: &mut Vec<u8>, _: &mut Random) -> bool {
+fn one_more_awaited(block: &mut [u8], _: &mut Random) -> bool {
     block[W] += 1;
     true
 }
 
 /// W says one entry less than there are.
-fn one_less_awaited(block: &mut Vec<u8>, _: &mut Random) -> bool {
+fn one_less_awaited(block: &mut [u8], _: &mut Random) -> bool {
     if block[W] == 0 {
         return false;
     }
@@ -120,7 +111,7 @@ fn one_less_awaited(block: &mut Vec<u8>, _: &mut Random) -> bool {
 }
 
 /// Good entries in a phase that has none.
-fn awaited_in_another_phase(block: &mut Vec<u8>, random: &mut Random) -> bool {
+fn awaited_in_another_phase(block: &mut [u8], random: &mut Random) -> bool {
     block[2] = random.choose(&[0, 1, 5]);
     block[N..N + 2].fill(0);
     if block[W] == 0 {
@@ -130,7 +121,7 @@ fn awaited_in_another_phase(block: &mut Vec<u8>, random: &mut Random) -> bool {
     true
 }
 
-fn n_in_another_phase(block: &mut Vec<u8>, random: &mut Random) -> bool {
+fn n_in_another_phase(block: &mut [u8], random: &mut Random) -> bool {
     if matches!(block[2], 3 | 4) {
         block[2] = 2;
         return true;
@@ -140,17 +131,17 @@ fn n_in_another_phase(block: &mut Vec<u8>, random: &mut Random) -> bool {
     true
 }
 
-fn no_n(block: &mut Vec<u8>, _: &mut Random) -> bool {
+fn no_n(block: &mut [u8], _: &mut Random) -> bool {
     block[N..N + 2].fill(0);
     matches!(block[2], 3 | 4)
 }
 
-fn byte_not_zero(block: &mut Vec<u8>, random: &mut Random) -> bool {
+fn byte_not_zero(block: &mut [u8], random: &mut Random) -> bool {
     block[random.choose(&ZEROS)] = 1 << random.between(0, 7);
     true
 }
 
-fn other_limit(block: &mut Vec<u8>, random: &mut Random) -> bool {
+fn other_limit(block: &mut [u8], random: &mut Random) -> bool {
     let above = random.between(50_000_001, (1 << 32) - 1) as u32;
     let below = random.between(0, 999_999) as u32;
     let limit: u32 = random.choose(&[0, 1, 999_999, 50_000_001, 1 << 31, u32::MAX, above, below]);
@@ -166,7 +157,7 @@ fn place_behind(block: &[u8], random: &mut Random) -> Option<usize> {
 }
 
 /// An entry that would be a good one, were it counted.
-fn entry_behind(block: &mut Vec<u8>, random: &mut Random) -> bool {
+fn entry_behind(block: &mut [u8], random: &mut Random) -> bool {
     let Some(place) = place_behind(block, random) else {
         return false;
     };
@@ -176,7 +167,7 @@ fn entry_behind(block: &mut Vec<u8>, random: &mut Random) -> bool {
 }
 
 /// The type of an entry is gone and its type-data is not.
-fn type_data_behind(block: &mut Vec<u8>, random: &mut Random) -> bool {
+fn type_data_behind(block: &mut [u8], random: &mut Random) -> bool {
     let Some(place) = place_behind(block, random) else {
         return false;
     };
@@ -191,7 +182,7 @@ fn awaited_place(block: &[u8], random: &mut Random) -> Option<usize> {
     Some(ENTRIES + 3 * random.choose(&[0, last, any]))
 }
 
-fn other_entry_type(block: &mut Vec<u8>, random: &mut Random) -> bool {
+fn other_entry_type(block: &mut [u8], random: &mut Random) -> bool {
     let Some(place) = awaited_place(block, random) else {
         return false;
     };
@@ -199,7 +190,7 @@ fn other_entry_type(block: &mut Vec<u8>, random: &mut Random) -> bool {
     true
 }
 
-fn data_of_a_consumer(block: &mut Vec<u8>, random: &mut Random) -> bool {
+fn data_of_a_consumer(block: &mut [u8], random: &mut Random) -> bool {
     let Some(place) = awaited_place(block, random) else {
         return false;
     };
@@ -211,22 +202,29 @@ fn data_of_a_consumer(block: &mut Vec<u8>, random: &mut Random) -> bool {
 /// The block of this state with a cause brought in, if it allows that.
 fn spoilt(random: &mut Random, cause: Cause, state: &State) -> Option<Vec<u8>> {
     let mut block = state.block();
-    if !cause(&mut block, random) {
-        return None;
-    }
-    assert_eq!(State::read(&block), None, "a block with a cause is bad: {block:?}");
-    Some(block)
+    cause(&mut block, random).then_some(block)
 }
 
-/// Adds a send and a receive that would be accepted, were the block good.
-fn add_spoilt(calls: &mut Calls, random: &mut Random, cause: Cause) {
+/// The block of this state, cut short or with bytes behind.
+fn other_length(random: &mut Random, state: &State) -> Vec<u8> {
+    let longer = BLOCK + random.between(1, 64);
+    let length = random.choose(&[0, 1, 16, 48, 63, 65, 66, 96, 128, 256, longer]);
+    let mut block = state.block();
+    block.resize(length, random.choose(&[0, 0, 3, 255]));
+    block
+}
+
+/// Adds a receive and a send that would be accepted, were the block good; the model must find it bad.
+fn add_spoilt(calls: &mut Calls, random: &mut Random, spoil: impl Fn(&mut Random, &State) -> Option<Vec<u8>>) {
     let draft = drafts::valid(random);
-    if let Some(block) = spoilt(random, cause, &draft.state) {
+    if let Some(block) = spoil(random, &draft.state) {
+        assert_eq!(State::read(&block), None, "a block with a cause is bad");
         let room = reply_room(random);
         add(calls, draft.to_block(block, room));
     }
     let (state, send) = sends::fitting(random);
-    if let Some(block) = spoilt(random, cause, &state) {
+    if let Some(block) = spoil(random, &state) {
+        assert_eq!(State::read(&block), None, "a block with a cause is bad");
         let call = sends::to_block(random, block, send, &state);
         add(calls, call);
     }
@@ -235,9 +233,10 @@ fn add_spoilt(calls: &mut Calls, random: &mut Random, cause: Cause) {
 /// Blocks that are bad for one cause.
 pub fn one_cause(random: &mut Random) -> Calls {
     let mut calls = Calls::new();
-    for cause in CAUSES {
-        for _ in 0..24 {
-            add_spoilt(&mut calls, random, *cause);
+    for _ in 0..24 {
+        add_spoilt(&mut calls, random, |random, state| Some(other_length(random, state)));
+        for cause in CAUSES {
+            add_spoilt(&mut calls, random, |random, state| spoilt(random, *cause, state));
         }
     }
     calls
