@@ -8,6 +8,7 @@ pub mod drafts;
 pub mod every;
 pub mod making;
 pub mod marked;
+pub mod opens;
 pub mod sends;
 pub mod sessions;
 pub mod sizes;

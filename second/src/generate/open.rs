@@ -91,7 +91,7 @@ pub fn other_text(random: &mut Random, text: &[u8]) -> Vec<u8> {
 }
 
 /// What a client opens a pipe with, with a good limit.
-fn opening(random: &mut Random) -> Opening {
+pub fn opening(random: &mut Random) -> Opening {
     let limit = match random.between(0, 5) {
         0 => random.choose(&[1_000_000, 1_000_001, 49_999_999]),
         1 | 2 => DEFAULT_LIMIT,
@@ -102,7 +102,7 @@ fn opening(random: &mut Random) -> Opening {
 }
 
 /// An offer that an opening meets; where it has no format, any one may be offered.
-fn offer(random: &mut Random, opening: &Opening) -> Offer {
+pub fn offer(random: &mut Random, opening: &Opening) -> Offer {
     let any_format = opening.format.is_empty() && random.one_in(2);
     let format = if any_format { other_text(random, b"format") } else { opening.format.clone() };
     Offer { producer: !opening.producer, name: opening.name.clone(), format }

@@ -194,7 +194,7 @@ impl<'a> Session<'a> {
     }
 
     /// Where neither end has closed and nothing is on its way, one of them may still send something other than NOOP and
-    /// CLOSE, and they agree on phase and count, and await no confirmation.
+    /// CLOSE, and they agree on phase, count and limit, and await no confirmation.
     fn watch_progress(&mut self) {
         let closed = ENDS.iter().any(|end| self.phase(*end) == Phase::Closed);
         if closed || self.ends.iter().any(|end| !end.inbox.is_empty()) {
@@ -202,6 +202,7 @@ impl<'a> Session<'a> {
         }
         let [client, server] = [self.ends[CLIENT].state(), self.ends[SERVER].state()];
         assert_eq!((client.phase, client.n), (server.phase, server.n));
+        assert!(client.phase == Phase::Fresh || client.limit == server.limit, "one limit holds for both");
         assert!(client.awaited.is_empty() && server.awaited.is_empty(), "all that was asked is confirmed");
         let (name, format) = self.opened.clone();
         let sends =

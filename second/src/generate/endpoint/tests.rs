@@ -58,6 +58,14 @@ fn messages_are_heard_or_refused_as_they_were_meant() {
     assert_eq!(numbers_of("fbdp_receive", 3, broken::refused_opens), BTreeSet::from([2, 18, 19, 20, 21, 22]));
 }
 
+/// The sets themselves hold the model to what was put in.
+#[test]
+fn opens_are_heard_as_they_were_sent() {
+    let mut random = Random::new(8);
+    opens::stored(&mut random);
+    opens::round_trips(&mut random);
+}
+
 #[test]
 fn bad_blocks_are_refused_by_every_function() {
     let numbers = numbers(2, blocks::one_cause);
