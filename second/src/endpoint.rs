@@ -41,4 +41,6 @@ pub fn make(block: &[u8], role: Role, flow: u8, limit: u32) -> (u64, Vec<u8>) {
 }
 
 #[cfg(test)]
+mod schedules;
+#[cfg(test)]
 mod tests;
