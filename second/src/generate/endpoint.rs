@@ -18,6 +18,9 @@ use crate::random::Random;
 /// The bytes of a reply, and of every message without a data frame.
 const REPLY: usize = 14;
 
+/// The most bytes of an OPEN frame.
+const MOST_OPEN: usize = 4096;
+
 /// A room for a reply: mostly long enough, now and then too short or very long.
 fn reply_room(random: &mut Random) -> usize {
     match random.between(0, 39) {

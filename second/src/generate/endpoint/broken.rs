@@ -1,23 +1,22 @@
 //! Messages that are refused: for one cause, and for several at once.
 
 use super::drafts::{self, running, valid, Draft};
-use super::{reply_room, REPLY};
+use super::{reply_room, MOST_OPEN, REPLY};
 use crate::endpoint::{Entry, Flow, Phase, Role, State};
 use crate::endpoint::{ACK_REPLY, ACK_REQUEST, CLOSE, DATA, NOOP, OPEN, READY};
 use crate::generate::endpoint::blocks::{self, good_in, type_data};
 use crate::generate::open::broken::refused_frame;
 use crate::generate::{add, Calls};
 use crate::random::Random;
-use crate::wire;
 
 /// A cause for which a message is refused, with its number, brought into one that is valid: false where that one does
 /// not allow it.
-pub struct Cause {
-    pub number: u64,
-    pub make: fn(&mut Draft, &mut Random) -> bool,
+struct Cause {
+    number: u64,
+    make: fn(&mut Draft, &mut Random) -> bool,
 }
 
-pub const CAUSES: &[Cause] = &[
+const CAUSES: &[Cause] = &[
     Cause { number: 10, make: other_count },
     Cause { number: 10, make: other_frame_length },
     Cause { number: 10, make: byte_more_or_less },
@@ -151,11 +150,15 @@ fn no_frame(draft: &mut Draft, _: &mut Random) -> bool {
     true
 }
 
-/// The frame of an OPEN, made longer by a field that is skipped, until it has this many bytes or a few more.
-pub fn lengthen(draft: &mut Draft, least: usize) {
+/// Makes the frame of an OPEN longer by a field that is skipped, so that it has this many bytes; a few more where it has
+/// hardly fewer already. The field's length always takes three bytes.
+pub fn lengthen(draft: &mut Draft, length: usize) {
     let mut frame = draft.parts.bodies[1].clone();
-    let needed = least.saturating_sub(frame.len() + 3);
-    frame.extend(wire::delimited_field(5, &vec![7; needed]));
+    let filling = length.saturating_sub(frame.len() + 4);
+    let in_three = [filling | 0x80, filling >> 7 | 0x80, filling >> 14].map(|digit| digit as u8);
+    frame.push(0x2A);
+    frame.extend(in_three);
+    frame.extend(vec![7; filling]);
     draft.pop_frame();
     draft.push_frame(frame);
 }
@@ -272,7 +275,7 @@ fn data_confirmed_to_consumer(draft: &mut Draft, random: &mut Random) -> bool {
 /// A message that is refused for one cause; the model must give its number.
 fn refused_for(random: &mut Random, cause: &Cause) -> Draft {
     loop {
-        let confirms = matches!(cause.number, 24) && random.one_in(2);
+        let confirms = cause.number == 24 && random.one_in(2);
         let mut draft = if confirms { drafts::confirmation(random) } else { valid(random) };
         if (cause.make)(&mut draft, random) {
             assert_eq!(draft.number(), cause.number, "a cause has its number");
@@ -298,7 +301,7 @@ pub fn one_cause(random: &mut Random) -> Calls {
 fn refused_open(random: &mut Random) -> (u64, Draft) {
     loop {
         let (number, frame, offer) = refused_frame(random);
-        if frame.len() <= 4096 {
+        if frame.len() <= MOST_OPEN {
             return (number, Draft::open(random, frame, &offer));
         }
     }

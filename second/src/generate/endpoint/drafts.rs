@@ -1,7 +1,7 @@
 //! Messages before they are put together, each with the endpoint that it comes to; and those that are valid there.
 
 use super::blocks::{self, good_in, type_data};
-use super::{reply_room, REPLY};
+use super::{reply_room, MOST_OPEN, REPLY};
 use crate::calls::Receive;
 use crate::control::{SIGNATURE, VERSION};
 use crate::endpoint::{self, Flow, Phase, Role, State};
@@ -109,9 +109,13 @@ fn close(random: &mut Random) -> Draft {
 }
 
 pub fn opening(random: &mut Random) -> Draft {
-    let (said, offer) = open::met(random);
-    let frame = said.message(random).bytes();
-    Draft::open(random, frame, &offer)
+    loop {
+        let (said, offer) = open::met(random);
+        let frame = said.message(random).bytes();
+        if frame.len() <= MOST_OPEN {
+            return Draft::open(random, frame, &offer);
+        }
+    }
 }
 
 fn ready_to_client(random: &mut Random) -> Draft {

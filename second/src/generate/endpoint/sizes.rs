@@ -3,7 +3,7 @@
 use super::blocks::good_in;
 use super::broken::lengthen;
 use super::drafts::{opening, Draft};
-use super::{blocks, REPLY};
+use super::{blocks, MOST_OPEN, REPLY};
 use crate::calls::SendMessage;
 use crate::endpoint::{Flow, Phase, Role, Send, State, MOST_AWAITED};
 use crate::endpoint::{ACK_REQUEST, CLOSE, DATA};
@@ -129,6 +129,7 @@ pub fn long_opens(random: &mut Random) -> Calls {
         for _ in 0..8 {
             let mut draft = opening(random);
             lengthen(&mut draft, length);
+            assert_eq!(draft.number(), if length <= MOST_OPEN { 0 } else { 16 });
             add(&mut calls, draft.call(REPLY));
             draft.state = blocks::good(random);
             add(&mut calls, draft.call(REPLY));
