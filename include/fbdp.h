@@ -81,6 +81,32 @@ enum { FBDP_IN_CLIENT = 1, FBDP_IN_DEFAULTS = 2 };
 uint32_t fbdp_lookup(const uint8_t *client, size_t client_length, const uint8_t *defaults, size_t defaults_length,
                      const uint8_t *key, size_t key_length, uint64_t term[FBDP_TERM_SLOTS]);
 
+/* Makes an endpoint in a block of 64 bytes, whatever they were. Refuses 1, 34, and then changes no byte. */
+uint32_t fbdp_make_client(uint8_t *block, size_t block_length, uint8_t flow, uint32_t limit);
+uint32_t fbdp_make_server(uint8_t *block, size_t block_length, uint8_t flow);
+
+/* Each send writes its message from the start of `out`, with `written` its length. Each refuses some of 1, 3, 30, 31,
+ * 32, 33, 34, 35, 2, in this order, with `written` 0 and no byte changed. An ask is any number but 0. */
+uint32_t fbdp_send_open(uint8_t *block, size_t block_length, const uint8_t *name, size_t name_length,
+                        const uint8_t *format, size_t format_length, uint8_t *out, size_t out_length,
+                        uint64_t *written);
+uint32_t fbdp_send_ready(uint8_t *block, size_t block_length, uint16_t count, uint8_t *out, size_t out_length,
+                         uint64_t *written);
+uint32_t fbdp_send_data(uint8_t *block, size_t block_length, uint16_t type_data, uint8_t ask, const uint8_t *body,
+                        size_t body_length, uint8_t *out, size_t out_length, uint64_t *written);
+uint32_t fbdp_send_noop(uint8_t *block, size_t block_length, uint16_t type_data, uint8_t ask, uint8_t *out,
+                        size_t out_length, uint64_t *written);
+uint32_t fbdp_send_close(uint8_t *block, size_t block_length, uint16_t code, uint8_t *out, size_t out_length,
+                         uint64_t *written);
+
+/* Receives one message; `name` and `format` are what a server offers. heard = type, flags, type-data, length of the
+ * reply at the start of `out`, data frames, socket, place and length of name, of format, of parameters and of the body,
+ * and two zeros. Refuses 1, 2, 3 with no byte changed and zeros, and 10 to 24 with the block closed and zeros but for
+ * the length of the reply. */
+uint32_t fbdp_receive(uint8_t *block, size_t block_length, const uint8_t *message, size_t message_length,
+                      const uint8_t *name, size_t name_length, const uint8_t *format, size_t format_length,
+                      uint8_t *out, size_t out_length, uint64_t heard[16]);
+
 #ifdef __cplusplus
 }
 #endif

@@ -5,10 +5,11 @@
  * stands low byte first. Each message is answered by one with the same verb; the end of the input ends the program.
  *
  * VERB_CALLS asks for `count` calls. A call is the function's code (1 byte), a pattern (8 bytes) and the arguments in
- * the order of the header: a number is 8 bytes, a lent input its length (4 bytes) and its bytes, a lent room its
- * length (4 bytes), a lent array of numbers nothing. The answer to a call is the function's code (1 byte), the lent
- * argument that is an input and was changed (1 byte: 1 for the first lent, 0 for none), the number returned (8 bytes,
- * 0 where the function returns none), and each room and array of numbers with its guards.
+ * the order of the header: a number is 8 bytes, a lent input its length (4 bytes) and its bytes, what is lent to be
+ * changed in place likewise, a lent room its length (4 bytes), a lent array of numbers nothing. The answer to a call is
+ * the function's code (1 byte), the lent argument that is an input and was changed (1 byte: 1 for the first lent, 0 for
+ * none), the number returned (8 bytes, 0 where the function returns none), and each slice that may be written and array
+ * of numbers with its guards.
  *
  * VERB_SPEED asks for times; see answer_speed. */
 #include "fbdp.h"
@@ -25,10 +26,11 @@ enum { VERB_CALLS = 1, VERB_SPEED = 2 };
 
 enum {
     HEADER_BYTES = 12,
-    GUARD = 32,      /* bytes before and behind whatever is lent */
-    MOST_LENT = 8,   /* slices and arrays of numbers in one call */
-    LINE_BYTES = 96, /* the room that probe_line is given */
-    DOUBLE_BYTES = 8 /* the room that probe_limit_bytes is given */
+    GUARD = 32,       /* bytes before and behind whatever is lent */
+    MOST_LENT = 8,    /* slices and arrays of numbers in one call */
+    LINE_BYTES = 96,  /* the room that probe_line is given */
+    DOUBLE_BYTES = 8, /* the room that probe_limit_bytes is given */
+    HEARD_SLOTS = 16  /* the numbers that fbdp_receive is given */
 };
 
 static void fail(const char *why)
@@ -162,17 +164,33 @@ static uint8_t *first_byte(const struct call *call, const struct lent *lent, siz
     return length == 0 && call->pattern % 2 == 0 ? NULL : lent->area + GUARD;
 }
 
+/* A fresh area with the bytes that the request gives. */
+static struct lent *lend_given(struct call *call, size_t *length)
+{
+    *length = (size_t)take_number(call->request, 4);
+    const uint8_t *bytes = take_bytes(call->request, *length);
+    struct lent *lent = lend(call, *length);
+    if (*length != 0) {
+        memcpy(lent->area + GUARD, bytes, *length);
+    }
+    return lent;
+}
+
 static struct input lend_input(struct call *call)
 {
-    const size_t length = (size_t)take_number(call->request, 4);
-    const uint8_t *bytes = take_bytes(call->request, length);
-    struct lent *lent = lend(call, length);
-    if (length != 0) {
-        memcpy(lent->area + GUARD, bytes, length);
-    }
+    size_t length;
+    struct lent *lent = lend_given(call, &length);
     lent->kept = allocate(lent->area_length);
     memcpy(lent->kept, lent->area, lent->area_length);
     return (struct input){first_byte(call, lent, length), length};
+}
+
+/* What is lent to be changed in place: its bytes are given, and come back as they are afterwards. */
+static struct room lend_in_place(struct call *call)
+{
+    size_t length;
+    struct lent *lent = lend_given(call, &length);
+    return (struct room){first_byte(call, lent, length), length};
 }
 
 static struct room lend_room_of(struct call *call, size_t length)
@@ -394,6 +412,84 @@ static uint64_t call_open_frame(struct call *call)
                             limit, frame_length);
 }
 
+static uint64_t call_make_client(struct call *call)
+{
+    const struct room block = lend_in_place(call);
+    const uint8_t flow = (uint8_t)number(call);
+    const uint32_t limit = (uint32_t)number(call);
+    return fbdp_make_client(block.bytes, block.length, flow, limit);
+}
+
+static uint64_t call_make_server(struct call *call)
+{
+    const struct room block = lend_in_place(call);
+    const uint8_t flow = (uint8_t)number(call);
+    return fbdp_make_server(block.bytes, block.length, flow);
+}
+
+static uint64_t call_send_open(struct call *call)
+{
+    const struct room block = lend_in_place(call);
+    const struct input name = lend_input(call);
+    const struct input format = lend_input(call);
+    const struct room out = lend_room(call);
+    uint64_t *written = lend_numbers(call, 1);
+    return fbdp_send_open(block.bytes, block.length, name.bytes, name.length, format.bytes, format.length, out.bytes,
+                          out.length, written);
+}
+
+static uint64_t call_send_ready(struct call *call)
+{
+    const struct room block = lend_in_place(call);
+    const uint16_t count = (uint16_t)number(call);
+    const struct room out = lend_room(call);
+    uint64_t *written = lend_numbers(call, 1);
+    return fbdp_send_ready(block.bytes, block.length, count, out.bytes, out.length, written);
+}
+
+static uint64_t call_send_data(struct call *call)
+{
+    const struct room block = lend_in_place(call);
+    const uint16_t type_data = (uint16_t)number(call);
+    const uint8_t ask = (uint8_t)number(call);
+    const struct input body = lend_input(call);
+    const struct room out = lend_room(call);
+    uint64_t *written = lend_numbers(call, 1);
+    return fbdp_send_data(block.bytes, block.length, type_data, ask, body.bytes, body.length, out.bytes, out.length,
+                          written);
+}
+
+static uint64_t call_send_noop(struct call *call)
+{
+    const struct room block = lend_in_place(call);
+    const uint16_t type_data = (uint16_t)number(call);
+    const uint8_t ask = (uint8_t)number(call);
+    const struct room out = lend_room(call);
+    uint64_t *written = lend_numbers(call, 1);
+    return fbdp_send_noop(block.bytes, block.length, type_data, ask, out.bytes, out.length, written);
+}
+
+static uint64_t call_send_close(struct call *call)
+{
+    const struct room block = lend_in_place(call);
+    const uint16_t code = (uint16_t)number(call);
+    const struct room out = lend_room(call);
+    uint64_t *written = lend_numbers(call, 1);
+    return fbdp_send_close(block.bytes, block.length, code, out.bytes, out.length, written);
+}
+
+static uint64_t call_receive(struct call *call)
+{
+    const struct room block = lend_in_place(call);
+    const struct input message = lend_input(call);
+    const struct input name = lend_input(call);
+    const struct input format = lend_input(call);
+    const struct room out = lend_room(call);
+    uint64_t *heard = lend_numbers(call, HEARD_SLOTS);
+    return fbdp_receive(block.bytes, block.length, message.bytes, message.length, name.bytes, name.length, format.bytes,
+                        format.length, out.bytes, out.length, heard);
+}
+
 /* A function's code is its place in this table, as in the second program's own. */
 static uint64_t (*const calls[])(struct call *call) = {
     call_frame,
@@ -420,6 +516,14 @@ static uint64_t (*const calls[])(struct call *call) = {
     call_limit,
     call_open,
     call_open_frame,
+    call_make_client,
+    call_make_server,
+    call_send_open,
+    call_send_ready,
+    call_send_data,
+    call_send_noop,
+    call_send_close,
+    call_receive,
 };
 
 /* The first lent argument, counted from 1, that is an input and is no longer what it was; 0 for none. */

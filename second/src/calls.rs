@@ -1,8 +1,10 @@
 //! The calls that are compared: what each lends to the library, and what the model answers to it.
 
+mod endpoint;
 mod open;
 mod parameters;
 
+pub use endpoint::{Make, Receive, SendMessage};
 pub use open::{ReadOpen, WriteOpen};
 pub use parameters::{Check, FieldAt, Limit, LimitBytes, Lookup, ReadValue, StoreVarint, Text};
 
@@ -38,9 +40,17 @@ pub enum Function {
     Limit,
     Open,
     OpenFrame,
+    MakeClient,
+    MakeServer,
+    SendOpen,
+    SendReady,
+    SendData,
+    SendNoop,
+    SendClose,
+    Receive,
 }
 
-pub const FUNCTION_NAMES: [&str; 24] = [
+pub const FUNCTION_NAMES: [&str; 32] = [
     "fbdp_frame",
     "probe_read8",
     "probe_read16",
@@ -65,6 +75,14 @@ pub const FUNCTION_NAMES: [&str; 24] = [
     "probe_limit",
     "probe_open",
     "probe_open_frame",
+    "fbdp_make_client",
+    "fbdp_make_server",
+    "fbdp_send_open",
+    "fbdp_send_ready",
+    "fbdp_send_data",
+    "fbdp_send_noop",
+    "fbdp_send_close",
+    "fbdp_receive",
 ];
 
 impl Function {
@@ -78,6 +96,8 @@ pub enum Argument<'a> {
     Number(u64),
     /// A slice that is only read.
     Input(&'a [u8]),
+    /// A slice that is read and may be written.
+    InPlace(&'a [u8]),
     /// A slice of so many bytes that may be written; the message carries its length.
     Room(usize),
     /// A slice of so many bytes that may be written; its length is fixed by the header.
@@ -86,13 +106,14 @@ pub enum Argument<'a> {
     Numbers(usize),
 }
 
-/// What a room or an array of numbers holds after the call.
+/// What a slice that may be written or an array of numbers holds after the call.
 pub enum Written {
     Bytes(Vec<u8>),
     Numbers(Vec<u64>),
 }
 
-/// The whole answer to a call: the number returned, and each room and array of numbers in the order of the arguments.
+/// The whole answer to a call: the number returned, and each slice that may be written and array of numbers, in the
+/// order of the arguments.
 pub struct Answer {
     pub returned: u64,
     pub written: Vec<Written>,

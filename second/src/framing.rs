@@ -28,7 +28,7 @@ pub fn put_request(request: &mut Vec<u8>, call: &dyn Call, pattern: u64) {
     for (_, argument) in call.arguments() {
         match argument {
             Argument::Number(number) => request.extend(number.to_le_bytes()),
-            Argument::Input(bytes) => {
+            Argument::Input(bytes) | Argument::InPlace(bytes) => {
                 request.extend((bytes.len() as u32).to_le_bytes());
                 request.extend(bytes);
             }
@@ -63,7 +63,7 @@ fn before(argument: &Argument, pattern: u64) -> Option<Vec<u8>> {
         Argument::Room(length) | Argument::FixedRoom(length) => {
             Some(area(pattern, *length)[GUARD..GUARD + length].to_vec())
         }
-        Argument::Number(_) | Argument::Input(_) | Argument::Numbers(_) => None,
+        Argument::Number(_) | Argument::Input(_) | Argument::InPlace(_) | Argument::Numbers(_) => None,
     }
 }
 
@@ -93,6 +93,7 @@ pub fn parts(call: &dyn Call) -> Vec<Part> {
     for (name, argument) in call.arguments() {
         let (kind, length) = match argument {
             Argument::Number(_) | Argument::Input(_) => continue,
+            Argument::InPlace(bytes) => (Kind::Bytes, bytes.len()),
             Argument::Room(length) | Argument::FixedRoom(length) => (Kind::Bytes, length),
             Argument::Numbers(count) => (Kind::Numbers, 8 * count),
         };
@@ -106,7 +107,8 @@ pub fn parts(call: &dyn Call) -> Vec<Part> {
 #[cfg(test)]
 mod tests {
     use super::*;
-    use crate::calls::{Contents, Store, Width, WriteOpen};
+    use crate::calls::{Contents, Make, Receive, SendMessage, Store, Width, WriteOpen};
+    use crate::endpoint::{Role, Send};
     use crate::open::Opening;
 
     fn expected(call: &dyn Call) -> Vec<u8> {
@@ -118,15 +120,30 @@ mod tests {
     #[test]
     fn an_answer_is_as_long_as_its_parts() {
         let opening = Opening { producer: true, name: b"n".to_vec(), format: Vec::new(), limit: 0 };
-        let calls: [Box<dyn Call>; 3] = [
+        let (block, name, format) = (vec![9; 63], b"n".to_vec(), Vec::new());
+        let opens = Send::Open { name: name.clone(), format: format.clone() };
+        let calls: [Box<dyn Call>; 6] = [
             Box::new(Contents { bundle: vec![0, 0] }),
             Box::new(Store { width: Width::Two, room: 5, at: 1, number: 0x1234 }),
             Box::new(WriteOpen { room: 7, at: 0, opening }),
+            Box::new(Make { role: Role::Server, block: block.clone(), flow: 1, limit: 0 }),
+            Box::new(SendMessage { block: block.clone(), send: opens, room: 5 }),
+            Box::new(Receive { block, message: vec![0, 0], name, format, room: 5 }),
         ];
         for call in calls {
             let length: usize = parts(call.as_ref()).iter().map(|part| part.length).sum();
             assert_eq!(expected(call.as_ref()).len(), length);
         }
+    }
+
+    #[test]
+    fn what_is_changed_in_place_comes_back_between_its_guards() {
+        let answer = expected(&Make { role: Role::Server, block: vec![9; 64], flow: 1, limit: 0 });
+        let mut area = area(1, 64);
+        area[GUARD..GUARD + 64].fill(0);
+        area[GUARD..GUARD + 2].copy_from_slice(&[2, 1]);
+        area[GUARD + 8..GUARD + 12].copy_from_slice(&[0x02, 0xFA, 0xF0, 0x80]);
+        assert_eq!(answer[10..], area);
     }
 
     #[test]

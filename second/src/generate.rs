@@ -4,6 +4,7 @@ mod broken;
 mod bundles;
 mod bytes;
 mod control;
+mod endpoint;
 mod fields;
 mod indexes;
 mod limits;
@@ -74,6 +75,27 @@ pub const EXHAUSTIVE: &[Set] = &[
     Set { kind: "every room for an OPEN frame", make: open::writers::every_room },
     Set { kind: "OPEN frames of every length to write", make: open::writers::every_length },
     Set { kind: "OPEN frames of every limit, written and read", make: open::writers::every_limit },
+    Set { kind: "the marked cases and the slips", make: endpoint::marked::cases },
+    Set { kind: "OPENs serialized by Google's protobuf", make: endpoint::opens::stored },
+    Set { kind: "every flow and limit to make", make: endpoint::making::every_flow_and_limit },
+    Set { kind: "blocks of every length to make", make: endpoint::making::every_length },
+    Set { kind: "blocks of every length", make: endpoint::blocks::every_length },
+    Set { kind: "every byte of a block", make: endpoint::blocks::every_byte },
+    Set { kind: "every message to every kind of block", make: endpoint::every::messages },
+    Set { kind: "every control byte to every kind of block", make: endpoint::every::control_bytes },
+    Set { kind: "every flags byte to every kind of block", make: endpoint::every::flags },
+    Set { kind: "every confirmation", make: endpoint::every::confirmations },
+    Set { kind: "every send from every kind of block", make: endpoint::every::sends },
+    Set { kind: "every code of CLOSE", make: endpoint::every::codes },
+    Set { kind: "counts of READY around what is offered", make: endpoint::every::counts },
+    Set { kind: "every room for sends and replies", make: endpoint::every::rooms },
+    Set { kind: "every name and format to open", make: endpoint::sends::every_opening },
+    Set { kind: "sizes around the limit", make: endpoint::sizes::around_the_limit },
+    Set { kind: "messages that are too large and more", make: endpoint::sizes::with_other_causes },
+    Set { kind: "sizes of some megabytes", make: endpoint::sizes::of_some_megabytes },
+    Set { kind: "sizes around the largest limit", make: endpoint::sizes::around_the_largest },
+    Set { kind: "OPEN frames around the longest", make: endpoint::sizes::long_opens },
+    Set { kind: "sessions closed in every phase", make: endpoint::sessions::closed_in_every_phase },
 ];
 
 pub const GENERATED: &[Set] = &[
@@ -129,6 +151,27 @@ pub const GENERATED: &[Set] = &[
     Set { kind: "random fields read as an OPEN frame", make: open::damaged::random_fields },
     Set { kind: "random OPEN frames to write", make: open::writers::random_writes },
     Set { kind: "OPEN frames written and read", make: open::writers::round_trips },
+    Set { kind: "endpoints to make", make: endpoint::making::random_makes },
+    Set { kind: "blocks that are bad for one cause", make: endpoint::blocks::one_cause },
+    Set { kind: "damaged and random blocks", make: endpoint::blocks::damaged },
+    Set { kind: "sends that fit", make: endpoint::sends::fitting_sends },
+    Set { kind: "sends a step off", make: endpoint::sends::steps_off },
+    Set { kind: "random sends", make: endpoint::sends::random_sends },
+    Set { kind: "messages that are heard", make: endpoint::drafts::valid_messages },
+    Set { kind: "messages to any endpoint", make: endpoint::drafts::to_any_endpoint },
+    Set { kind: "messages refused for one cause", make: endpoint::broken::one_cause },
+    Set { kind: "OPENs refused for their frame", make: endpoint::broken::refused_opens },
+    Set { kind: "OPENs sent and heard", make: endpoint::opens::round_trips },
+    Set { kind: "OPENs of random fields", make: endpoint::opens::random_fields },
+    Set { kind: "messages with some causes", make: endpoint::broken::some_causes },
+    Set { kind: "messages damaged at every byte", make: endpoint::damaged::damaged },
+    Set { kind: "messages with a byte moved", make: endpoint::damaged::shifted },
+    Set { kind: "messages cut at every byte", make: endpoint::damaged::cut },
+    Set { kind: "messages with bytes behind", make: endpoint::damaged::bytes_behind },
+    Set { kind: "random bytes to any endpoint", make: endpoint::damaged::random_bytes },
+    Set { kind: "sessions", make: endpoint::sessions::sessions },
+    Set { kind: "sessions of many confirmations", make: endpoint::sessions::of_many_confirmations },
+    Set { kind: "sessions of large data", make: endpoint::sessions::of_large_data },
 ];
 
 /// Adds a call.

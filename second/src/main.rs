@@ -9,6 +9,7 @@ mod bytes;
 mod calls;
 mod compare;
 mod control;
+mod endpoint;
 mod framing;
 mod generate;
 mod host;

@@ -39,14 +39,19 @@ pub fn answers(call: &dyn Call, model: &[u8], library: &[u8]) -> String {
 fn argument_text(argument: &Argument) -> String {
     match argument {
         Argument::Number(number) => format!("{number} ({number:#x})"),
-        Argument::Input(bytes) if bytes.len() <= WHOLE_ARGUMENT => format!("{} bytes: {}", bytes.len(), hex(bytes)),
-        Argument::Input(bytes) => {
-            let (start, end) = (&bytes[..ARGUMENT_START], &bytes[bytes.len() - ARGUMENT_END..]);
-            format!("{} bytes: {} .. {}", bytes.len(), hex(start), hex(end))
-        }
+        Argument::Input(bytes) | Argument::InPlace(bytes) => given_text(bytes),
         Argument::Room(length) | Argument::FixedRoom(length) => format!("room for {length} bytes"),
         Argument::Numbers(count) => format!("{count} numbers"),
     }
+}
+
+/// The bytes of an argument, a long one cut to its start and its end.
+fn given_text(bytes: &[u8]) -> String {
+    if bytes.len() <= WHOLE_ARGUMENT {
+        return format!("{} bytes: {}", bytes.len(), hex(bytes));
+    }
+    let (start, end) = (&bytes[..ARGUMENT_START], &bytes[bytes.len() - ARGUMENT_END..]);
+    format!("{} bytes: {} .. {}", bytes.len(), hex(start), hex(end))
 }
 
 /// What one side says in one part of an answer; nothing for the parts that matter only where they differ.

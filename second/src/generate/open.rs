@@ -59,7 +59,7 @@ fn skipped_payload(random: &mut Random) -> Payload {
 }
 
 /// A text of 1 to 255 bytes, mostly short.
-fn short_text(random: &mut Random) -> Vec<u8> {
+pub fn short_text(random: &mut Random) -> Vec<u8> {
     let length = match random.between(0, 9) {
         0 => random.choose(&[1, 127, 128, 254, 255]),
         1 => random.between(1, 255),
@@ -91,7 +91,7 @@ pub fn other_text(random: &mut Random, text: &[u8]) -> Vec<u8> {
 }
 
 /// What a client opens a pipe with, with a good limit.
-fn opening(random: &mut Random) -> Opening {
+pub fn opening(random: &mut Random) -> Opening {
     let limit = match random.between(0, 5) {
         0 => random.choose(&[1_000_000, 1_000_001, 49_999_999]),
         1 | 2 => DEFAULT_LIMIT,
@@ -102,7 +102,7 @@ fn opening(random: &mut Random) -> Opening {
 }
 
 /// An offer that an opening meets; where it has no format, any one may be offered.
-fn offer(random: &mut Random, opening: &Opening) -> Offer {
+pub fn offer(random: &mut Random, opening: &Opening) -> Offer {
     let any_format = opening.format.is_empty() && random.one_in(2);
     let format = if any_format { other_text(random, b"format") } else { opening.format.clone() };
     Offer { producer: !opening.producer, name: opening.name.clone(), format }
@@ -124,7 +124,7 @@ fn said(random: &mut Random, opening: &Opening) -> Said {
 }
 
 /// A frame that meets an offer.
-fn met(random: &mut Random) -> (Said, Offer) {
+pub fn met(random: &mut Random) -> (Said, Offer) {
     let opening = opening(random);
     (said(random, &opening), offer(random, &opening))
 }

@@ -2,7 +2,7 @@
 
 use super::{add_frame, met, other_text, short_text, Said};
 use crate::generate::broken::{break_rule, Place, Rule, RULES};
-use crate::generate::messages::{Form, Message, Payload};
+use crate::generate::messages::{Form, Message, Payload, Written};
 use crate::generate::{limits, texts, trees, Calls};
 use crate::limit;
 use crate::open::{self, Offer, FORMAT, MOST_TEXT, NAME, PARAMETERS, SOCKET};
@@ -85,12 +85,17 @@ pub fn one_rule_broken(random: &mut Random) -> Calls {
     calls
 }
 
-fn add_broken(calls: &mut Calls, random: &mut Random, rule: &Rule) {
+/// A frame in which the rule is broken, and an offer.
+fn broken_frame(random: &mut Random, rule: &Rule) -> (Written, Offer) {
     let (mut message, offer) = message_and_offer(random);
     while !break_rule(rule, &mut message, random) {
         message = message_and_offer(random).0;
     }
-    let written = message.written();
+    (message.written(), offer)
+}
+
+fn add_broken(calls: &mut Calls, random: &mut Random, rule: &Rule) {
+    let (written, offer) = broken_frame(random, rule);
     let (number, heard) = open::heard(&written.bytes, 0, written.bytes.len() as u64, &offer);
     let mark = written.mark.expect("a breach is marked") as u64;
     assert_eq!((number, heard[8..].to_vec()), (UNREADABLE, vec![rule.kind as u64, mark]));
@@ -174,14 +179,31 @@ fn other_format(said: &mut Said, offer: &mut Offer, random: &mut Random) {
     said.format = Some(format);
 }
 
+/// A frame that is refused for this cause, and the offer.
+fn frame_with_cause(random: &mut Random, cause: &Cause) -> (Vec<u8>, Offer) {
+    let (mut said, mut offer) = met(random);
+    (cause.make)(&mut said, &mut offer, random);
+    (said.message(random).bytes(), offer)
+}
+
+/// A frame that is refused as 18 to 22, with its number and the offer.
+pub fn refused_frame(random: &mut Random) -> (u64, Vec<u8>, Offer) {
+    if random.one_in(4) {
+        let rule = any_rule(random);
+        let (written, offer) = broken_frame(random, rule);
+        return (UNREADABLE, written.bytes, offer);
+    }
+    let cause = &CAUSES[random.between(0, CAUSES.len() - 1)];
+    let (frame, offer) = frame_with_cause(random, cause);
+    (cause.number, frame, offer)
+}
+
 /// Every cause once; the model must give its number.
 pub fn one_cause(random: &mut Random) -> Calls {
     let mut calls = Calls::new();
     for cause in CAUSES {
         for _ in 0..25 {
-            let (mut said, mut offer) = met(random);
-            (cause.make)(&mut said, &mut offer, random);
-            let frame = said.message(random).bytes();
+            let (frame, offer) = frame_with_cause(random, cause);
             let (number, heard) = open::heard(&frame, 0, frame.len() as u64, &offer);
             assert_eq!((number, heard), (cause.number, [0; 10]));
             add_frame(&mut calls, random, &frame, &offer);

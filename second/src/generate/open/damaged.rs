@@ -77,13 +77,18 @@ pub fn random_bytes(random: &mut Random) -> Calls {
     calls
 }
 
+/// A few good and bad fields in any order, and an offer that they may meet.
+pub fn fields_and_offer(random: &mut Random) -> (Vec<u8>, Offer) {
+    let count = random.between(2, 8);
+    let frame = (0..count).flat_map(|_| random.choose(&every::FIELDS).to_vec()).collect();
+    (frame, every::offer(random))
+}
+
 /// A few good and bad fields in any order.
 pub fn random_fields(random: &mut Random) -> Calls {
     let mut calls = Calls::new();
     for _ in 0..200 {
-        let count = random.between(2, 8);
-        let frame: Vec<u8> = (0..count).flat_map(|_| random.choose(&every::FIELDS).to_vec()).collect();
-        let offer = every::offer(random);
+        let (frame, offer) = fields_and_offer(random);
         add_frame(&mut calls, random, &frame, &offer);
     }
     calls

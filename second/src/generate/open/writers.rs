@@ -68,7 +68,7 @@ pub fn every_limit(random: &mut Random) -> Calls {
 }
 
 /// What a client may give as a name or a format: mostly a good one, now and then empty, too long or not UTF-8.
-fn given_text(random: &mut Random) -> Vec<u8> {
+pub fn given_text(random: &mut Random) -> Vec<u8> {
     match random.between(0, 11) {
         0 => Vec::new(),
         1 => texts::bad(random),

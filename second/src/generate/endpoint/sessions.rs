@@ -1,0 +1,403 @@
+//! Sessions: a fresh client and a fresh server with a queue of messages to each, and any schedule of sends and
+//! deliveries.
+//!
+//! Every block and message that is lent is the one that the model gave in the call before. The comparison ends at the
+//! first answer that differs, so it is also the one that the library gave.
+//!
+//! On the way it is watched that the two ends understand each other: neither refuses a message of the other, but for an
+//! OPEN for what is not offered and for what comes after its own close; the data accepted are the first of those sent,
+//! and no more than the client has agreed to; and while neither has closed and nothing is on its way, one of them may
+//! still send something other than NOOP and CLOSE.
+
+use std::collections::VecDeque;
+
+use super::{blocks, reply_room, room_for, sends, REPLY};
+use crate::calls::{Make, Receive, SendMessage};
+use crate::endpoint::{self, Flow, Phase, Role, Send, State, ACK_REPLY, BLOCK, DATA};
+use crate::generate::open::{other_text, short_text};
+use crate::generate::{add, Calls};
+use crate::open::{NOT_OFFERED, OTHER_FORMAT};
+use crate::random::Random;
+
+/// The room that every message but a DATA fits into.
+const ENOUGH: usize = 700;
+
+/// The two ends.
+const CLIENT: usize = 0;
+const SERVER: usize = 1;
+const ENDS: [usize; 2] = [CLIENT, SERVER];
+
+/// How a session goes: each is done one in so many times.
+#[derive(Clone, Copy)]
+struct Temper {
+    /// The ends do not go together: the flow, name or format is not the offered one.
+    strangers: u64,
+    /// What is on its way is left waiting.
+    waits: u64,
+    /// A NOOP or DATA does not ask for a confirmation.
+    no_ask: u64,
+    /// A step closes.
+    closes: u64,
+    /// A step gives bad arguments or too little room.
+    errs: u64,
+    /// A READY has a count so large that its batch will not end.
+    long: u64,
+    /// A body is as long as the limit allows, or a byte longer.
+    large: u64,
+}
+
+const NEVER: u64 = u64::MAX;
+const EVEN: Temper = Temper { strangers: 10, waits: 3, no_ask: 2, closes: 150, errs: 12, long: 20, large: NEVER };
+
+/// An end: its block, the messages that are on their way to it, and whether it wrote a CLOSE.
+struct End {
+    block: Vec<u8>,
+    inbox: VecDeque<Vec<u8>>,
+    has_closed: bool,
+}
+
+impl End {
+    fn state(&self) -> State {
+        State::read(&self.block).expect("a block that an endpoint leaves is good")
+    }
+}
+
+/// What a DATA carries: its type-data and its body.
+type Item = (u16, Vec<u8>);
+
+struct Session<'a> {
+    random: &'a mut Random,
+    calls: &'a mut Calls,
+    temper: Temper,
+    ends: [End; 2],
+    opened: (Vec<u8>, Vec<u8>),
+    offered: (Vec<u8>, Vec<u8>),
+    /// Whether the flows go together, and whether the client has opened what the server offers.
+    flows_meet: bool,
+    meets: bool,
+    sent: Vec<Item>,
+    accepted: usize,
+    agreed: usize,
+}
+
+impl<'a> Session<'a> {
+    /// Two fresh ends, whose flows, names and formats mostly go together.
+    fn new(random: &'a mut Random, calls: &'a mut Calls, temper: Temper, flow: Flow) -> Session<'a> {
+        let (name, format) = (short_text(random), if random.one_in(2) { Vec::new() } else { short_text(random) });
+        let mut offered = (name.clone(), format.clone());
+        let mut server_flow = flow.other();
+        if random.one_in(temper.strangers) {
+            match random.between(0, 3) {
+                0 => server_flow = flow,
+                1 => offered.0 = other_text(random, &name),
+                _ => offered.1 = other_text(random, &format),
+            }
+        }
+        let limit = match temper.large {
+            NEVER => blocks::limit(random),
+            _ => random.choose(&[1_000_000, 1_000_001, 1_000_100]),
+        };
+        let ends = [(Role::Client, flow), (Role::Server, server_flow)].map(|(role, flow)| {
+            let make = Make { role, block: random.bytes(BLOCK), flow: flow as u8, limit };
+            let limit = if role == Role::Client { limit } else { 50_000_000 };
+            let (number, block) = endpoint::make(&make.block, role, flow as u8, limit);
+            assert_eq!(number, 0);
+            add(calls, make);
+            End { block, inbox: VecDeque::new(), has_closed: false }
+        });
+        let (opened, flows_meet) = ((name, format), server_flow != flow);
+        let (sent, accepted, agreed) = (Vec::new(), 0, 0);
+        Session { random, calls, temper, ends, opened, offered, flows_meet, meets: false, sent, accepted, agreed }
+    }
+
+    fn phase(&self, end: usize) -> Phase {
+        self.ends[end].state().phase
+    }
+
+    /// Sends from an end into a room of so many bytes.
+    fn send_into(&mut self, end: usize, send: &Send, room: usize) {
+        let block = self.ends[end].block.clone();
+        let sent = endpoint::send(&block, send, &vec![0; room]);
+        add(self.calls, SendMessage { block, send: send.clone(), room });
+        if sent.number == 0 {
+            self.ends[end].block = sent.block;
+            self.ends[1 - end].inbox.push_back(sent.out[..sent.written as usize].to_vec());
+            self.note(end, send);
+        }
+    }
+
+    /// Notes what the watch needs to know of a send.
+    fn note(&mut self, end: usize, send: &Send) {
+        match send {
+            Send::Ready { count } if end == CLIENT => self.agreed += usize::from(*count),
+            Send::Data { type_data, body, .. } => self.sent.push((*type_data, body.clone())),
+            Send::Close { .. } => self.ends[end].has_closed = true,
+            Send::Open { name, format } => {
+                let format_meets = format.is_empty() || *format == self.offered.1;
+                self.meets = self.flows_meet && *name == self.offered.0 && format_meets;
+            }
+            Send::Ready { .. } | Send::Noop { .. } => {}
+        }
+    }
+
+    /// Sends from an end into a room that is mostly long enough.
+    fn send(&mut self, end: usize, send: &Send) {
+        let needed = sends::needed(&self.ends[end].state(), send);
+        let room = if self.random.one_in(self.temper.errs) { room_for(self.random, needed) } else { needed };
+        self.send_into(end, send, room);
+    }
+
+    /// Delivers the oldest message to an end, into a room that is mostly long enough for the reply.
+    fn deliver(&mut self, end: usize) {
+        let Some(message) = self.ends[end].inbox.front().cloned() else {
+            return;
+        };
+        let room = reply_room(self.random);
+        let (name, format) = self.offered.clone();
+        let block = self.ends[end].block.clone();
+        let received = endpoint::receive(&block, &message, &name, &format, &vec![0; room]);
+        add(self.calls, Receive { block, message: message.clone(), name, format, room });
+        if received.number == endpoint::SHORT_OUTPUT {
+            return;
+        }
+        self.ends[end].inbox.pop_front();
+        self.watch(end, &message, received.number, &received.heard);
+        self.ends[end].block = received.block;
+        if received.heard[3] != 0 {
+            self.ends[1 - end].inbox.push_back(received.out[..REPLY].to_vec());
+        }
+    }
+
+    /// Watches what came of a message.
+    fn watch(&mut self, end: usize, message: &[u8], number: u64, heard: &[u64; 16]) {
+        match number {
+            0 => self.watch_data(message, heard),
+            endpoint::IS_CLOSED => assert!(self.ends[end].has_closed, "only an end that has closed hears nothing"),
+            NOT_OFFERED | OTHER_FORMAT => {
+                assert!(end == SERVER && !self.meets, "an OPEN for what is offered is heard");
+                self.ends[end].has_closed = true;
+            }
+            _ => panic!("an end refuses as {number} what the other sent: {message:?}"),
+        }
+    }
+
+    /// Watches the data that are accepted: the next that was sent, and no more than was agreed to.
+    fn watch_data(&mut self, message: &[u8], heard: &[u64; 16]) {
+        if heard[0] != u64::from(DATA) || heard[1] & u64::from(ACK_REPLY) != 0 {
+            return;
+        }
+        let body = &message[heard[12] as usize..][..heard[13] as usize];
+        let (type_data, sent) = &self.sent[self.accepted];
+        assert!(heard[2] == u64::from(*type_data) && body == sent, "data are accepted as they were sent");
+        self.accepted += 1;
+        assert!(self.accepted <= self.agreed, "no more data are accepted than were agreed to");
+    }
+
+    /// Where neither end has closed and nothing is on its way, one of them may still send something other than NOOP and
+    /// CLOSE, and they agree on phase, count and limit, and await no confirmation.
+    fn watch_progress(&mut self) {
+        let closed = ENDS.iter().any(|end| self.phase(*end) == Phase::Closed);
+        if closed || self.ends.iter().any(|end| !end.inbox.is_empty()) {
+            return;
+        }
+        let [client, server] = [self.ends[CLIENT].state(), self.ends[SERVER].state()];
+        assert_eq!((client.phase, client.n), (server.phase, server.n));
+        assert!(client.phase == Phase::Fresh || client.limit == server.limit, "one limit holds for both");
+        assert!(client.awaited.is_empty() && server.awaited.is_empty(), "all that was asked is confirmed");
+        let (name, format) = self.opened.clone();
+        let sends =
+            [Send::Open { name, format }, Send::Ready { count: 1 }, Send::Data { type_data: 0, ask: 0, body: vec![] }];
+        let told = self.random.one_in(3);
+        for (end, send) in ENDS.iter().flat_map(|end| sends.iter().map(move |send| (*end, send))) {
+            let block = self.ends[end].block.clone();
+            let number = endpoint::send(&block, send, &[0; ENOUGH]).number;
+            if told {
+                add(self.calls, SendMessage { block, send: send.clone(), room: ENOUGH });
+            }
+            if number == 0 {
+                return;
+            }
+        }
+        panic!("neither end may send anything but NOOP and CLOSE in phase {:?}", client.phase);
+    }
+
+    /// An ask for a confirmation, or none.
+    fn ask(&mut self) -> u8 {
+        u8::from(!self.random.one_in(self.temper.no_ask))
+    }
+
+    fn body(&mut self, limit: u32) -> Vec<u8> {
+        if self.random.one_in(self.temper.large) {
+            let length = limit as usize - 8 + self.random.between(0, 1);
+            return vec![self.random.byte(); length];
+        }
+        let length = if self.random.one_in(30) { self.random.between(100, 500) } else { self.random.between(0, 24) };
+        self.random.bytes(length)
+    }
+
+    /// A count for a READY: mostly small, so that batches end.
+    fn count(&mut self, most: u16) -> u16 {
+        if self.random.one_in(self.temper.long) {
+            let any = self.random.between(0, most.into()) as u16;
+            return self.random.choose(&[any, most]);
+        }
+        self.random.choose(&[0, 1, 1, 2, 3, 5, 17]).min(most)
+    }
+
+    /// Whether an end has something other than NOOP and CLOSE to send.
+    fn has_turn(&self, end: usize) -> bool {
+        let state = self.ends[end].state();
+        match (state.role, state.phase) {
+            (_, Phase::Batch) => state.is_producer(),
+            (Role::Client, phase) => matches!(phase, Phase::Fresh | Phase::Offer),
+            (Role::Server, phase) => matches!(phase, Phase::Opening | Phase::Idle),
+        }
+    }
+
+    /// What an end may send next; one that waits for the other has only NOOPs to send.
+    fn next_send(&mut self, end: usize) -> Send {
+        let state = self.ends[end].state();
+        let type_data = blocks::type_data(self.random);
+        let noop = self.random.one_in(8);
+        match (state.role, state.phase) {
+            (_, Phase::Closed) => {
+                let mut sends = sends::one_of_each(self.random).to_vec();
+                sends.swap_remove(self.random.between(0, sends.len() - 1))
+            }
+            (Role::Client, Phase::Fresh) => {
+                let (name, format) = self.opened.clone();
+                Send::Open { name, format }
+            }
+            (Role::Client, Phase::Offer) if !noop => Send::Ready { count: self.count(state.n) },
+            (Role::Server, Phase::Idle) if !noop => Send::Ready { count: self.count(u16::MAX) },
+            (Role::Server, Phase::Opening) => Send::Ready { count: self.count(u16::MAX) },
+            (_, Phase::Batch) if state.is_producer() && !noop => {
+                let (ask, body) = (self.ask(), self.body(state.limit));
+                Send::Data { type_data, ask, body }
+            }
+            _ => Send::Noop { type_data, ask: self.ask() },
+        }
+    }
+
+    /// A send that may be refused, but neither opens nor closes.
+    fn any_send(&mut self) -> Send {
+        let [_, ready, data, noop, _] = sends::one_of_each(self.random);
+        match self.random.between(0, 5) {
+            0 => Send::Open { name: Vec::new(), format: Vec::new() },
+            1 => Send::Close { code: self.random.choose(&[7, 99, 104, 255, 65_535]) },
+            2 if self.temper.long != NEVER => ready,
+            3 if self.temper.long != NEVER => Send::Ready { count: u16::MAX },
+            4 => data,
+            _ => noop,
+        }
+    }
+
+    /// One step: a delivery, a send, or a close.
+    fn step(&mut self) {
+        let end = self.random.choose(&ENDS);
+        if !self.ends[end].inbox.is_empty() && !self.random.one_in(self.temper.waits) {
+            self.deliver(end);
+        } else if self.random.one_in(self.temper.closes) {
+            let code = self.random.choose(&[0, 1, 2, 3, 4, 5, 6, 100, 101, 102, 103]);
+            self.send(end, &Send::Close { code });
+        } else if self.random.one_in(self.temper.errs) {
+            let send = self.any_send();
+            self.send(end, &send);
+        } else {
+            let end = if self.has_turn(end) || self.random.one_in(8) { end } else { 1 - end };
+            let send = self.next_send(end);
+            self.send(end, &send);
+        }
+        self.watch_progress();
+    }
+
+    /// Goes on for so many steps, but not long after both ends are closed.
+    fn go(&mut self, steps: usize) {
+        for _ in 0..steps {
+            let over = ENDS.iter().all(|end| self.phase(*end) == Phase::Closed);
+            if over && self.random.one_in(6) {
+                return;
+            }
+            self.step();
+        }
+    }
+
+    /// Goes on until an end is in this phase, which then closes with this code, and delivers what is on its way.
+    fn close_in(&mut self, end: usize, phase: Phase, code: u16) {
+        while self.phase(end) != phase {
+            assert_ne!(self.phase(end), Phase::Closed, "nobody has closed yet");
+            self.step();
+        }
+        self.send_into(end, &Send::Close { code }, REPLY);
+        self.drain();
+    }
+
+    /// Delivers until nothing is on its way.
+    fn drain(&mut self) {
+        while self.ends.iter().any(|end| !end.inbox.is_empty()) {
+            let end = self.random.choose(&ENDS);
+            self.deliver(end);
+            self.watch_progress();
+        }
+    }
+}
+
+/// Adds a session of so many steps.
+fn add_session(calls: &mut Calls, random: &mut Random, temper: Temper, steps: usize) {
+    let flow = random.choose(&Flow::ALL);
+    let mut session = Session::new(random, calls, temper, flow);
+    session.go(steps);
+    session.drain();
+}
+
+/// Sessions of all lengths.
+pub fn sessions(random: &mut Random) -> Calls {
+    let mut calls = Calls::new();
+    for _ in 0..30 {
+        let steps = random.between(20, 200);
+        add_session(&mut calls, random, EVEN, steps);
+    }
+    calls
+}
+
+/// Sessions in which little is delivered and much is asked, so that confirmations are awaited up to the most.
+pub fn of_many_confirmations(random: &mut Random) -> Calls {
+    let mut calls = Calls::new();
+    for _ in 0..6 {
+        let steps = random.between(60, 160);
+        let waits = random.choose(&[1, 2, 2]);
+        let temper = Temper { waits: 2, no_ask: 10, ..EVEN };
+        let flow = random.choose(&Flow::ALL);
+        let mut session = Session::new(random, &mut calls, temper, flow);
+        session.go(40);
+        session.temper.waits = waits;
+        session.go(steps);
+        session.drain();
+    }
+    calls
+}
+
+/// Now and then a session with data as long as the limit allows.
+pub fn of_large_data(random: &mut Random) -> Calls {
+    let mut calls = Calls::new();
+    let large = if random.one_in(8) { 3 } else { NEVER };
+    add_session(&mut calls, random, Temper { strangers: NEVER, large, ..EVEN }, 100);
+    calls
+}
+
+/// Sessions that either end closes in each phase with each code, and in which all that is on its way is then delivered.
+pub fn closed_in_every_phase(random: &mut Random) -> Calls {
+    let mut calls = Calls::new();
+    let temper = Temper { strangers: NEVER, closes: NEVER, long: NEVER, ..EVEN };
+    for phase in [Phase::Opening, Phase::Idle, Phase::Offer, Phase::Batch] {
+        for end in ENDS {
+            for code in [0, 1, 2, 3, 4, 5, 6, 7, 99, 100, 101, 102, 103, 104, 65_535] {
+                for flow in Flow::ALL {
+                    let mut session = Session::new(random, &mut calls, temper, flow);
+                    session.close_in(end, phase, code);
+                }
+            }
+        }
+    }
+    calls
+}

@@ -1,0 +1,139 @@
+//! Tests of the sets: which numbers they reach, and that the sessions go where they should.
+
+use std::collections::{BTreeMap, BTreeSet};
+
+use super::*;
+use crate::calls::{Argument, Call, Written};
+use crate::endpoint::State;
+use crate::generate::Calls;
+
+/// The number that the model answers to a call, and the block before and afterwards.
+fn answered(call: &dyn Call) -> (u64, Vec<u8>, Vec<u8>) {
+    let arguments = call.arguments();
+    let rooms: Vec<Vec<u8>> = arguments
+        .iter()
+        .filter_map(|(_, argument)| match argument {
+            Argument::Room(length) => Some(vec![7; *length]),
+            _ => None,
+        })
+        .collect();
+    let Some((_, Argument::InPlace(before))) = arguments.first() else {
+        unreachable!("an endpoint's first argument is its block");
+    };
+    let answer = call.answer(&rooms);
+    let Some(Written::Bytes(after)) = answer.written.into_iter().next() else {
+        unreachable!("an endpoint's block comes first in the answer");
+    };
+    (answer.returned, before.to_vec(), after)
+}
+
+/// How often each function answers each number in some rounds of a set.
+fn numbers(rounds: usize, make: fn(&mut Random) -> Calls) -> BTreeMap<(&'static str, u64), usize> {
+    let mut random = Random::new(3);
+    let mut numbers = BTreeMap::new();
+    for _ in 0..rounds {
+        for call in make(&mut random) {
+            let (number, _, _) = answered(call.as_ref());
+            *numbers.entry((call.function().name(), number)).or_insert(0) += 1;
+        }
+    }
+    numbers
+}
+
+fn numbers_of(function: &str, rounds: usize, make: fn(&mut Random) -> Calls) -> BTreeSet<u64> {
+    let all = numbers(rounds, make);
+    all.keys().filter(|(name, _)| *name == function).map(|(_, number)| *number).collect()
+}
+
+#[test]
+fn the_marked_cases_are_answered_as_they_are_told() {
+    assert!(!marked::cases(&mut Random::new(0)).is_empty());
+}
+
+#[test]
+fn messages_are_heard_or_refused_as_they_were_meant() {
+    assert_eq!(numbers_of("fbdp_receive", 3, drafts::valid_messages), BTreeSet::from([0, 2]));
+    let refused = numbers_of("fbdp_receive", 3, broken::one_cause);
+    assert_eq!(refused, BTreeSet::from([2, 10, 11, 12, 13, 14, 15, 16, 17, 23, 24]));
+    assert_eq!(numbers_of("fbdp_receive", 3, broken::refused_opens), BTreeSet::from([2, 18, 19, 20, 21, 22]));
+}
+
+/// The sets themselves hold the model to what was put in.
+#[test]
+fn opens_are_heard_as_they_were_sent() {
+    let mut random = Random::new(8);
+    opens::stored(&mut random);
+    opens::round_trips(&mut random);
+}
+
+#[test]
+fn bad_blocks_are_refused_by_every_function() {
+    let numbers = numbers(2, blocks::one_cause);
+    assert_eq!(numbers.keys().map(|(_, number)| *number).collect::<BTreeSet<_>>(), BTreeSet::from([1]));
+    assert_eq!(numbers.len(), 6);
+}
+
+#[test]
+fn sends_reach_every_number() {
+    let reached =
+        |function| &numbers_of(function, 6, sends::steps_off) | &numbers_of(function, 6, sends::fitting_sends);
+    assert_eq!(reached("fbdp_send_open"), BTreeSet::from([0, 2, 3, 30, 34]));
+    assert_eq!(reached("fbdp_send_ready"), BTreeSet::from([0, 2, 3, 30, 31]));
+    assert_eq!(reached("fbdp_send_data"), BTreeSet::from([0, 2, 3, 30, 32]));
+    assert_eq!(reached("fbdp_send_noop"), BTreeSet::from([0, 2, 3, 30, 32]));
+    assert_eq!(reached("fbdp_send_close"), BTreeSet::from([0, 2, 3, 30, 35]));
+    assert!(numbers_of("fbdp_send_data", 1, sizes::around_the_limit).contains(&33));
+}
+
+/// The sessions themselves watch that the two ends understand each other.
+#[test]
+fn sessions_go_through_every_phase_up_to_every_confirmation() {
+    let mut random = Random::new(11);
+    let (mut phases, mut awaited, mut numbers) = (BTreeSet::new(), BTreeSet::new(), BTreeSet::new());
+    for _ in 0..40 {
+        let calls =
+            [sessions::sessions(&mut random), sessions::of_many_confirmations(&mut random)].into_iter().flatten();
+        for call in calls {
+            let (number, _, after) = answered(call.as_ref());
+            let state = State::read(&after).expect("a session's blocks are good");
+            phases.insert((state.role as u8, state.flow as u8, state.phase as u8));
+            awaited.insert(state.awaited.len());
+            numbers.insert((call.function().name(), number));
+        }
+    }
+    assert_eq!(phases.len(), 2 * 2 * 6);
+    assert_eq!(awaited, (0..=16).collect());
+    for number in [0, 2, 3, 21, 22] {
+        assert!(numbers.contains(&("fbdp_receive", number)));
+    }
+    assert!(numbers.contains(&("fbdp_send_noop", 32)) && numbers.contains(&("fbdp_send_data", 32)));
+}
+
+#[test]
+fn sessions_of_large_data_meet_the_limit() {
+    let mut random = Random::new(4);
+    let numbers: BTreeSet<u64> =
+        (0..30).flat_map(|_| sessions::of_large_data(&mut random)).map(|call| answered(call.as_ref()).0).collect();
+    assert!(numbers.contains(&33));
+}
+
+#[test]
+fn either_end_closes_in_every_phase_with_every_code() {
+    let calls = sessions::closed_in_every_phase(&mut Random::new(2));
+    let mut closes = BTreeSet::new();
+    for call in calls.iter().filter(|call| call.function().name() == "fbdp_send_close") {
+        let (number, before, _) = answered(call.as_ref());
+        let Some((_, Argument::Number(code))) = call.arguments().into_iter().nth(1) else {
+            unreachable!("the code stands behind the block");
+        };
+        if number == 0 {
+            closes.insert((before[0], before[2], code));
+        }
+    }
+    for phase in 1..=4 {
+        for role in 1..=2 {
+            assert!((0..=6).all(|code| closes.contains(&(role, phase, code))), "role {role}, phase {phase}");
+        }
+    }
+    assert!((100..=103).all(|code| closes.contains(&(2, 1, code))));
+}
