@@ -10,12 +10,12 @@ use Rattle.endpoint.specs.declared.Endpoint.{Endpoint}
 use Rattle.endpoint.specs.declared.Loaded.{Loaded}
 use Rattle.endpoint.specs.Block.{isGood, loadOf, recordIn}
 use Rattle.receiving.specs.declared.Received.{Received}
-use Rattle.receiving.specs.Receiving.{ReceiveAnswer as Heard-by-record, receivedOf, replied}
+use Rattle.receiving.specs.Receiving.{ReceiveAnswer as Heard-by-record, answerNumber, receivedOf, replied}
 use Rattle.receiving.specs.Refusing.{unchanged}
 use Rattle.sending.specs.declared.Sent.{Sent}
 use Rattle.sending.specs.Calls.{Call, written}
 use Rattle.sending.specs.Sending.{SendAnswer as Sent-by-record, leftBy, sendOf}
-use Rattle.fbdp.specs.Blocks.{SendAnswer, ReceiveAnswer, Finished, answerNumber, answerSlots, receivedOn, replyLength, sentOn, stored}
+use Rattle.fbdp.specs.Blocks.{SendAnswer, ReceiveAnswer, Finished, answerSlots, receivedOn, replyLength, sentOn, stored}
 
 module _ (block : List ℕ) (loaded : Loaded) (said : loaded ≡ loadOf block) where
   holds-good : isGood block ≡ loaded .good

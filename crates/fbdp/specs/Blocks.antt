@@ -20,7 +20,7 @@ use Rattle.receiving.specs.declared.Reply.{Reply}
 use Rattle.receiving.specs.declared.Reply.the-variants.{Nothing as Reply·Nothing, Frame}
 use Rattle.receiving.specs.declared.Received.{Received}
 use Rattle.receiving.specs.Refusing.{unchanged}
-use Rattle.receiving.specs.Receiving.{replied, receivedOf}
+use Rattle.receiving.specs.Receiving.{answerNumber, replied, receivedOf}
 use Rattle.sending.specs.declared.Sent.{Sent}
 use Rattle.sending.specs.Calls.{Call, written}
 use Rattle.sending.specs.Sending.{unsent, sendOf, leftBy}
@@ -63,10 +63,6 @@ pub record SendAnswer (call : Call) (block out : List ℕ) (number count : ℕ) 
 unfoldable pub receivedOn : List ℕ → List ℕ → List ℕ → List ℕ → ℕ → Received
 receivedOn block s name format room =
     cond (isGood block) (receivedOf (recordIn block) s name format room) (unchanged (recordIn block) 1)
-
-abbrev pub answerNumber : Answer → ℕ
-answerNumber (Answer·Heard heard) = 0
-answerNumber (Refused number) = number
 
 -- "A reply is one bundle of 14 bytes"
 abbrev pub replyLength : Reply → ℕ

@@ -2,8 +2,9 @@
 ghost use mathlib.Core.Path.{_≡_};
 ghost use Rattle.endpoint.specs.Record.{client, server};
 ghost use Rattle.double.specs.Limit.{mostLimit};
+ghost use Rattle.receiving.specs.Receiving.{answerNumber};
 ghost use Rattle.sending.specs.Calls.{OPEN, READY, DATA, NOOP, CLOSE};
-ghost use Rattle.fbdp.specs.Blocks.{MakeAnswer, Finished, asksFor, SendAnswer, answerNumber, replyLength, contentSlots, heardSlots, answerSlots, ReceiveAnswer};
+ghost use Rattle.fbdp.specs.Blocks.{MakeAnswer, Finished, asksFor, SendAnswer, replyLength, contentSlots, heardSlots, answerSlots, ReceiveAnswer};
 ghost use Rattle.fbdp.specs.Entries.{frameSlots, FrameAnswer, valueSlots, ValueAnswer, termSlots, LookupAnswer};
 use bundle::Frame;
 use endpoint::Given;

@@ -10,11 +10,18 @@ use Rattle.bytes_be.specs.Part.{putAt}
 use Rattle.bundle.specs.Writing.{bundleOf}
 use Rattle.control.specs.Frame.{bytesOf}
 use Rattle.endpoint.specs.declared.Endpoint.{Endpoint}
+use Rattle.receiving.specs.declared.Answer.{Answer}
+use Rattle.receiving.specs.declared.Answer.the-variants.{Heard, Refused}
 use Rattle.receiving.specs.declared.Reply.{Reply}
 use Rattle.receiving.specs.declared.Reply.the-variants.{Nothing, Frame}
 use Rattle.receiving.specs.declared.Received.{Received}
 use Rattle.receiving.specs.Refusing.{unchanged}
 use Rattle.receiving.specs.Hearing.{hearOf}
+
+-- the number answered: 0 for a message that is heard
+abbrev pub answerNumber : Answer → ℕ
+answerNumber (Heard heard) = 0
+answerNumber (Refused number) = number
 
 -- the bytes of a reply
 abbrev pub replyBytes : Reply → List ℕ
