@@ -1,9 +1,10 @@
 /* One endpoint of the Firebird Butler Data Pipe Protocol (9/FBDP).
  *
  * Every function returns a number: FBDP_ACCEPTED, or the refusal that applies first. No function keeps a pointer,
- * allocates, or calls anything. A slice is a pointer and a length; an empty one may come with a null pointer. The
- * slices of one call must lie apart, and an output of numbers must not be null. Every call writes all its slots; a
- * refusal writes the zeros, or for fbdp_lookup the place, that stand beside the function. */
+ * allocates, or calls anything; all that an endpoint knows is the block of 64 bytes that the host lends with every call.
+ * A slice is a pointer and a length; an empty one may come with a null pointer. The slices of one call must lie apart,
+ * and an output of numbers must not be null. Every call writes all its slots; a refusal writes the zeros, or for
+ * fbdp_lookup the place, that stand beside the function. */
 #ifndef FBDP_H
 #define FBDP_H
 
@@ -17,11 +18,115 @@ extern "C" {
 /* The numbers answered. */
 enum {
     FBDP_ACCEPTED = 0,
+    FBDP_BAD_BLOCK = 1,            /* a block that has not 64 bytes, or is not good */
+    FBDP_NO_ROOM = 2,              /* an output that is too short for what is to be written */
+    FBDP_CLOSED = 3,               /* the endpoint is closed */
     FBDP_BAD_BUNDLE = 10,          /* not a frame count of 1 to 16, its lengths and its bodies, ending exactly */
-    FBDP_UNREADABLE = 18,          /* parameters or a Value that break a rule */
+    FBDP_BAD_CONTROL = 11,         /* a control frame that has not 8 bytes, or a wrong signature */
+    FBDP_OTHER_VERSION = 12,       /* a version other than 1 */
+    FBDP_UNKNOWN_TYPE = 13,        /* a type other than FBDP_OPEN to FBDP_CLOSE */
+    FBDP_BAD_FLAGS = 14,           /* unknown flags, both flags, or a confirmation of OPEN or READY */
+    FBDP_BAD_FRAMES = 15,          /* too many data frames, or too few */
+    FBDP_TOO_LARGE = 16,           /* a message above the limit, or an OPEN frame above 4,096 bytes */
+    FBDP_NOT_ALLOWED = 17,         /* a message that role, flow or phase does not allow */
+    FBDP_UNREADABLE = 18,          /* an OPEN frame, parameters or a Value that break a rule */
+    FBDP_OUT_OF_RANGE = 19,        /* OPEN: a name, a format, a socket or a limit out of range */
+    FBDP_UNKNOWN_SOCKET = 20,      /* OPEN: a socket of 3 or more */
+    FBDP_OTHER_PIPE = 21,          /* OPEN: another name or socket than the offered one */
+    FBDP_OTHER_FORMAT = 22,        /* OPEN: another format than the offered one */
+    FBDP_ABOVE_OFFER = 23,         /* READY: a count above the offer */
+    FBDP_UNMATCHED = 24,           /* a confirmation of anything but the oldest that is awaited */
+    FBDP_SEND_NOT_ALLOWED = 30,    /* a send that role, flow or phase does not allow */
+    FBDP_SEND_ABOVE_OFFER = 31,    /* an own READY with a count above the offer */
+    FBDP_TOO_MANY_ASKS = 32,       /* an ask with 16 confirmations awaited */
+    FBDP_SEND_TOO_LARGE = 33,      /* own DATA above the limit */
+    FBDP_BADLY_GIVEN = 34,         /* a bad name, format, flow or limit */
+    FBDP_BAD_CODE = 35,            /* a CLOSE code that may not be sent, or not now */
     FBDP_DEFAULTS_UNREADABLE = 36, /* a default Struct that breaks a rule */
     FBDP_NO_SUCH_TERM = 37         /* neither the parameters nor the default Struct has the key */
 };
+
+/* The block that holds an endpoint. It is the host's, and may be copied, stored and lent again; one that this
+ * library cannot have left is refused by FBDP_BAD_BLOCK. */
+enum { FBDP_BLOCK_BYTES = 64 };
+
+/* Which way the data goes: a producer sends DATA, a consumer receives it. */
+enum { FBDP_PRODUCER = 1, FBDP_CONSUMER = 2 };
+
+/* The most and the fewest bytes that may be agreed on for a message, all its frames taken together. */
+enum { FBDP_LEAST_LIMIT = 1000000, FBDP_MOST_LIMIT = 50000000 };
+
+/* Makes a fresh endpoint in a block of FBDP_BLOCK_BYTES, whatever stood there before: a client with the limit that it
+ * will announce, or a server, whose limit is FBDP_MOST_LIMIT until a client announces another.
+ * Refuses FBDP_BAD_BLOCK (the length alone is tested), FBDP_BADLY_GIVEN; a refusal leaves the block as it was. */
+uint32_t fbdp_make_client(uint8_t *block, size_t block_length, uint8_t flow, uint32_t limit);
+uint32_t fbdp_make_server(uint8_t *block, size_t block_length, uint8_t flow);
+
+/* The sends. Each writes one message from the start of `out` and nothing behind it, and says in `written` how many
+ * bytes it has. Each refuses FBDP_BAD_BLOCK, FBDP_CLOSED, FBDP_SEND_NOT_ALLOWED, what stands beside it, and last
+ * FBDP_NO_ROOM; a refusal changes no byte of `block` and `out`, and `written` is then 0. */
+
+/* OPEN, a client's first message: asks for the pipe of this name, 1 to 255 bytes of UTF-8, and format, at most 255.
+ * Refuses FBDP_BADLY_GIVEN. Its message has at most 570 bytes. */
+uint32_t fbdp_send_open(uint8_t *block, size_t block_length, const uint8_t *name, size_t name_length,
+                        const uint8_t *format, size_t format_length, uint8_t *out, size_t out_length,
+                        uint64_t *written);
+
+/* READY: a server offers a batch of `count` messages, and a client agrees to as many of them; 0 is for none now.
+ * Refuses FBDP_SEND_ABOVE_OFFER at a client. */
+uint32_t fbdp_send_ready(uint8_t *block, size_t block_length, uint16_t count, uint8_t *out, size_t out_length,
+                         uint64_t *written);
+
+/* DATA, by a producer in a batch: a number of the host's, a body that may be empty, and an ask for confirmation (0 for
+ * none). Its message has 18 bytes more than the body. Refuses FBDP_TOO_MANY_ASKS, FBDP_SEND_TOO_LARGE. */
+uint32_t fbdp_send_data(uint8_t *block, size_t block_length, uint16_t type_data, uint8_t ask, const uint8_t *body,
+                        size_t body_length, uint8_t *out, size_t out_length, uint64_t *written);
+
+/* NOOP: a number of the host's, and an ask for confirmation (0 for none). Refuses FBDP_TOO_MANY_ASKS. */
+uint32_t fbdp_send_noop(uint8_t *block, size_t block_length, uint16_t type_data, uint8_t ask, uint8_t *out,
+                        size_t out_length, uint64_t *written);
+
+/* CLOSE: the codes 0 to 6, and 100 to 103 by a server that has heard OPEN and not answered it yet.
+ * Refuses FBDP_BAD_CODE. */
+uint32_t fbdp_send_close(uint8_t *block, size_t block_length, uint16_t code, uint8_t *out, size_t out_length,
+                         uint64_t *written);
+
+/* The types of messages. */
+enum { FBDP_OPEN = 1, FBDP_READY = 2, FBDP_NOOP = 3, FBDP_DATA = 4, FBDP_CLOSE = 5 };
+
+/* The flags of a message. */
+enum { FBDP_ACK_REQUEST = 1, FBDP_ACK_REPLY = 2 };
+
+/* The slots that say what was heard. Places are offsets into the message. */
+enum {
+    FBDP_HEARD_TYPE = 0,              /* FBDP_OPEN to FBDP_CLOSE */
+    FBDP_HEARD_FLAGS = 1,             /* as they came */
+    FBDP_HEARD_TYPE_DATA = 2,         /* a count, a code, or a number of the other host's */
+    FBDP_HEARD_REPLY = 3,             /* bytes of the reply in `out`: 0 or FBDP_REPLY_BYTES; told of refusals too */
+    FBDP_HEARD_FRAMES = 4,            /* data frames of the message */
+    FBDP_HEARD_SOCKET = 5,            /* OPEN: 1 or 2 */
+    FBDP_HEARD_NAME_AT = 6,           /* OPEN: the pipe name */
+    FBDP_HEARD_NAME_LENGTH = 7,
+    FBDP_HEARD_FORMAT_AT = 8,         /* OPEN: the format; 0, 0 where there is none */
+    FBDP_HEARD_FORMAT_LENGTH = 9,
+    FBDP_HEARD_PARAMETERS_AT = 10,    /* OPEN: the parameters, for fbdp_lookup; 0, 0 where there are none */
+    FBDP_HEARD_PARAMETERS_LENGTH = 11,
+    FBDP_HEARD_BODY_AT = 12,          /* DATA that is no confirmation: its body */
+    FBDP_HEARD_BODY_LENGTH = 13,
+    FBDP_HEARD_SLOTS = 16             /* those that no message uses are 0 */
+};
+
+/* The room that a receive wants for a reply. */
+enum { FBDP_REPLY_BYTES = 14 };
+
+/* Receives one message, a whole bundle, at an endpoint that offers this pipe name and this format; a client lends two
+ * empty slices. No byte of a body is read. What `heard` calls a reply stands at the start of `out` and is to be sent.
+ * Refuses FBDP_BAD_BLOCK, FBDP_NO_ROOM (`out` under FBDP_REPLY_BYTES), FBDP_CLOSED, all of which change no byte, and
+ * FBDP_BAD_BUNDLE to FBDP_UNMATCHED, which close the endpoint: the reply, if there is one, is then the CLOSE. A refusal
+ * says 0 in every slot but FBDP_HEARD_REPLY. */
+uint32_t fbdp_receive(uint8_t *block, size_t block_length, const uint8_t *message, size_t message_length,
+                      const uint8_t *name, size_t name_length, const uint8_t *format, size_t format_length, uint8_t *out,
+                      size_t out_length, uint64_t heard[FBDP_HEARD_SLOTS]);
 
 /* The slots that say where a frame stands. */
 enum {
@@ -80,32 +185,6 @@ enum { FBDP_IN_CLIENT = 1, FBDP_IN_DEFAULTS = 2 };
  * Refuses FBDP_UNREADABLE, FBDP_DEFAULTS_UNREADABLE, FBDP_NO_SUCH_TERM, in this order, with FBDP_IN_CLIENT, 0, 0. */
 uint32_t fbdp_lookup(const uint8_t *client, size_t client_length, const uint8_t *defaults, size_t defaults_length,
                      const uint8_t *key, size_t key_length, uint64_t term[FBDP_TERM_SLOTS]);
-
-/* Makes an endpoint in a block of 64 bytes, whatever they were. Refuses 1, 34, and then changes no byte. */
-uint32_t fbdp_make_client(uint8_t *block, size_t block_length, uint8_t flow, uint32_t limit);
-uint32_t fbdp_make_server(uint8_t *block, size_t block_length, uint8_t flow);
-
-/* Each send writes its message from the start of `out`, with `written` its length. Each refuses some of 1, 3, 30, 31,
- * 32, 33, 34, 35, 2, in this order, with `written` 0 and no byte changed. An ask is any number but 0. */
-uint32_t fbdp_send_open(uint8_t *block, size_t block_length, const uint8_t *name, size_t name_length,
-                        const uint8_t *format, size_t format_length, uint8_t *out, size_t out_length,
-                        uint64_t *written);
-uint32_t fbdp_send_ready(uint8_t *block, size_t block_length, uint16_t count, uint8_t *out, size_t out_length,
-                         uint64_t *written);
-uint32_t fbdp_send_data(uint8_t *block, size_t block_length, uint16_t type_data, uint8_t ask, const uint8_t *body,
-                        size_t body_length, uint8_t *out, size_t out_length, uint64_t *written);
-uint32_t fbdp_send_noop(uint8_t *block, size_t block_length, uint16_t type_data, uint8_t ask, uint8_t *out,
-                        size_t out_length, uint64_t *written);
-uint32_t fbdp_send_close(uint8_t *block, size_t block_length, uint16_t code, uint8_t *out, size_t out_length,
-                         uint64_t *written);
-
-/* Receives one message; `name` and `format` are what a server offers. heard = type, flags, type-data, length of the
- * reply at the start of `out`, data frames, socket, place and length of name, of format, of parameters and of the body,
- * and two zeros. Refuses 1, 2, 3 with no byte changed and zeros, and 10 to 24 with the block closed and zeros but for
- * the length of the reply. */
-uint32_t fbdp_receive(uint8_t *block, size_t block_length, const uint8_t *message, size_t message_length,
-                      const uint8_t *name, size_t name_length, const uint8_t *format, size_t format_length,
-                      uint8_t *out, size_t out_length, uint64_t heard[16]);
 
 #ifdef __cplusplus
 }

@@ -1,4 +1,4 @@
-// What no entry of the C interface reaches yet, exported for the comparison with the second program.
+// The parts that the entries of the C interface are made of, exported for the comparison with the second program.
 ghost use mathlib.Core.Path.{_≡_};
 ghost use mathlib.Core.Bool.{cond};
 ghost use Prim.Native.Nat.{_-_};
