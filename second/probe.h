@@ -1,4 +1,4 @@
-/* What no entry of fbdp.h reaches yet, exported for the comparison alone by libprobe.a.
+/* The parts that the entries of fbdp.h are made of, exported for the comparison alone by libprobe.a.
  * Conventions are those of fbdp.h. */
 #ifndef PROBE_H
 #define PROBE_H

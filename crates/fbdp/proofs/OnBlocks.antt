@@ -32,10 +32,10 @@ module _ (block : List ℕ) (loaded : Loaded) (said : loaded ≡ loadOf block) w
 
     -- a bad block gets 1, and nothing is changed
 
-    pub send-refused : (call : Call) (out : List ℕ) → SendAnswer call block out 1 0 block out
+    pub send-refused : (call : Call) (out : List ℕ) (number count : ℕ) → (number ≡ 1) × (count ≡ 0) → SendAnswer call block out number count block out
     unfolding sentOn leftBy
-    send-refused call out =
-        record { numbered = simp not-good; counted = simp not-good; kept = simp not-good; left = simp not-good }
+    send-refused call out number count (one, none-written) =
+        record { numbered = simp not-good one; counted = simp not-good none-written; kept = simp not-good; left = simp not-good }
 
     pub receive-refused : (s name format out : List ℕ) → ReceiveAnswer s name format block out 1 (0 ∷ 0 ∷ 0 ∷ 0 ∷ 0 ∷ 0 ∷ 0 ∷ 0 ∷ 0 ∷ 0 ∷ 0 ∷ 0 ∷ 0 ∷ 0 ∷ 0 ∷ 0 ∷ []) block out
     unfolding receivedOn unchanged replied

@@ -133,6 +133,14 @@ pub extern "C" fn fbdp_make_server(block: &mut [u8], flow: u8) -> u32
     make(block, 2, flow, 50000000)
 }
 
+// The answer of a send on a bad block.
+fn bad_block(written: &mut u64) -> u32
+    ensures { λ r. ⌜ (r ≡ 1) × (now (written .exit) ≡ 0) ⌝ }
+{
+    *written = 0;
+    1
+}
+
 // Stores what came of a send on a good block.
 fn finish(sent: Sent, block: &mut [u8], written: &mut u64) -> u32
     ensures { λ r. ⌜ Finished sent (now (block .entry)) r (now (written .exit)) (now (block .exit)) ⌝ }
@@ -163,8 +171,7 @@ pub extern "C" fn fbdp_send_open(
 {
     let loaded = endpoint::load(block);
     if !loaded.good {
-        *written = 0;
-        return 1;
+        return bad_block(written);
     }
     let e = loaded.endpoint;
     finish(sending::send_open(e, name, format, out), block, written)
@@ -182,8 +189,7 @@ pub extern "C" fn fbdp_send_ready(
 {
     let loaded = endpoint::load(block);
     if !loaded.good {
-        *written = 0;
-        return 1;
+        return bad_block(written);
     }
     let e = loaded.endpoint;
     finish(sending::send_ready(e, count, out), block, written)
@@ -203,8 +209,7 @@ pub extern "C" fn fbdp_send_data(
 {
     let loaded = endpoint::load(block);
     if !loaded.good {
-        *written = 0;
-        return 1;
+        return bad_block(written);
     }
     let e = loaded.endpoint;
     let asked = asks_for(ask);
@@ -228,8 +233,7 @@ pub extern "C" fn fbdp_send_noop(
 {
     let loaded = endpoint::load(block);
     if !loaded.good {
-        *written = 0;
-        return 1;
+        return bad_block(written);
     }
     let e = loaded.endpoint;
     let asked = asks_for(ask);
@@ -248,8 +252,7 @@ pub extern "C" fn fbdp_send_close(
 {
     let loaded = endpoint::load(block);
     if !loaded.good {
-        *written = 0;
-        return 1;
+        return bad_block(written);
     }
     let e = loaded.endpoint;
     finish(sending::send_close(e, code, out), block, written)

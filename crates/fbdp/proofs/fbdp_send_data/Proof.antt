@@ -9,13 +9,16 @@ use Rattle.fbdp.proofs.fbdp_send_data.Tie as tie
 load-requires : tie.Need-load-requires
 load-requires c κs = search needs
 
+bad-block-requires : tie.Need-bad-block-requires
+bad-block-requires c κs = search needs
+
 same-length : tie.Need-same-length
 same-length c = search needs
 
 returns : tie.Need-returns
 returns c =
-    let a = c .before .before .before .before .before .before .before .args in
-    send-refused (a .block .now) (c .before .before .load .result) (c .before .before .load .ensures) (c .if1 .taken) (DATA (a .type-data) (asksFor (a .ask)) (a .body .now)) (a .out .now)
+    let a = c .before .before .before .before .before .before .before .before .before .args in
+    send-refused (a .block .now) (c .before .before .before .before .load .result) (c .before .before .before .before .load .ensures) (c .before .before .if1 .taken) (DATA (a .type-data) (asksFor (a .ask)) (a .body .now)) (a .out .now) _ _ (c .bad-block .ensures)
 
 asks-for-requires : tie.Need-asks-for-requires
 asks-for-requires c κs = search needs
@@ -42,6 +45,7 @@ fbdp-send-data-spec =
     tie.close
     (tie.spec
     load-requires
+    bad-block-requires
     same-length
     returns
     asks-for-requires

@@ -8,13 +8,16 @@ use Rattle.fbdp.proofs.fbdp_send_open.Tie as tie
 load-requires : tie.Need-load-requires
 load-requires c κs = search needs
 
+bad-block-requires : tie.Need-bad-block-requires
+bad-block-requires c κs = search needs
+
 same-length : tie.Need-same-length
 same-length c = search needs
 
 returns : tie.Need-returns
 returns c =
-    let a = c .before .before .before .before .before .before .before .before .args in
-    send-refused (a .block .now) (c .before .before .load .result) (c .before .before .load .ensures) (c .if1 .taken) (OPEN (a .name .now) (a .format .now)) (a .out .now)
+    let a = c .before .before .before .before .before .before .before .before .before .before .args in
+    send-refused (a .block .now) (c .before .before .before .before .load .result) (c .before .before .before .before .load .ensures) (c .before .before .if1 .taken) (OPEN (a .name .now) (a .format .now)) (a .out .now) _ _ (c .bad-block .ensures)
 
 send-open-requires : tie.Need-send-open-requires
 send-open-requires c κs = search needs
@@ -38,6 +41,7 @@ fbdp-send-open-spec =
     tie.close
     (tie.spec
     load-requires
+    bad-block-requires
     same-length
     returns
     send-open-requires
