@@ -59,6 +59,11 @@ frameOf s k = cond (good s) (cond (ltb k (countOf s)) (At (placeOf s k)) Behind)
 unfoldable pub framesOf : List ℕ → List (List ℕ)
 framesOf s = tabulate 0 (countOf s) (λ k. partAt s (placeOf s k))
 
+-- what follows the contents of a good bundle, or the refusal of a bad one
+abbrev pub ifFrames : {A : Type 0} → Contents → A → (ℕ → Place → ℕ → A) → A
+ifFrames (Frames count control size) refused next = next count control size
+ifFrames Contents·BadBundle refused next = refused
+
 -- the number of each answer
 abbrev pub contentsNumber : Contents → ℕ
 contentsNumber (Frames count control size) = 0

@@ -86,15 +86,15 @@ knownTypeNumber Unknown = 13
 
 -- what follows a stage that is passed, or the refusal of one that is not
 
-abbrev pub ifSigned : Signed → Control → (ℕ → ℕ → ℕ → Control) → Control
+abbrev pub ifSigned : {A : Type 0} → Signed → A → (ℕ → ℕ → ℕ → A) → A
 ifSigned (Frame byte flags type-data) refused next = next byte flags type-data
 ifSigned Unsigned refused next = refused
 
-abbrev pub ifVersionOne : Version → Control → (ℕ → Control) → Control
+abbrev pub ifVersionOne : {A : Type 0} → Version → A → (ℕ → A) → A
 ifVersionOne (One type) refused next = next type
 ifVersionOne Other refused next = refused
 
-abbrev pub ifKnown : KnownType → Control → (MessageType → Control) → Control
+abbrev pub ifKnown : {A : Type 0} → KnownType → A → (MessageType → A) → A
 ifKnown (Known message) refused next = next message
 ifKnown Unknown refused next = refused
 

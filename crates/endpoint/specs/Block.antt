@@ -1,5 +1,5 @@
--- "State block, 64 bytes": "0 role; 1 flow; 2 phase; 3 W, confirmations awaited; 4-5 n, big-endian; 6-7 zero; 8-11 limit, big-endian;
--- 12-15 zero; 16-63 sixteen entries of 3 bytes (type, type-data), oldest first."
+-- "0 role ..; 1 flow ..; 2 phase ..; 3 W, confirmations awaited, 0..16; 4-5 n, big-endian; 6-7 zero; 8-11 limit, big-endian; 12-15 zero;
+-- 16-63 sixteen entries of 3 bytes (type, type-data), oldest first."
 use Prim.Native.Nat.{ℕ, _+_, _*_}
 use mathlib.Core.List.{List, [], _∷_, _++_, flatMap}
 use mathlib.Core.Bool.{Bool, _&&_}

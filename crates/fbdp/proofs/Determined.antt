@@ -2,6 +2,7 @@
 use mathlib.Core.Path.{_≡_, sym, _∙_}
 use mathlib.Core.List.{List}
 use Prim.Native.Nat.{ℕ}
+use Rattle.endpoint.specs.declared.Endpoint.{Endpoint}
 use Rattle.sending.specs.Calls.{Call}
 use Rattle.fbdp.specs.Entries.{FrameAnswer, ValueAnswer, LookupAnswer}
 use Rattle.fbdp.specs.Blocks.{MakeAnswer, SendAnswer, ReceiveAnswer}
@@ -18,8 +19,8 @@ pub lookup-determined : {client defaults key : List ℕ} {number number′ : ℕ
     LookupAnswer client defaults key number′ slots′ → (number ≡ number′) × (slots ≡ slots′)
 lookup-determined one other = (one .numbered ∙ sym (other .numbered), one .told ∙ sym (other .told))
 
-pub make-determined : {role flow limit : ℕ} {before : List ℕ} {number number′ : ℕ} {after after′ : List ℕ} →
-    MakeAnswer role flow limit before number after → MakeAnswer role flow limit before number′ after′ → (number ≡ number′) × (after ≡ after′)
+pub make-determined : {made : Endpoint} {flow limit : ℕ} {before : List ℕ} {number number′ : ℕ} {after after′ : List ℕ} →
+    MakeAnswer made flow limit before number after → MakeAnswer made flow limit before number′ after′ → (number ≡ number′) × (after ≡ after′)
 make-determined one other = (one .numbered ∙ sym (other .numbered), one .kept ∙ sym (other .kept))
 
 pub send-determined : {call : Call} {block out : List ℕ} {number number′ count count′ : ℕ} {block₁ block₂ out₁ out₂ : List ℕ} →

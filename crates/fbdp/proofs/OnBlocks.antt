@@ -2,7 +2,7 @@
 use mathlib.Core.Path.{_∙_, _≡_, ap, ap₂, sym}
 use Prim.Native.Nat.{ℕ}
 use mathlib.Core.List.{List, [], _∷_}
-use mathlib.Core.Bool.{true, false, not, Bool, cond}
+use mathlib.Core.Bool.{true, false, not}
 use lib.ListN.{length}
 use borrow.Author.Tests.{not-false, not-true}
 use Rattle.bytes_be.proofs.Parts.{put-nothing}
@@ -15,7 +15,7 @@ use Rattle.receiving.specs.Refusing.{unchanged}
 use Rattle.sending.specs.declared.Sent.{Sent}
 use Rattle.sending.specs.Calls.{Call, written}
 use Rattle.sending.specs.Sending.{SendAnswer as Sent-by-record, leftBy, sendOf}
-use Rattle.fbdp.specs.Blocks.{SendAnswer, ReceiveAnswer, Finished, answerSlots, receivedOn, replyLength, sentOn, stored}
+use Rattle.fbdp.specs.Blocks.{SendAnswer, ReceiveAnswer, Finished, answerSlots, receivedOn, replyLength, sentOn, keptAfter, leaves, keptBy}
 
 module _ (block : List ℕ) (loaded : Loaded) (said : loaded ≡ loadOf block) where
   holds-good : isGood block ≡ loaded .good
@@ -33,12 +33,12 @@ module _ (block : List ℕ) (loaded : Loaded) (said : loaded ≡ loadOf block) w
     -- a bad block gets 1, and nothing is changed
 
     pub send-refused : (call : Call) (out : List ℕ) (number count : ℕ) → (number ≡ 1) × (count ≡ 0) → SendAnswer call block out number count block out
-    unfolding sentOn leftBy
+    unfolding sentOn leftBy keptAfter
     send-refused call out number count (one, none-written) =
         record { numbered = simp not-good one; counted = simp not-good none-written; kept = simp not-good; left = simp not-good }
 
     pub receive-refused : (s name format out : List ℕ) → ReceiveAnswer s name format block out 1 (0 ∷ 0 ∷ 0 ∷ 0 ∷ 0 ∷ 0 ∷ 0 ∷ 0 ∷ 0 ∷ 0 ∷ 0 ∷ 0 ∷ 0 ∷ 0 ∷ 0 ∷ 0 ∷ []) block out
-    unfolding receivedOn unchanged replied
+    unfolding receivedOn unchanged replied keptBy leaves
     receive-refused s name format out =
         record { numbered = simp not-good; told = simp not-good; kept = simp not-good; left = simp not-good (sym (put-nothing out 0)) }
 
@@ -56,11 +56,10 @@ module _ (block : List ℕ) (loaded : Loaded) (said : loaded ≡ loadOf block) w
         Sent-by-record (loaded .endpoint) call out sent out′ → Finished sent block number count block′ → SendAnswer call block out number count block′ out′
     send-finished call out out′ sent number count block′ by-record finished =
         let on-block = sent-same call out sent (by-record .answered) in
-        let next : Endpoint = sentOn block call (length out) .next in
         record {
           numbered = finished .numbered ∙ ap (λ (s : Sent). s .number) on-block;
           counted = finished .counted ∙ ap (λ (s : Sent). s .written) on-block;
-          kept = finished .kept ∙ ap (λ (s : Sent). stored (s .next) block) on-block ∙ sym (ap (λ (t : Bool). cond t (stored next block) block) is-good);
+          kept = finished .kept ∙ ap (λ (s : Sent). keptAfter s block) on-block;
           left = by-record .left ∙ ap₂ (λ (s : Sent) (e : Endpoint). leftBy s (written e call) out) (sym (by-record .answered) ∙ on-block) (sym holds-record);
         }
 
@@ -72,14 +71,13 @@ module _ (block : List ℕ) (loaded : Loaded) (said : loaded ≡ loadOf block) w
 
     pub receive-finished : (s name format out out′ : List ℕ) (received : Received) (number : ℕ) (slots block′ : List ℕ) →
         Heard-by-record (loaded .endpoint) s name format out received out′ → number ≡ answerNumber (received .answer) →
-        slots ≡ answerSlots (received .answer) (replyLength (received .reply)) → block′ ≡ stored (received .next) block →
+        slots ≡ answerSlots (received .answer) (replyLength (received .reply)) → block′ ≡ keptBy received block →
         ReceiveAnswer s name format block out number slots block′ out′
     receive-finished s name format out out′ received number slots block′ by-record its-number its-slots its-block =
         let on-block = received-same s name format out received (by-record .answered) in
-        let next : Endpoint = receivedOn block s name format (length out) .next in
         record {
           numbered = its-number ∙ ap (λ (r : Received). answerNumber (r .answer)) on-block;
           told = its-slots ∙ ap (λ (r : Received). answerSlots (r .answer) (replyLength (r .reply))) on-block;
-          kept = its-block ∙ ap (λ (r : Received). stored (r .next) block) on-block ∙ sym (ap (λ (t : Bool). cond t (stored next block) block) is-good);
+          kept = its-block ∙ ap (λ (r : Received). keptBy r block) on-block;
           left = by-record .left ∙ ap (λ (r : Received). replied (r .reply) out) (sym (by-record .answered) ∙ on-block);
         }

@@ -3,13 +3,13 @@
 use Prim.Native.Nat.{ℕ}
 use mathlib.Core.Path.{_≡_}
 use mathlib.Core.List.{List, [], _∷_, _++_}
-use mathlib.Core.Bool.{Bool, cond, not}
+use mathlib.Core.Bool.{Bool, cond, not, _&&_}
 use lib.ListN.{length}
-use lib.Dec.{eqb}
+use lib.Dec.{leb, eqb}
 use Rattle.bytes_be.specs.Part.{putAt}
 use Rattle.control.specs.Frame.{typeOf}
 use Rattle.endpoint.specs.declared.Endpoint.{Endpoint}
-use Rattle.endpoint.specs.Record.{givenOf, givenNumber, freshOf}
+use Rattle.endpoint.specs.Record.{givenOf, givenNumber}
 use Rattle.endpoint.specs.Block.{bytesOf, recordIn, isGood}
 use Rattle.receiving.specs.declared.Content.{Content}
 use Rattle.receiving.specs.declared.Content.the-variants.{Nothing, Opening, Body}
@@ -17,10 +17,9 @@ use Rattle.receiving.specs.declared.Heard.{Heard}
 use Rattle.receiving.specs.declared.Answer.{Answer}
 use Rattle.receiving.specs.declared.Answer.the-variants.{Heard as Answer·Heard, Refused}
 use Rattle.receiving.specs.declared.Reply.{Reply}
-use Rattle.receiving.specs.declared.Reply.the-variants.{Nothing as Reply·Nothing, Frame}
 use Rattle.receiving.specs.declared.Received.{Received}
 use Rattle.receiving.specs.Refusing.{unchanged}
-use Rattle.receiving.specs.Receiving.{answerNumber, replied, receivedOf}
+use Rattle.receiving.specs.Receiving.{answerNumber, replyBytes, replied, receivedOf}
 use Rattle.sending.specs.declared.Sent.{Sent}
 use Rattle.sending.specs.Calls.{Call, written}
 use Rattle.sending.specs.Sending.{unsent, sendOf, leftBy}
@@ -33,20 +32,24 @@ stored e block = putAt block 0 (bytesOf e)
 unfoldable pub makeNumber : ℕ → ℕ → List ℕ → ℕ
 makeNumber flow limit block = cond (eqb (length block) 64) (givenNumber (givenOf flow limit)) 1
 
--- `fbdp_make_client` and `fbdp_make_server`
-pub record MakeAnswer (role flow limit : ℕ) (before : List ℕ) (number : ℕ) (after : List ℕ) : Type 0 where
+-- `fbdp_make_client` and `fbdp_make_server`: the block of the fresh endpoint, or the block as it was
+pub record MakeAnswer (made : Endpoint) (flow limit : ℕ) (before : List ℕ) (number : ℕ) (after : List ℕ) : Type 0 where
   pub numbered : number ≡ makeNumber flow limit before
-  pub kept : after ≡ cond (eqb (makeNumber flow limit before) 0) (stored (freshOf role flow limit) before) before
+  pub kept : after ≡ cond (eqb (makeNumber flow limit before) 0) (stored made before) before
 
 -- what comes of a call on a block
 unfoldable pub sentOn : List ℕ → Call → ℕ → Sent
 sentOn block call room = cond (isGood block) (sendOf (recordIn block) call room) (unsent (recordIn block) 1)
 
--- what a send leaves on a block that is good
+-- "All others change no byte.": the block after a send
+unfoldable pub keptAfter : Sent → List ℕ → List ℕ
+keptAfter sent block = cond (eqb (sent .number) 0) (stored (sent .next) block) block
+
+-- what a send on a good block answers, and the block afterwards
 pub record Finished (sent : Sent) (before : List ℕ) (number count : ℕ) (after : List ℕ) : Type 0 where
   pub numbered : number ≡ sent .number
   pub counted : count ≡ sent .written
-  pub kept : after ≡ stored (sent .next) before
+  pub kept : after ≡ keptAfter sent before
 
 -- an ask: 0 is none, and any other number one
 abbrev pub asksFor : ℕ → Bool
@@ -56,7 +59,7 @@ asksFor ask = not (eqb ask 0)
 pub record SendAnswer (call : Call) (block out : List ℕ) (number count : ℕ) (block′ out′ : List ℕ) : Type 0 where
   pub numbered : number ≡ sentOn block call (length out) .number
   pub counted : count ≡ sentOn block call (length out) .written
-  pub kept : block′ ≡ cond (isGood block) (stored (sentOn block call (length out) .next) block) block
+  pub kept : block′ ≡ keptAfter (sentOn block call (length out)) block
   pub left : out′ ≡ leftBy (sentOn block call (length out)) (written (recordIn block) call) out
 
 -- what comes of a message on a block
@@ -64,10 +67,16 @@ unfoldable pub receivedOn : List ℕ → List ℕ → List ℕ → List ℕ → 
 receivedOn block s name format room =
     cond (isGood block) (receivedOf (recordIn block) s name format room) (unchanged (recordIn block) 1)
 
--- "A reply is one bundle of 14 bytes"
+-- how many bytes of the output are the reply
 abbrev pub replyLength : Reply → ℕ
-replyLength Reply·Nothing = 0
-replyLength (Frame message flags type-data) = 14
+replyLength reply = length (replyBytes reply)
+
+-- "Numbers 10..24 .. set phase 5 .. All others change no byte.": the block after a receive
+unfoldable pub leaves : ℕ → Bool
+leaves number = leb 1 number && leb number 3
+
+unfoldable pub keptBy : Received → List ℕ → List ℕ
+keptBy received block = cond (leaves (answerNumber (received .answer))) block (stored (received .next) block)
 
 -- socket; the places of name, format and parameters; the place of the body
 abbrev pub contentSlots : Content → List ℕ
@@ -103,5 +112,5 @@ pub record ReceiveAnswer (s name format block out : List ℕ) (number : ℕ) (sl
   pub told :
       slots
       ≡ answerSlots (receivedOn block s name format (length out) .answer) (replyLength (receivedOn block s name format (length out) .reply))
-  pub kept : block′ ≡ cond (isGood block) (stored (receivedOn block s name format (length out) .next) block) block
+  pub kept : block′ ≡ keptBy (receivedOn block s name format (length out)) block
   pub left : out′ ≡ replied (receivedOn block s name format (length out) .reply) out

@@ -46,7 +46,7 @@ termSlots (In layer place) = (layer + 1) ∷ place .at ∷ place .length ∷ []
 termSlots (Term·Unreadable layer why) = 1 ∷ 0 ∷ 0 ∷ []
 termSlots Absent = 1 ∷ 0 ∷ 0 ∷ []
 
--- `fbdp_lookup`: "A term is looked up by key in the client's parameters, .. and failing that in the server's lent default Struct".
+-- `fbdp_lookup`: "A term is looked up by key in the client's parameters .., and failing that in the server's lent default Struct".
 pub record LookupAnswer (client defaults key : List ℕ) (number : ℕ) (slots : List ℕ) : Type 0 where
   pub numbered : number ≡ termNumber (lookUp (client ∷ defaults ∷ []) key)
   pub told : slots ≡ termSlots (lookUp (client ∷ defaults ∷ []) key)

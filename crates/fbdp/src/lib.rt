@@ -1,10 +1,10 @@
 // The C interface: numbers and byte slices in, a number out.
 ghost use mathlib.Core.Path.{_≡_};
-ghost use Rattle.endpoint.specs.Record.{client, server};
+ghost use Rattle.endpoint.specs.Record.{freshOf, freshClient, freshServer};
 ghost use Rattle.double.specs.Limit.{mostLimit};
 ghost use Rattle.receiving.specs.Receiving.{answerNumber};
 ghost use Rattle.sending.specs.Calls.{OPEN, READY, DATA, NOOP, CLOSE};
-ghost use Rattle.fbdp.specs.Blocks.{MakeAnswer, Finished, asksFor, SendAnswer, replyLength, contentSlots, heardSlots, answerSlots, ReceiveAnswer};
+ghost use Rattle.fbdp.specs.Blocks.{MakeAnswer, Finished, asksFor, SendAnswer, replyLength, leaves, contentSlots, heardSlots, answerSlots, ReceiveAnswer};
 ghost use Rattle.fbdp.specs.Entries.{frameSlots, FrameAnswer, valueSlots, ValueAnswer, termSlots, LookupAnswer};
 use bundle::Frame;
 use endpoint::Given;
@@ -105,7 +105,7 @@ pub extern "C" fn fbdp_lookup(
 
 // Makes a fresh endpoint of this role in a block of 64 bytes.
 fn make(block: &mut [u8], role: u8, flow: u8, limit: u32) -> u32
-    ensures { λ r. ⌜ MakeAnswer role flow limit (now (block .entry)) r (now (block .exit)) ⌝ }
+    ensures { λ r. ⌜ MakeAnswer (freshOf role flow limit) flow limit (now (block .entry)) r (now (block .exit)) ⌝ }
 {
     if block.len() != 64 {
         return 1;
@@ -120,7 +120,7 @@ fn make(block: &mut [u8], role: u8, flow: u8, limit: u32) -> u32
 // Makes a fresh client of this flow and limit.
 #[no_mangle]
 pub extern "C" fn fbdp_make_client(block: &mut [u8], flow: u8, limit: u32) -> u32
-    ensures { λ r. ⌜ MakeAnswer client flow limit (now (block .entry)) r (now (block .exit)) ⌝ }
+    ensures { λ r. ⌜ MakeAnswer (freshClient flow limit) flow limit (now (block .entry)) r (now (block .exit)) ⌝ }
 {
     make(block, 1, flow, limit)
 }
@@ -128,7 +128,7 @@ pub extern "C" fn fbdp_make_client(block: &mut [u8], flow: u8, limit: u32) -> u3
 // Makes a fresh server of this flow.
 #[no_mangle]
 pub extern "C" fn fbdp_make_server(block: &mut [u8], flow: u8) -> u32
-    ensures { λ r. ⌜ MakeAnswer server flow mostLimit (now (block .entry)) r (now (block .exit)) ⌝ }
+    ensures { λ r. ⌜ MakeAnswer (freshServer flow) flow mostLimit (now (block .entry)) r (now (block .exit)) ⌝ }
 {
     make(block, 2, flow, 50000000)
 }
@@ -141,14 +141,17 @@ fn bad_block(written: &mut u64) -> u32
     1
 }
 
-// Stores what came of a send on a good block.
+// Tells what came of a send on a good block, and stores the endpoint unless the send was refused.
 fn finish(sent: Sent, block: &mut [u8], written: &mut u64) -> u32
     ensures { λ r. ⌜ Finished sent (now (block .entry)) r (now (written .exit)) (now (block .exit)) ⌝ }
 {
-    let next = sent.next;
-    endpoint::store(next, block);
     *written = sent.written as u64;
-    sent.number as u32
+    let next = sent.next;
+    if sent.number != 0 {
+        return sent.number as u32;
+    }
+    endpoint::store(next, block);
+    0
 }
 
 // Any ask but 0 is one.
@@ -336,6 +339,13 @@ fn answer_slots(answer: Answer, reply: u64) -> [u64; 16]
     }
 }
 
+// Whether a number changes no byte.
+fn leaves_block(number: u8) -> bool
+    ensures { λ r. ⌜ r ≡ leaves number ⌝ }
+{
+    (1 <= number) & (number <= 3)
+}
+
 // Receives a message.
 #[no_mangle]
 pub extern "C" fn fbdp_receive(
@@ -358,7 +368,11 @@ pub extern "C" fn fbdp_receive(
     let next = received.next;
     let answer = received.answer;
     let reply = received.reply;
-    endpoint::store(next, block);
     *heard = answer_slots(answer, reply_length(reply));
-    answer_number(answer) as u32
+    let number = answer_number(answer);
+    if leaves_block(number) {
+        return number as u32;
+    }
+    endpoint::store(next, block);
+    number as u32
 }

@@ -8,10 +8,8 @@ use mathlib.Core.Bool.{cond}
 use lib.ListN.{length, take}
 use lib.Dec.{ltb}
 use Rattle.bytes_be.specs.Part.{partAt, putAt}
-use Rattle.bytes_be.specs.declared.Place.{Place}
-use Rattle.bundle.specs.Reading.{contentsOf}
-use Rattle.bundle.specs.declared.Contents.{Contents}
-use Rattle.bundle.specs.declared.Contents.the-variants.{Frames, BadBundle}
+use Rattle.bundle.specs.Reading.{contentsOf, ifFrames, contentsNumber}
+use Rattle.bundle.specs.declared.Contents.the-variants.{BadBundle}
 use Rattle.control.specs.Frame.{controlOf, numberOf}
 use Rattle.control.specs.declared.MessageType.{MessageType}
 use Rattle.control.specs.declared.MessageType.the-variants.{Open, Ready, Noop, Data, Close}
@@ -21,11 +19,6 @@ use Rattle.bytes_be.specs.Ascii.{ascii}
 use Rattle.line.specs.Text.{decimal}
 use Rattle.line.specs.declared.Report.{Report}
 use Rattle.line.specs.declared.Report.the-variants.{TooLong, Refused, Message}
-
--- 10, or what follows the contents of a good bundle
-abbrev pub ifFrames : Contents → Report → (ℕ → Place → Report) → Report
-ifFrames (Frames count control size) refused next = next count control
-ifFrames BadBundle refused next = refused
 
 -- a control frame that is read or refused as 11, 12 or 13, in a message of so many data frames
 abbrev pub reportOfControl : Control → ℕ → Report
@@ -38,7 +31,7 @@ reportOfControl UnknownType frames = Refused (numberOf UnknownType)
 unfoldable pub reportOf : List ℕ → Report
 reportOf input =
     cond (ltb 65536 (length input)) TooLong
-    (ifFrames (contentsOf input) (Refused 10) (λ count control.
+    (ifFrames (contentsOf input) (Refused (contentsNumber BadBundle)) (λ count control size.
     reportOfControl (controlOf (partAt input control)) (count - 1)))
 
 abbrev pub nameOf : MessageType → List ℕ

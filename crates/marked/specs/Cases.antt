@@ -13,7 +13,7 @@ use Rattle.double.specs.Double.{bytesOf as Double·bytesOf}
 use Rattle.double.specs.Limit.{mostLimit}
 use Rattle.open_write.specs.Frame.{frameFor}
 use Rattle.endpoint.specs.declared.Endpoint.{Endpoint}
-use Rattle.endpoint.specs.Record.{producer, consumer, idle, offer, batch, shut, freshClient, freshServer, atPhase}
+use Rattle.endpoint.specs.Record.{producer, consumer, idle, batch, shut, freshClient, freshServer, atPhase}
 use Rattle.receiving.specs.declared.Answer.{Answer}
 use Rattle.receiving.specs.declared.Answer.the-variants.{Heard, Refused}
 use Rattle.receiving.specs.declared.Received.{Received}
@@ -101,9 +101,9 @@ k5 =
       expected = 0x00 ∷ 0x00 ∷ 0x00 ∷ 0x00 ∷ 0x80 ∷ 0x84 ∷ 0x2E ∷ 0x41 ∷ 44 ∷ [];
     }
 
--- a READY with this count, received by the server after its offer of 5
+-- a READY with this count, received by the server that has just sent its offer of 5
 abbrev pub readyAfterOffer : ℕ → Received
-readyAfterOffer count = receive (serverIn offer 5) (written theClient (READY count))
+readyAfterOffer count = receive (sendOf (serverIn idle 0) (READY 5) 14 .next) (written theClient (READY count))
 
 -- "K6 offer 5, READY(5): batch of 5."
 abbrev pub k6 : Case

@@ -11,7 +11,7 @@ use Rattle.bytes_be.specs.Part.{partAt}
 use Rattle.bundle.specs.declared.Contents.{Contents}
 use Rattle.bundle.specs.declared.Contents.the-variants.{Frames, BadBundle as Contents·BadBundle}
 use Rattle.bundle.specs.declared.Frame.the-variants.{At as Frame·At, Behind, BadBundle}
-use Rattle.bundle.specs.Reading.{contentsOf, countOf, frameOf, good, placeOf}
+use Rattle.bundle.specs.Reading.{contentsOf, countOf, frameOf, good, placeOf, ifFrames}
 use Rattle.bundle.proofs.Sums.{body-inside}
 use Rattle.control.specs.declared.KnownType.{KnownType}
 use Rattle.control.specs.declared.KnownType.the-variants.{Known, Unknown}
@@ -20,7 +20,7 @@ use Rattle.control.specs.declared.Signed.{Signed}
 use Rattle.control.specs.declared.Signed.the-variants.{Frame as Signed·Frame, Unsigned}
 use Rattle.control.specs.declared.Version.{Version}
 use Rattle.control.specs.declared.Version.the-variants.{One, Other}
-use Rattle.control.specs.Frame.{knownTypeOf, signedOf, versionOf}
+use Rattle.control.specs.Frame.{knownTypeOf, signedOf, versionOf, ifKnown, ifSigned, ifVersionOne}
 use Rattle.message.specs.declared.Body.{Body}
 use Rattle.message.specs.declared.Body.the-variants.{Nothing}
 use Rattle.message.specs.declared.Reading.{Reading}
@@ -28,7 +28,7 @@ use Rattle.message.specs.declared.Reading.the-variants.{Read, Refused}
 use Rattle.message.specs.declared.Refusal.{Refusal}
 use Rattle.message.specs.declared.Test.{Test}
 use Rattle.message.specs.declared.Test.the-variants.{Passes, Fails}
-use Rattle.message.specs.Reading.{badFlags, badFrames, bodyIn, bodyOf, bodyPlace, carries, ifFrames, ifKnown, ifPasses, ifSigned, ifVersionOne, readAs, readingOf, testOf}
+use Rattle.message.specs.Reading.{badFlags, badFrames, bodyIn, bodyOf, bodyPlace, carries, ifPasses, readAs, readingOf, testOf}
 
 module _ (s : List ℕ) where
   abbrev pub BodyInside : Body → Type 0

@@ -6,20 +6,16 @@ use mathlib.Core.Bool.{Bool, true, false, cond, not, _||_}
 use lib.Dec.{leb, eqb}
 use Rattle.bytes_be.specs.declared.Place.{Place}
 use Rattle.bytes_be.specs.Part.{partAt}
-use Rattle.bundle.specs.declared.Contents.{Contents}
-use Rattle.bundle.specs.declared.Contents.the-variants.{Frames, BadBundle as Contents·BadBundle}
+use Rattle.bundle.specs.declared.Contents.the-variants.{BadBundle as Contents·BadBundle}
 use Rattle.bundle.specs.declared.Frame.{Frame}
 use Rattle.bundle.specs.declared.Frame.the-variants.{At as Frame·At, Behind, BadBundle}
-use Rattle.bundle.specs.Reading.{contentsOf, frameOf}
+use Rattle.bundle.specs.Reading.{contentsOf, frameOf, ifFrames, contentsNumber}
 use Rattle.control.specs.declared.MessageType.{MessageType}
 use Rattle.control.specs.declared.MessageType.the-variants.{Open, Ready, Noop, Data, Close}
-use Rattle.control.specs.declared.Signed.{Signed}
-use Rattle.control.specs.declared.Signed.the-variants.{Frame as Signed·Frame, Unsigned}
-use Rattle.control.specs.declared.Version.{Version}
-use Rattle.control.specs.declared.Version.the-variants.{One, Other}
-use Rattle.control.specs.declared.KnownType.{KnownType}
-use Rattle.control.specs.declared.KnownType.the-variants.{Known, Unknown}
-use Rattle.control.specs.Frame.{ackRequest, ackReply, typeIn, signedOf, versionOf, knownTypeOf}
+use Rattle.control.specs.declared.Signed.the-variants.{Unsigned}
+use Rattle.control.specs.declared.Version.the-variants.{Other}
+use Rattle.control.specs.declared.KnownType.the-variants.{Unknown}
+use Rattle.control.specs.Frame.{ackRequest, ackReply, typeIn, signedOf, versionOf, knownTypeOf, signedNumber, versionNumber, knownTypeNumber, ifSigned, ifVersionOne, ifKnown}
 use Rattle.message.specs.declared.Body.{Body}
 use Rattle.message.specs.declared.Body.the-variants.{Nothing, At}
 use Rattle.message.specs.declared.Message.{Message}
@@ -29,7 +25,7 @@ use Rattle.message.specs.declared.Reading.the-variants.{Read, Refused}
 use Rattle.message.specs.declared.Test.{Test}
 use Rattle.message.specs.declared.Test.the-variants.{Passes, Fails}
 
--- a test that fails refuses the message
+-- whether a message passes a test, where a true test refuses it
 abbrev pub testOf : Bool → Test
 testOf fails = cond fails Fails Passes
 
@@ -79,27 +75,10 @@ bodyPlace (At place) = place
 abbrev pub refused : ℕ → ℕ → Reading
 refused number said = Refused (record { number = number; said = said })
 
--- what follows a stage that is passed, or the refusal of one that is not
-
-abbrev pub ifFrames : Contents → Reading → (ℕ → Place → ℕ → Reading) → Reading
-ifFrames (Frames count control size) refusal next = next count control size
-ifFrames Contents·BadBundle refusal next = refusal
-
-abbrev pub ifSigned : Signed → Reading → (ℕ → ℕ → ℕ → Reading) → Reading
-ifSigned (Signed·Frame byte flags type-data) refusal next = next byte flags type-data
-ifSigned Unsigned refusal next = refusal
-
-abbrev pub ifVersionOne : Version → Reading → (ℕ → Reading) → Reading
-ifVersionOne (One type) refusal next = next type
-ifVersionOne Other refusal next = refusal
-
-abbrev pub ifKnown : KnownType → Reading → (MessageType → Reading) → Reading
-ifKnown (Known message) refusal next = next message
-ifKnown Unknown refusal next = refusal
-
-abbrev pub ifPasses : Test → Reading → Reading → Reading
-ifPasses Passes refusal next = next
-ifPasses Fails refusal next = refusal
+-- what follows a test that is passed, or the refusal of one that is not
+abbrev pub ifPasses : {A : Type 0} → Test → A → A → A
+ifPasses Passes refused next = next
+ifPasses Fails refused next = refused
 
 -- 14, 15, and else the message
 unfoldable pub readAs : List ℕ → ℕ → MessageType → ℕ → ℕ → ℕ → ℕ → Reading
@@ -119,8 +98,8 @@ readAs s said message flags type-data frames size =
 -- 10, 11, 12, 13, and then by the type
 unfoldable pub readingOf : List ℕ → Reading
 readingOf s =
-    ifFrames (contentsOf s) (refused 10 0) (λ count control size.
-    ifSigned (signedOf (partAt s control)) (refused 11 0) (λ byte flags type-data.
-    ifVersionOne (versionOf byte) (refused 12 (typeIn byte)) (λ said.
-    ifKnown (knownTypeOf said) (refused 13 said) (λ message.
+    ifFrames (contentsOf s) (refused (contentsNumber Contents·BadBundle) 0) (λ count control size.
+    ifSigned (signedOf (partAt s control)) (refused (signedNumber Unsigned) 0) (λ byte flags type-data.
+    ifVersionOne (versionOf byte) (refused (versionNumber Other) (typeIn byte)) (λ said.
+    ifKnown (knownTypeOf said) (refused (knownTypeNumber Unknown) said) (λ message.
     readAs s said message flags type-data (count - 1) size))))

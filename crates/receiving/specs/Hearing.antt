@@ -17,13 +17,12 @@ use Rattle.message.specs.declared.Body.the-variants.{Nothing as Body·Nothing, 
 use Rattle.message.specs.declared.Message.{Message}
 use Rattle.message.specs.declared.Reading.{Reading}
 use Rattle.message.specs.declared.Reading.the-variants.{Read, Refused as Reading·Refused}
-use Rattle.message.specs.declared.Test.{Test}
-use Rattle.message.specs.declared.Test.the-variants.{Passes, Fails}
-use Rattle.message.specs.Reading.{testOf, bodyPlace, readingOf}
+use Rattle.message.specs.Reading.{testOf, bodyPlace, ifPasses, readingOf}
 use Rattle.endpoint.specs.declared.Endpoint.{Endpoint}
 use Rattle.endpoint.specs.Record.{shut, oldest, confirmed, limited}
 use Rattle.table.specs.declared.Row.{Row}
-use Rattle.table.specs.Table.{rowOf, notAllowed, aboveOffer, other, moved}
+use Rattle.table.specs.declared.Row.the-variants.{NotAllowed, AboveOffer}
+use Rattle.table.specs.Table.{rowOf, hearNumber, notAllowed, aboveOffer, other, moved}
 use Rattle.receiving.specs.declared.Content.{Content}
 use Rattle.receiving.specs.declared.Content.the-variants.{Nothing, Opening, Body as Content·Body}
 use Rattle.receiving.specs.declared.Carried.{Carried}
@@ -34,7 +33,7 @@ use Rattle.receiving.specs.declared.Reply.the-variants.{Nothing as Reply
 use Rattle.receiving.specs.declared.Received.{Received}
 use Rattle.receiving.specs.Refusing.{refused, unchanged}
 
--- "any message with ACK-REPLY": NOOP or DATA, as 14 refuses it on OPEN and READY, and a CLOSE is one "whatever its flags"
+-- "any message with ACK-REPLY": NOOP or DATA, as 14 refuses it on OPEN and READY, and a CLOSE stays a CLOSE "whatever its flags"
 abbrev pub confirms : MessageType → ℕ → Bool
 confirms Open flags = false
 confirms Ready flags = false
@@ -80,9 +79,11 @@ abbrev pub bodyCarried : Body → Carried
 bodyCarried Body·Nothing = Carried·Content Nothing
 bodyCarried (At place) = Carried·Content (Content·Body place)
 
+-- what the OPEN frame at a place says to this endpoint
 unfoldable pub openAt : Endpoint → List ℕ → List ℕ → List ℕ → Place → Carried
 openAt e s name format place = openCarried (heardBy s (place .at) (place .at + place .length) (e .flow) name format)
 
+-- only OPEN is read inside
 abbrev pub carriedAs : MessageType → Carried → Carried → Carried
 carriedAs Open frame body = frame
 carriedAs Ready frame body = body
@@ -134,11 +135,7 @@ accepted e m row content =
       reply = replyTo m;
     }
 
--- what follows a stage that is passed, or the refusal of one that is not
-
-abbrev pub ifPasses : Test → Received → Received → Received
-ifPasses Passes refusal next = next
-ifPasses Fails refusal next = refusal
+-- what follows what is carried, or what is read, or its refusal
 
 abbrev pub ifCarried : Carried → (ℕ → Received) → (Content → Received) → Received
 ifCarried (Refused number) refusal next = refusal number
@@ -151,7 +148,7 @@ ifRead (Read m) refuse next = next m
 -- 23, 24, and else the message is heard
 unfoldable pub hearContent : Endpoint → Message → Row → Content → Received
 hearContent e m row content =
-    ifPasses (testOf (aboveOffer row)) (refused e 23 (typeOf (m .message)))
+    ifPasses (testOf (aboveOffer row)) (refused e (hearNumber AboveOffer) (typeOf (m .message)))
     (ifPasses (testOf (unmatched e m)) (refused e 24 (typeOf (m .message)))
     (accepted e m row content))
 
@@ -159,7 +156,7 @@ hearContent e m row content =
 unfoldable pub hearMessage : Endpoint → List ℕ → List ℕ → List ℕ → Message → Received
 hearMessage e s name format m =
     ifPasses (testOf (tooLarge e m)) (refused e 16 (typeOf (m .message)))
-    (ifPasses (testOf (notAllowed (hearRow e m))) (refused e 17 (typeOf (m .message)))
+    (ifPasses (testOf (notAllowed (hearRow e m))) (refused e (hearNumber NotAllowed) (typeOf (m .message)))
     (ifCarried (carriedBy e s name format m) (λ number. refused e number (typeOf (m .message)))
     (hearContent e m (hearRow e m))))
 

@@ -1,5 +1,5 @@
--- "Numbers 10..24 given by a receive set phase 5, clear n, W and the entries, and write the CLOSE reply (flags 0); but a client in phase 0
--- writes no reply, as OPEN must be its first message, nor is one written to a type-5 message refused as 17. All others change no byte."
+-- "Numbers 10..24 given by a receive set phase 5, clear n, W and the entries, and write the CLOSE reply; (flags 0); but a client in phase
+-- 0 writes no reply, as OPEN must be its first message, nor is one written to a type-5 message refused as 17. All others change no byte."
 use Prim.Native.Nat.{ℕ}
 use mathlib.Core.Bool.{Bool, cond, _&&_, _||_}
 use lib.Dec.{eqb}
@@ -34,7 +34,7 @@ closeCode e number said =
 unfoldable pub silent : Endpoint → ℕ → ℕ → Bool
 silent e number said = (eqb (e .role) client && eqb (e .phase) fresh) || (eqb number 17 && eqb said 5)
 
--- "set phase 5, clear n, W and the entries, and write the CLOSE reply (flags 0)"
+-- "set phase 5, clear n, W and the entries, and write the CLOSE reply; (flags 0)"
 unfoldable pub refused : Endpoint → ℕ → ℕ → Received
 refused e number said =
     record {

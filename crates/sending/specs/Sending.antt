@@ -11,7 +11,8 @@ use Rattle.control.specs.Frame.{typeOf}
 use Rattle.endpoint.specs.declared.Endpoint.{Endpoint}
 use Rattle.endpoint.specs.Record.{shut, capacity, asked}
 use Rattle.table.specs.declared.Row.{Row}
-use Rattle.table.specs.Table.{rowOf, notAllowed, aboveOffer, moved}
+use Rattle.table.specs.declared.Row.the-variants.{NotAllowed, AboveOffer}
+use Rattle.table.specs.Table.{rowOf, sendNumber, notAllowed, aboveOffer, moved}
 use Rattle.sending.specs.declared.Outgoing.{Outgoing}
 use Rattle.sending.specs.declared.Sent.{Sent}
 use Rattle.sending.specs.Calls.{Call, outgoing, written}
@@ -28,8 +29,8 @@ isFull e o = o .ask && leb capacity (e .w)
 unfoldable pub numberFor : Endpoint → Outgoing → Row → ℕ → ℕ
 numberFor e o row room =
     cond (eqb (e .phase) shut) 3
-    (cond (notAllowed row) 30
-    (cond (aboveOffer row) 31
+    (cond (notAllowed row) (sendNumber NotAllowed)
+    (cond (aboveOffer row) (sendNumber AboveOffer)
     (cond (isFull e o) 32
     (cond (o .large) 33
     (cond (o .misgiven) 34

@@ -1,5 +1,5 @@
--- "Send, Allowed, After it": one table, read from the side of the end that sends. What an end may hear, and what it then becomes, is the row
--- of the other end: the other role and the other flow, in its own phase and with its own n.
+-- The table of sends, which is the table of what is heard too: what an end may hear, and what it then becomes, is the row of a sender of the
+-- other role and the other flow, in the hearer's phase and with the hearer's n.
 use Prim.Native.Nat.{ℕ, _-_}
 use mathlib.Core.Bool.{Bool, true, false, cond, _&&_, _||_}
 use lib.Dec.{leb, eqb}
@@ -18,7 +18,7 @@ allowed test row = cond test row NotAllowed
 abbrev pub upTo : Bool → Row → Row
 upTo test row = cond test row AboveOffer
 
--- "k=0: 2; else .., n=k"
+-- READY: "k=0: 2; else .., n=k"; DATA: "n less 1; at 0, phase 2"
 unfoldable pub begun : ℕ → ℕ → Row
 begun phase count = cond (eqb count 0) (To idle 0) (To phase count)
 
@@ -54,6 +54,18 @@ rowOf role flow phase n Noop type-data = noopRow phase n
 rowOf role flow phase n Data type-data = dataRow flow phase n
 rowOf role flow phase n Close type-data = closeRow phase
 
+-- "17 role, flow or phase doesn't allow it", "23 READY above the offer"
+abbrev pub hearNumber : Row → ℕ
+hearNumber NotAllowed = 17
+hearNumber AboveOffer = 23
+hearNumber (To phase n) = 0
+
+-- "30 send not allowed now", "31 READY above the offer, own send"
+abbrev pub sendNumber : Row → ℕ
+sendNumber NotAllowed = 30
+sendNumber AboveOffer = 31
+sendNumber (To phase n) = 0
+
 abbrev pub notAllowed : Row → Bool
 notAllowed NotAllowed = true
 notAllowed AboveOffer = false
@@ -64,7 +76,7 @@ aboveOffer NotAllowed = false
 aboveOffer AboveOffer = true
 aboveOffer (To phase n) = false
 
--- the other role, or the other flow
+-- the other role, or the other flow; any number but 1 counts as 2
 abbrev pub other : ℕ → ℕ
 other number = cond (eqb number 1) 2 1
 
