@@ -42,7 +42,8 @@ use Rattle.sending.specs.Calls.{Call, OPEN, READY, DATA, NOOP, CLOSE, outgoing}
 use Rattle.sending.specs.Sending.{askedBy, numberFor, sendRow, sentBy}
 use Rattle.sending.proofs.Decided.{all-passed}
 use Rattle.machine.specs.Good.{Fits, SentGood, Sound, HeardGood}
-use Rattle.machine.proofs.Limits.{HeardBounded, OfOpening, heard-bounded}
+use Rattle.open.proofs.Limits.{HeardBounded, heard-bounded}
+use Rattle.open.proofs.Stages.{OfOpening}
 use Rattle.machine.proofs.Rows.{Acts, row-sound, sent-data-acts, sent-noop-acts, closed-sound}
 
 module _ (e : Endpoint) (sound : Sound e) where
