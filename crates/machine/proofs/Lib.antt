@@ -2,4 +2,5 @@
 pub mod Rows
 pub mod Good
 pub mod Bundled
+pub mod Hearing
 pub mod Round

@@ -1,5 +1,5 @@
 -- What is sent is read, and heard by an end that may hear it, as it was sent; and so is what is replied. Assumes nothing.
-use mathlib.Core.Path.{_≡_, refl}
+use mathlib.Core.Path.{_≡_, refl, _∙_, ap}
 use Prim.Native.Nat.{_+_, _<_, _^_, ℕ}
 use mathlib.Core.List.{List}
 use mathlib.Core.Bool.{Bool, false, not, true}
@@ -7,20 +7,30 @@ use native.Mathlib.Omega.{arith}
 use lib.Dec.{leb, ltb}
 use lib.ListN.{length}
 use borrow.Author.Tests.{leb-true, ltb-false}
+use Rattle.bytes_be.specs.declared.Place.{Place}
 use Rattle.bytes_be.proofs.Tests.{both-true}
 use Rattle.control.specs.declared.MessageType.the-variants.{Open, Ready, Noop, Data, Close}
 use Rattle.double.specs.Limit.{leastLimit, mostLimit}
 use Rattle.open_write.specs.Frame.{frameFor, isGood}
 use Rattle.open_write.proofs.Fields.{frame-short}
+use Rattle.open_write.proofs.Round.{read-back}
 use Rattle.message.specs.Reading.{strangeFlags}
 use Rattle.endpoint.specs.declared.Endpoint.{Endpoint}
-use Rattle.endpoint.specs.Record.{good}
+use Rattle.endpoint.specs.Record.{limited, good}
 use Rattle.endpoint.proofs.Told.{good-told}
-use Rattle.sending.specs.Calls.{Call, OPEN, READY, DATA, NOOP, CLOSE, outgoing, bundleWith, aboveLimit, misgiven}
+use Rattle.table.specs.declared.Row.the-variants.{To}
+use Rattle.table.specs.Table.{atRow}
+use Rattle.receiving.specs.declared.Carried.the-variants.{Content as Carried·Content}
+use Rattle.receiving.specs.declared.Content.{Content}
+use Rattle.receiving.specs.declared.Content.the-variants.{Nothing, Opening as Content·Opening, Body as Content·Body}
+use Rattle.receiving.specs.declared.Received.{Received}
+use Rattle.receiving.specs.Hearing.{accepted, carriedBy, confirmedBy, hearOf, limitedBy, openAt, openCarried, replyTo, unmatched}
+use Rattle.sending.specs.Calls.{written, Call, OPEN, READY, DATA, NOOP, CLOSE, outgoing, bundleWith, aboveLimit, misgiven}
 use Rattle.sending.proofs.Decided.{accepted-passed}
 use Rattle.machine.specs.Good.{Fits}
-use Rattle.machine.specs.Round.{ReadBack, ReadsBack}
+use Rattle.machine.specs.Round.{ReadBack, ReadsBack, ContentSent, HeardAsSent, afterHearing, confirmation, isOffered, messageSent}
 use Rattle.machine.proofs.Bundled.{frame-read, framed-read, plain-read}
+use Rattle.machine.proofs.Hearing.{message-heard, offered-heard}
 
 not-false : (t : Bool) → not t ≡ false → t ≡ true
 not-false true e = refl
@@ -59,3 +69,98 @@ pub reads-back : ReadsBack
 reads-back e is-good call fits room number =
     let passed = accepted-passed e (outgoing e call) room number in
     call-read e is-good call fits (passed .within) (passed .given)
+
+-- ---- heard as sent
+
+-- only a reply confirms
+never-unmatched : (e r : Endpoint) (call : Call) → unmatched r (messageSent e call) ≡ false
+unfolding unmatched
+never-unmatched e r (OPEN name format) = refl
+never-unmatched e r (READY count) = refl
+never-unmatched e r (DATA type-data true body) = refl
+never-unmatched e r (DATA type-data false body) = refl
+never-unmatched e r (NOOP type-data true) = refl
+never-unmatched e r (NOOP type-data false) = refl
+never-unmatched e r (CLOSE code) = refl
+
+-- what the content of a call becomes at the other end
+record Carried (e : Endpoint) (call : Call) (r : Endpoint) (name format : List ℕ) : Type 0 where
+  content : Content
+  sent : ContentSent e call (written e call) content
+  carried : carriedBy r (written e call) name format (messageSent e call) ≡ Carried·Content content
+  limits : (moved : Endpoint) → limitedBy moved content ≡ afterHearing e call moved
+
+module _ (e : Endpoint) (is-good : good e ≡ true) (r : Endpoint) (name format : List ℕ) where
+  open-carried : (asked wanted : List ℕ) → isGood asked wanted ≡ true → ReadBack e (OPEN asked wanted) → isOffered e (OPEN asked wanted) r name format ≡ true → Carried e (OPEN asked wanted) r name format
+  unfolding carriedBy openAt
+  open-carried asked wanted given back offers =
+      let frame = frameFor (e .flow) asked wanted (e .limit) in
+      let read = read-back (e .flow) asked wanted (e .limit) given (good-told e is-good .bounded) (written e (OPEN asked wanted)) 18 (back .framed) in
+      let heard = read .heard (r .flow) name format ∙ offered-heard (e .flow) asked wanted (read .opening) (r .flow) name format offers in
+      record {
+        content = Content·Opening (read .opening);
+        sent =
+            record {
+              opening = read .opening;
+              is = refl;
+              socket = read .socket;
+              named = read .named;
+              formatted = read .formatted;
+              parametrized = read .parametrized;
+              announced = read .limited;
+            };
+        carried = ap openCarried heard;
+        limits = λ moved. ap (limited moved) (read .limited);
+      }
+
+  call-carried : (call : Call) → misgiven call ≡ false → ReadBack e call → isOffered e call r name format ≡ true → Carried e call r name format
+  unfolding carriedBy
+  call-carried (OPEN asked wanted) given back offers = open-carried asked wanted (not-false (isGood asked wanted) given) back offers
+  call-carried (READY count) given back offers = record { content = Nothing; sent = refl; carried = refl; limits = λ moved. refl }
+  call-carried (DATA type-data ask body) given back offers =
+      let place : Place = record { at = 18; length = length body } in
+      record { content = Content·Body place; sent = record { place = place; is = refl; bytes = back .framed }; carried = refl; limits = λ moved. refl }
+  call-carried (NOOP type-data ask) given back offers = record { content = Nothing; sent = refl; carried = refl; limits = λ moved. refl }
+  call-carried (CLOSE code) given back offers = record { content = Nothing; sent = refl; carried = refl; limits = λ moved. refl }
+
+-- what is accepted of a call: nothing is confirmed, and the reply is the confirmation asked for
+
+not-confirmed : (e moved : Endpoint) (call : Call) → confirmedBy moved (messageSent e call) ≡ moved
+unfolding confirmedBy
+not-confirmed e moved (OPEN name format) = refl
+not-confirmed e moved (READY count) = refl
+not-confirmed e moved (DATA type-data true body) = refl
+not-confirmed e moved (DATA type-data false body) = refl
+not-confirmed e moved (NOOP type-data true) = refl
+not-confirmed e moved (NOOP type-data false) = refl
+not-confirmed e moved (CLOSE code) = refl
+
+replies : (e : Endpoint) (call : Call) → replyTo (messageSent e call) ≡ confirmation call
+unfolding replyTo
+replies e (OPEN name format) = refl
+replies e (READY count) = refl
+replies e (DATA type-data true body) = refl
+replies e (DATA type-data false body) = refl
+replies e (NOOP type-data true) = refl
+replies e (NOOP type-data false) = refl
+replies e (CLOSE code) = refl
+
+-- every call that a good endpoint accepts is heard as it was sent by every end that may hear it
+pub heard-as-sent : HeardAsSent
+unfolding accepted
+heard-as-sent e is-good call fits room number r name format phase n may =
+    let passed = accepted-passed e (outgoing e call) room number in
+    let back = reads-back e is-good call fits room number in
+    let found = call-carried e is-good r name format call (passed .given) back (may .offered) in
+    let heard : hearOf r (written e call) name format ≡ accepted r (messageSent e call) (To phase n) (found .content) =
+    message-heard r (messageSent e call) phase n (may .leads) (written e call) name format (found .content) (back .read) (may .small) (found .carried) (never-unmatched e r call) in
+    record {
+      content = found .content;
+      carried = found .sent;
+      answered = ap (λ (x : Received). x .answer) heard;
+      after =
+          ap (λ (x : Received). x .next) heard
+          ∙ ap (λ (moved : Endpoint). limitedBy moved (found .content)) (not-confirmed e (atRow r phase n) call)
+          ∙ found .limits (atRow r phase n);
+      replied = ap (λ (x : Received). x .reply) heard ∙ replies e call;
+    }

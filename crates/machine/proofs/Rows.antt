@@ -1,5 +1,5 @@
 -- What a row of the table leads to: a good endpoint, and for DATA and NOOP one that may await a confirmation. Assumes nothing.
-use mathlib.Core.Path.{_≡_, refl}
+use mathlib.Core.Path.{_≡_, _∙_, ap, refl, sym}
 use Prim.Native.Nat.{_-_, _<_, _^_, _≤_, ℕ}
 use mathlib.Core.Bool.{Bool, _&&_, _||_, cond, false, true}
 use native.Mathlib.Omega.{arith}
@@ -13,7 +13,7 @@ use Rattle.endpoint.specs.Record.{atPhase, batch, client, closed, countFits, fr
 use Rattle.endpoint.proofs.StaysGood.{closed-good, closed-sized, phase-good, phase-sized}
 use Rattle.endpoint.proofs.Told.{good-told}
 use Rattle.table.specs.declared.Row.{Row}
-use Rattle.table.specs.declared.Row.the-variants.{To}
+use Rattle.table.specs.declared.Row.the-variants.{NotAllowed, To}
 use Rattle.table.specs.Table.{allowed, atRow, begun, closeRow, dataRow, moved, noopRow, notAllowed, openRow, readyRow, rowOf, upTo}
 use Rattle.machine.specs.Good.{Sound}
 
@@ -140,3 +140,30 @@ module _ (e : Endpoint) (sound : Sound e) where
       go : (t : Bool) → leb idle (e .phase) && leb (e .phase) batch ≡ t → notAllowed (allowed t (To (e .phase) (e .n))) ≡ false → Acts e (moved e (allowed t (To (e .phase) (e .n))))
       go true there _ = noop-acts there
       go false there barred = let z : _≡_ {A = ℕ} 0 1 = cc in absurd (omega arith)
+
+-- no row leads on from phase 5
+
+never : (t : Bool) (row : Row) → cond (t && false) row NotAllowed ≡ NotAllowed
+never true row = refl
+never false row = refl
+
+neither : (t : Bool) → cond t NotAllowed NotAllowed ≡ NotAllowed
+neither true = refl
+neither false = refl
+
+shut-barred : (role flow n : ℕ) (message : MessageType) (type-data : ℕ) → rowOf role flow shut n message type-data ≡ NotAllowed
+unfolding openRow readyRow dataRow noopRow closeRow
+shut-barred role flow n Open type-data = never (eqb role client) (To opening 0)
+shut-barred role flow n Ready type-data = neither (eqb role client)
+shut-barred role flow n Noop type-data = refl
+shut-barred role flow n Data type-data = never (eqb flow producer) (begun batch (n - 1))
+shut-barred role flow n Close type-data = refl
+
+pub row-alive : (role flow phase n : ℕ) (message : MessageType) (type-data next count : ℕ) → rowOf role flow phase n message type-data ≡ To next count → eqb phase shut ≡ false
+row-alive role flow phase n message type-data next count leads = ne-eqb phase shut still
+  where
+    still : phase ≡ shut → ⊥
+    still is-shut =
+        let same : NotAllowed ≡ To next count = sym (shut-barred role flow n message type-data) ∙ ap (λ (p : ℕ). rowOf role flow p n message type-data) (sym is-shut) ∙ leads in
+        let z : _≡_ {A = ℕ} 0 1 = cc in
+        omega arith
