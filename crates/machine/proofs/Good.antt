@@ -1,50 +1,46 @@
 -- Every send and every receive leaves a good endpoint good. Assumes nothing.
-use mathlib.Core.Path.{_≡_, refl}
+use mathlib.Core.Path.{_≡_, refl, subst}
 use Prim.Native.Nat.{_<_, _^_, ℕ, _+_}
 use mathlib.Core.List.{List}
 use mathlib.Core.Bool.{Bool, cond, false, true}
-use lib.Dec.{eqb, ltb}
+use lib.Dec.{eqb}
 use borrow.Author.Tests.{eq-eqb, eqb-true}
 use Rattle.bytes_be.specs.declared.Place.{Place}
 use Rattle.bytes_be.proofs.Numbers.{Bytes}
 use Rattle.control.specs.declared.MessageType.{MessageType}
 use Rattle.control.specs.declared.MessageType.the-variants.{Open, Ready, Noop, Data, Close}
-use Rattle.control.specs.Frame.{typeOf}
+use Rattle.wire.specs.Varint.{bounded}
 use Rattle.terms.specs.Announced.{announcedLimit}
 use Rattle.open.specs.declared.Open.{Open as OpenFrame}
 use Rattle.open.specs.declared.Open.the-variants.{Heard, Refused}
 use Rattle.open.specs.Open.{heardBy}
+use Rattle.open.proofs.Limits.{HeardBounded, heard-bounded}
+use Rattle.open.proofs.Stages.{OfOpening}
 use Rattle.message.specs.declared.Body.{Body}
 use Rattle.message.specs.declared.Body.the-variants.{Nothing as Body·Nothing, At}
 use Rattle.message.specs.declared.Message.{Message}
-use Rattle.message.specs.declared.Reading.{Reading}
-use Rattle.message.specs.declared.Reading.the-variants.{Read, Refused as Reading·Refused}
-use Rattle.message.specs.declared.Test.{Test}
-use Rattle.message.specs.declared.Test.the-variants.{Passes, Fails}
-use Rattle.message.specs.Reading.{bodyPlace, readingOf, testOf}
+use Rattle.message.specs.Reading.{bodyPlace}
 use Rattle.message.proofs.Inside.{read-small}
 use Rattle.endpoint.specs.declared.Endpoint.{Endpoint}
 use Rattle.endpoint.specs.declared.Entry.{Entry}
-use Rattle.endpoint.specs.Record.{asked, awaitable, producer, confirmed, shut}
+use Rattle.endpoint.specs.Record.{asked, awaitable, producer, confirmed}
 use Rattle.endpoint.proofs.StaysGood.{asked-good, asked-sized, confirmed-good, confirmed-sized, limited-good, limited-sized}
 use Rattle.table.specs.declared.Row.{Row}
-use Rattle.table.specs.Table.{moved, notAllowed, aboveOffer, other}
+use Rattle.table.specs.Table.{moved, notAllowed, other}
 use Rattle.receiving.specs.declared.Carried.{Carried}
 use Rattle.receiving.specs.declared.Carried.the-variants.{Content as Carried·Content, Refused as Carried·Refused}
 use Rattle.receiving.specs.declared.Content.{Content}
 use Rattle.receiving.specs.declared.Content.the-variants.{Nothing, Opening, Body as Content·Body}
 use Rattle.receiving.specs.declared.Received.{Received}
-use Rattle.receiving.specs.Hearing.{accepted, ifPasses, ifCarried, ifRead, bodyCarried, carriedAs, carriedBy, confirmedBy, confirms, hearContent, hearMessage, hearOf, hearRow, limitedBy, movesAs, openAt, openCarried, tooLarge, unmatched}
-use Rattle.receiving.specs.Receiving.{receivedOf}
+use Rattle.receiving.specs.Hearing.{accepted, bodyCarried, carriedAs, carriedBy, confirmedBy, confirms, hearRow, limitedBy, movesAs, openAt, openCarried}
 use Rattle.receiving.specs.Refusing.{refused, unchanged}
 use Rattle.sending.specs.declared.Sent.{Sent}
 use Rattle.sending.specs.Calls.{Call, OPEN, READY, DATA, NOOP, CLOSE, outgoing}
 use Rattle.sending.specs.Sending.{askedBy, numberFor, sendRow, sentBy}
 use Rattle.sending.proofs.Decided.{all-passed}
 use Rattle.machine.specs.Good.{Fits, SentGood, Sound, HeardGood}
-use Rattle.open.proofs.Limits.{HeardBounded, heard-bounded}
-use Rattle.open.proofs.Stages.{OfOpening}
 use Rattle.machine.proofs.Rows.{Acts, row-sound, sent-data-acts, sent-noop-acts, closed-sound}
+use Rattle.machine.proofs.Stages.{Passed, received-holds}
 
 module _ (e : Endpoint) (sound : Sound e) where
   -- an ask, or none
@@ -114,26 +110,6 @@ carried-bounded e s name format m = go (m .message)
     go Close = body-carries (m .body)
 
 module _ (e : Endpoint) (sound : Sound e) where
-  -- stage by stage: what is refused is closed
-
-  refused-sound : (number said : ℕ) → Sound (refused e number said .next)
-  unfolding refused
-  refused-sound number said = closed-sound e sound
-
-  by-test : (test : Test) (refusal next : Received) → Sound (refusal .next) → Sound (next .next) → Sound (ifPasses test refusal next .next)
-  by-test Passes refusal next first second = second
-  by-test Fails refusal next first second = first
-
-  by-content : (carried : Carried) (refuse : ℕ → Received) (next : Content → Received) → ((number : ℕ) → Sound (refuse number .next))
-      → ((content : Content) → CarriedBounded (Carried·Content content) → Sound (next content .next)) → CarriedBounded carried → Sound (ifCarried carried refuse next .next)
-  by-content (Carried·Refused number) refuse next first second bounded = first number
-  by-content (Carried·Content content) refuse next first second bounded = second content bounded
-
-  by-reading : (reading : Reading) (refuse : ℕ → ℕ → Received) (next : Message → Received) → ((number said : ℕ) → Sound (refuse number said .next))
-      → ((m : Message) → reading ≡ Read m → Sound (next m .next)) → Sound (ifRead reading refuse next .next)
-  by-reading (Reading·Refused refusal) refuse next first second = first (refusal .number) (refusal .said)
-  by-reading (Read m) refuse next first second = second m refl
-
   -- a confirmation, or none
   confirmed-sound : (t : Bool) (after : Endpoint) → Sound after → Sound (cond t (confirmed after) after)
   confirmed-sound true after good =
@@ -148,35 +124,21 @@ module _ (e : Endpoint) (sound : Sound e) where
       record { sized = limited-sized after (good .sized) limit; is-good = limited-good after (good .is-good) limit bounded }
   limited-sound (Content·Body place) after bounded good = good
 
-  message-sound : (s name format : List ℕ) (m : Message) → m .«type_data» < 256 ^ 2 → Sound (hearMessage e s name format m .next)
-  unfolding hearMessage hearContent accepted confirmedBy hearRow
-  message-sound s name format m few =
-      let row : Row = hearRow e m in
-      by-test (testOf (tooLarge e m)) _ _ (refused-sound 16 (typeOf (m .message)))
-      (by-test (testOf (notAllowed row)) _ _ (refused-sound 17 (typeOf (m .message)))
-      (by-content (carriedBy e s name format m) _ _ (λ number. refused-sound number (typeOf (m .message))) (λ content bounded.
-      by-test (testOf (aboveOffer row)) _ _ (refused-sound 23 (typeOf (m .message)))
-      (by-test (testOf (unmatched e m)) _ _ (refused-sound 24 (typeOf (m .message)))
-      (limited-sound content _ bounded
-      (confirmed-sound (confirms (m .message) (m .flags)) (moved e row)
-      (row-sound e sound (other (e .role)) (other (e .flow)) (movesAs (m .message) (m .flags)) (m .«type_data») few)))))
-      (carried-bounded e s name format m)))
+  stays-sound : (number : ℕ) → Sound (unchanged e number .next)
+  unfolding unchanged
+  stays-sound number = sound
 
-  heard-sound : (s : List ℕ) → Bytes s → (name format : List ℕ) → Sound (hearOf e s name format .next)
-  unfolding hearOf unchanged
-  heard-sound s bytes name format = go (eqb (e .phase) shut)
-    where
-      go : (t : Bool) → Sound (cond t (unchanged e 3) (ifRead (readingOf s) (refused e) (hearMessage e s name format)) .next)
-      go true = sound
-      go false = by-reading (readingOf s) (refused e) (hearMessage e s name format) refused-sound (λ m read. message-sound s name format m (read-small s bytes m read))
+  refused-sound : (number said : ℕ) → Sound (refused e number said .next)
+  unfolding refused
+  refused-sound number said = closed-sound e sound
 
-  received-sound : (s : List ℕ) → Bytes s → (name format : List ℕ) (room : ℕ) → Sound (receivedOf e s name format room .next)
-  unfolding receivedOf unchanged
-  received-sound s bytes name format room = go (ltb room 14)
-    where
-      go : (t : Bool) → Sound (cond t (unchanged e 2) (hearOf e s name format) .next)
-      go true = sound
-      go false = heard-sound s bytes name format
+  message-sound : (s : List ℕ) → Bytes s → (name format : List ℕ) (m : Message) (content : Content) → Passed e s name format m content → Sound (accepted e m (hearRow e m) content .next)
+  unfolding accepted confirmedBy hearRow
+  message-sound s bytes name format m content passed =
+      limited-sound content _ (subst CarriedBounded (passed .carried) (carried-bounded e s name format m))
+      (confirmed-sound (confirms (m .message) (m .flags)) (moved e (hearRow e m))
+      (row-sound e sound (other (e .role)) (other (e .flow)) (movesAs (m .message) (m .flags)) (m .«type_data») (read-small s bytes m (passed .read))))
 
 pub heard-good : HeardGood
-heard-good = received-sound
+heard-good e sound s bytes name format room =
+    received-holds (λ (x : Received). Sound (x .next)) e s name format (stays-sound e sound) (refused-sound e sound) (message-sound e sound s bytes name format) room
