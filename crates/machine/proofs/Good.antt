@@ -9,7 +9,6 @@ use Rattle.bytes_be.specs.declared.Place.{Place}
 use Rattle.bytes_be.proofs.Numbers.{Bytes}
 use Rattle.control.specs.declared.MessageType.{MessageType}
 use Rattle.control.specs.declared.MessageType.the-variants.{Open, Ready, Noop, Data, Close}
-use Rattle.wire.specs.Varint.{bounded}
 use Rattle.terms.specs.Announced.{announcedLimit}
 use Rattle.open.specs.declared.Open.{Open as OpenFrame}
 use Rattle.open.specs.declared.Open.the-variants.{Heard, Refused}

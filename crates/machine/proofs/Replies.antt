@@ -1,7 +1,7 @@
--- What is replied is read as it was replied, and a receive replies nothing else. Assumes nothing.
-use mathlib.Core.Path.{_≡_, refl, subst}
+-- What is replied is read, and heard by an end that may hear it, as it was replied, and a receive replies nothing else. Assumes nothing.
+use mathlib.Core.Path.{_≡_, _∙_, refl, subst}
 use Prim.Native.Nat.{_<_, _^_, ℕ}
-use mathlib.Core.List.{List}
+use mathlib.Core.List.{List, []}
 use mathlib.Core.Bool.{Bool, _&&_, cond, false, true}
 use native.Mathlib.Omega.{arith}
 use lib.Dec.{eqb, lit<}
@@ -15,14 +15,18 @@ use Rattle.message.specs.Reading.{strangeFlags}
 use Rattle.message.proofs.Inside.{read-small}
 use Rattle.endpoint.specs.declared.Endpoint.{Endpoint}
 use Rattle.endpoint.specs.Record.{fresh, server}
+use Rattle.receiving.specs.declared.Carried.the-variants.{Content as Carried·Content}
 use Rattle.receiving.specs.declared.Content.{Content}
+use Rattle.receiving.specs.declared.Content.the-variants.{Nothing as Content·Nothing}
 use Rattle.receiving.specs.declared.Received.{Received}
 use Rattle.receiving.specs.declared.Reply.{Reply}
 use Rattle.receiving.specs.declared.Reply.the-variants.{Nothing, Frame}
-use Rattle.receiving.specs.Hearing.{accepted, asks, hearRow, replyTo}
+use Rattle.receiving.specs.Hearing.{accepted, asks, hearRow, replyTo, carriedBy, confirmedBy}
+use Rattle.receiving.specs.Receiving.{replyBytes}
 use Rattle.receiving.specs.Refusing.{refused, unchanged, closeCode, silent, versionCode}
-use Rattle.machine.specs.Round.{RepliesOnly, RepliesReadBack, isReply}
+use Rattle.machine.specs.Round.{RepliesOnly, RepliesReadBack, isReply, RepliesHeard, messageWith}
 use Rattle.machine.proofs.Bundled.{plain-read}
+use Rattle.machine.proofs.Hearing.{message-heard}
 use Rattle.machine.proofs.Stages.{Passed, received-holds}
 
 -- each of them is read
@@ -94,3 +98,23 @@ pub replies-only : RepliesOnly
 replies-only e s bytes name format room message flags type-data reply =
     subst OfReply reply
     (received-holds (λ (x : Received). OfReply (x .reply)) e s name format (stays-replied e) (refused-replied e) (message-replied e s bytes name format) room)
+
+-- each is heard by an end that may hear it
+
+-- it carries nothing, and it does not ask
+bare : (message : MessageType) (flags type-data : ℕ) → isReply message flags ≡ true → (r : Endpoint) (name format : List ℕ) →
+    (carriedBy r (replyBytes (Frame message flags type-data)) name format (messageWith message flags type-data []) ≡ Carried·Content Content·Nothing) × (asks message flags ≡ false)
+unfolding carriedBy
+bare Open flags type-data reply r name format = let z : _≡_ {A = ℕ} 0 1 = cc in absurd (omega arith)
+bare Ready flags type-data reply r name format = let z : _≡_ {A = ℕ} 0 1 = cc in absurd (omega arith)
+bare Noop flags type-data reply r name format = (refl, rw (eqb-true flags ackReply reply) refl)
+bare Data flags type-data reply r name format = (refl, rw (eqb-true flags ackReply reply) refl)
+bare Close flags type-data reply r name format = (refl, refl)
+
+pub replies-heard : RepliesHeard
+unfolding accepted confirmedBy replyTo
+replies-heard message flags type-data reply few r name format phase n may =
+    let nothing = bare message flags type-data reply r name format in
+    let read = replies-read-back message flags type-data reply few in
+    message-heard r (messageWith message flags type-data []) phase n (may .leads) (replyBytes (Frame message flags type-data)) name format Content·Nothing read (may .small) (nothing .0) (may .matched)
+    ∙ simp (nothing .1)

@@ -2,13 +2,13 @@
 use mathlib.Core.Path.{_≡_, refl, _∙_, ap}
 use Prim.Native.Nat.{_+_, _<_, _^_, ℕ}
 use mathlib.Core.List.{List}
-use mathlib.Core.Bool.{Bool, false, not, true}
+use mathlib.Core.Bool.{false, true}
 use native.Mathlib.Omega.{arith}
 use lib.Dec.{leb, ltb}
 use lib.ListN.{length}
 use borrow.Author.Tests.{leb-true, ltb-false}
 use Rattle.bytes_be.specs.declared.Place.{Place}
-use Rattle.bytes_be.proofs.Tests.{both-true}
+use Rattle.bytes_be.proofs.Tests.{both-true, not-false}
 use Rattle.control.specs.declared.MessageType.the-variants.{Open, Ready, Noop, Data, Close}
 use Rattle.double.specs.Limit.{leastLimit, mostLimit}
 use Rattle.open_write.specs.Frame.{frameFor, isGood}
@@ -24,17 +24,13 @@ use Rattle.receiving.specs.declared.Carried.the-variants.{Content as Carried·C
 use Rattle.receiving.specs.declared.Content.{Content}
 use Rattle.receiving.specs.declared.Content.the-variants.{Nothing, Opening as Content·Opening, Body as Content·Body}
 use Rattle.receiving.specs.declared.Received.{Received}
-use Rattle.receiving.specs.Hearing.{accepted, carriedBy, confirmedBy, hearOf, limitedBy, openAt, openCarried, replyTo, unmatched}
-use Rattle.sending.specs.Calls.{written, Call, OPEN, READY, DATA, NOOP, CLOSE, outgoing, bundleWith, aboveLimit, misgiven}
+use Rattle.receiving.specs.Hearing.{accepted, carriedBy, confirmedBy, hearOf, limitedBy, openAt, openCarried, replyTo, unmatched, asks, confirms}
+use Rattle.sending.specs.Calls.{written, Call, OPEN, READY, DATA, NOOP, CLOSE, outgoing, bundleWith, aboveLimit, misgiven, askOf, flagsFor, messageOf}
 use Rattle.sending.proofs.Decided.{accepted-passed}
 use Rattle.machine.specs.Good.{Fits}
 use Rattle.machine.specs.Round.{ReadBack, ReadsBack, ContentSent, HeardAsSent, afterHearing, confirmation, isOffered, messageSent}
 use Rattle.machine.proofs.Bundled.{frame-read, framed-read, plain-read}
 use Rattle.machine.proofs.Hearing.{message-heard, offered-heard}
-
-not-false : (t : Bool) → not t ≡ false → t ≡ true
-not-false true e = refl
-not-false false e = let z : _≡_ {A = ℕ} 0 1 = cc in absurd (omega arith)
 
 module _ (e : Endpoint) (is-good : good e ≡ true) where
   -- a body of a message that is not above the limit
@@ -72,16 +68,28 @@ reads-back e is-good call fits room number =
 
 -- ---- heard as sent
 
--- only a reply confirms
-never-unmatched : (e r : Endpoint) (call : Call) → unmatched r (messageSent e call) ≡ false
-unfolding unmatched
-never-unmatched e r (OPEN name format) = refl
-never-unmatched e r (READY count) = refl
-never-unmatched e r (DATA type-data true body) = refl
-never-unmatched e r (DATA type-data false body) = refl
-never-unmatched e r (NOOP type-data true) = refl
-never-unmatched e r (NOOP type-data false) = refl
-never-unmatched e r (CLOSE code) = refl
+-- a call confirms nothing, and is answered where it asks
+own-flags : (call : Call) → (confirms (messageOf call) (flagsFor (askOf call)) ≡ false) × (asks (messageOf call) (flagsFor (askOf call)) ≡ askOf call)
+own-flags (OPEN name format) = (refl, refl)
+own-flags (READY count) = (refl, refl)
+own-flags (DATA type-data true body) = (refl, refl)
+own-flags (DATA type-data false body) = (refl, refl)
+own-flags (NOOP type-data true) = (refl, refl)
+own-flags (NOOP type-data false) = (refl, refl)
+own-flags (CLOSE code) = (refl, refl)
+
+module _ (e : Endpoint) (call : Call) where
+  never-unmatched : (r : Endpoint) → unmatched r (messageSent e call) ≡ false
+  unfolding unmatched
+  never-unmatched r = simp (own-flags call .0)
+
+  not-confirmed : (moved : Endpoint) → confirmedBy moved (messageSent e call) ≡ moved
+  unfolding confirmedBy
+  not-confirmed moved = simp (own-flags call .0)
+
+  answers : replyTo (messageSent e call) ≡ confirmation call
+  unfolding replyTo
+  answers = simp (own-flags call .1)
 
 -- what the content of a call becomes at the other end
 record Carried (e : Endpoint) (call : Call) (r : Endpoint) (name format : List ℕ) : Type 0 where
@@ -123,28 +131,6 @@ module _ (e : Endpoint) (is-good : good e ≡ true) (r : Endpoint) (name format 
   call-carried (NOOP type-data ask) given back offers = record { content = Nothing; sent = refl; carried = refl; limits = λ moved. refl }
   call-carried (CLOSE code) given back offers = record { content = Nothing; sent = refl; carried = refl; limits = λ moved. refl }
 
--- what is accepted of a call: nothing is confirmed, and the reply is the confirmation asked for
-
-not-confirmed : (e moved : Endpoint) (call : Call) → confirmedBy moved (messageSent e call) ≡ moved
-unfolding confirmedBy
-not-confirmed e moved (OPEN name format) = refl
-not-confirmed e moved (READY count) = refl
-not-confirmed e moved (DATA type-data true body) = refl
-not-confirmed e moved (DATA type-data false body) = refl
-not-confirmed e moved (NOOP type-data true) = refl
-not-confirmed e moved (NOOP type-data false) = refl
-not-confirmed e moved (CLOSE code) = refl
-
-replies : (e : Endpoint) (call : Call) → replyTo (messageSent e call) ≡ confirmation call
-unfolding replyTo
-replies e (OPEN name format) = refl
-replies e (READY count) = refl
-replies e (DATA type-data true body) = refl
-replies e (DATA type-data false body) = refl
-replies e (NOOP type-data true) = refl
-replies e (NOOP type-data false) = refl
-replies e (CLOSE code) = refl
-
 -- every call that a good endpoint accepts is heard as it was sent by every end that may hear it
 pub heard-as-sent : HeardAsSent
 unfolding accepted
@@ -153,14 +139,14 @@ heard-as-sent e is-good call fits room number r name format phase n may =
     let back = reads-back e is-good call fits room number in
     let found = call-carried e is-good r name format call (passed .given) back (may .offered) in
     let heard : hearOf r (written e call) name format ≡ accepted r (messageSent e call) (To phase n) (found .content) =
-    message-heard r (messageSent e call) phase n (may .leads) (written e call) name format (found .content) (back .read) (may .small) (found .carried) (never-unmatched e r call) in
+    message-heard r (messageSent e call) phase n (may .leads) (written e call) name format (found .content) (back .read) (may .small) (found .carried) (never-unmatched e call r) in
     record {
       content = found .content;
       carried = found .sent;
       answered = ap (λ (x : Received). x .answer) heard;
       after =
           ap (λ (x : Received). x .next) heard
-          ∙ ap (λ (moved : Endpoint). limitedBy moved (found .content)) (not-confirmed e (atRow r phase n) call)
+          ∙ ap (λ (moved : Endpoint). limitedBy moved (found .content)) (not-confirmed e call (atRow r phase n))
           ∙ found .limits (atRow r phase n);
-      replied = ap (λ (x : Received). x .reply) heard ∙ replies e call;
+      replied = ap (λ (x : Received). x .reply) heard ∙ answers e call;
     }

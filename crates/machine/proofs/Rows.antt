@@ -39,25 +39,25 @@ module _ (e : Endpoint) (sound : Sound e) where
   unfolding atRow countFits waitFits atPhase
   idle-acts = record { sound = at-sound e sound idle 0 (omega arith) refl refl; early = omega arith; late = omega arith; same = refl }
 
-  offer-acts : (count : ℕ) → count < 256 ^ 2 → 0 < count → Acts e (atRow e offer count)
+  counted-acts : (phase count : ℕ) → offer ≤ phase → phase ≤ batch → eqb phase offer || eqb phase batch ≡ true → count < 256 ^ 2 → 0 < count → Acts e (atRow e phase count)
   unfolding atRow countFits waitFits atPhase
-  offer-acts count few some =
-      record {
-        sound = at-sound e sound offer count (omega arith) (simp (le-leb 1 count some, le-leb count 65535 (omega arith))) refl;
+  counted-acts phase count early late either few some =
+      let later = ne-eqb phase fresh (λ same. omega arith) in
+      let opened = ne-eqb phase opening (λ same. omega arith) in
+      let alive = ne-eqb phase shut (λ same. omega arith) in
+      simp alive
+      (record {
+        sound = at-sound e sound phase count (omega arith) (simp (either, le-leb 1 count some, le-leb count 65535 (omega arith))) (simp (later, opened, alive));
         early = omega arith;
-        late = omega arith;
+        late = late;
         same = refl;
-      }
+      })
+
+  offer-acts : (count : ℕ) → count < 256 ^ 2 → 0 < count → Acts e (atRow e offer count)
+  offer-acts count = counted-acts offer count (omega arith) (omega arith) refl
 
   batch-acts : (count : ℕ) → count < 256 ^ 2 → 0 < count → Acts e (atRow e batch count)
-  unfolding atRow countFits waitFits atPhase
-  batch-acts count few some =
-      record {
-        sound = at-sound e sound batch count (omega arith) (simp (le-leb 1 count some, le-leb count 65535 (omega arith))) refl;
-        early = omega arith;
-        late = omega arith;
-        same = refl;
-      }
+  batch-acts count = counted-acts batch count (omega arith) (omega arith) refl
 
   begun-acts : (phase count : ℕ) → (0 < count → Acts e (atRow e phase count)) → Acts e (moved e (begun phase count))
   unfolding begun

@@ -21,7 +21,7 @@ use Rattle.message.specs.declared.Message.{Message}
 use Rattle.message.specs.declared.Reading.the-variants.{Read}
 use Rattle.message.specs.Reading.{bodyPlace, readingOf}
 use Rattle.endpoint.specs.declared.Endpoint.{Endpoint}
-use Rattle.endpoint.specs.Record.{good, limited}
+use Rattle.endpoint.specs.Record.{good, confirmed, limited}
 use Rattle.table.specs.declared.Row.the-variants.{To}
 use Rattle.table.specs.Table.{atRow}
 use Rattle.receiving.specs.declared.Content.{Content}
@@ -29,7 +29,7 @@ use Rattle.receiving.specs.declared.Content.the-variants.{Nothing, Opening as C
 use Rattle.receiving.specs.declared.Answer.the-variants.{Heard}
 use Rattle.receiving.specs.declared.Reply.{Reply}
 use Rattle.receiving.specs.declared.Reply.the-variants.{Nothing as Reply·Nothing, Frame}
-use Rattle.receiving.specs.Hearing.{hearRow, tooLarge, hearOf}
+use Rattle.receiving.specs.Hearing.{confirms, hearRow, tooLarge, unmatched, hearOf}
 use Rattle.receiving.specs.Receiving.{replyBytes, receivedOf}
 use Rattle.sending.specs.Calls.{Call, OPEN, READY, DATA, NOOP, CLOSE, messageOf, typeDataOf, askOf, flagsFor, dataFrames, written}
 use Rattle.sending.specs.Sending.{sendOf}
@@ -165,3 +165,21 @@ abbrev pub RepliesOnly : Type 0
 RepliesOnly =
     (e : Endpoint) (s : List ℕ) → ((i : ℕ) → getD s i 0 < 256) → (name format : List ℕ) (room : ℕ) (message : MessageType) (flags type-data : ℕ)
     → receivedOf e s name format room .reply ≡ Frame message flags type-data → (isReply message flags ≡ true) × (type-data < 256 ^ 2)
+
+-- an end may hear a reply: its row leads to this phase and n, it is not too large, and a confirmation is that of the oldest entry
+pub record MayHearReply (message : MessageType) (flags type-data : ℕ) (r : Endpoint) (phase n : ℕ) : Type 0 where
+  pub leads : hearRow r (messageWith message flags type-data []) ≡ To phase n
+  pub small : tooLarge r (messageWith message flags type-data []) ≡ false
+  pub matched : unmatched r (messageWith message flags type-data []) ≡ false
+
+-- it is heard as it was replied: a confirmation "removes" the oldest entry, and nothing is replied to it
+abbrev pub RepliesHeard : Type 0
+RepliesHeard =
+    (message : MessageType) (flags type-data : ℕ) → isReply message flags ≡ true → type-data < 256 ^ 2
+    → (r : Endpoint) (name format : List ℕ) (phase n : ℕ) → MayHearReply message flags type-data r phase n
+    → hearOf r (replyBytes (Frame message flags type-data)) name format ≡
+    record {
+      answer = Heard (record { message = message; flags = flags; «type_data» = type-data; frames = 0; content = Nothing });
+      next = cond (confirms message flags) (confirmed (atRow r phase n)) (atRow r phase n);
+      reply = Reply·Nothing;
+    }

@@ -7,7 +7,6 @@ use mathlib.Core.Bool.{Bool, true, false, cond, _&&_}
 use lib.Dec.{ltb, eqb}
 use lib.ListN.{length}
 use borrow.Author.Tests.{ltb-true}
-use Rattle.bytes_be.specs.declared.Place.{Place}
 use Rattle.bytes_be.specs.Number.{fromBytes, numberAt}
 use Rattle.bytes_be.specs.Part.{partAt}
 use Rattle.bytes_be.proofs.Numbers.{Bytes, bytes-part, number-below}

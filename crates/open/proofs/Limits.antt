@@ -1,12 +1,11 @@
 -- The limit that is heard with an OPEN is in the limits. Assumes nothing.
-use mathlib.Core.Path.{_≡_, refl}
 use Prim.Native.Nat.{_+_, ℕ}
 use mathlib.Core.List.{List}
-use mathlib.Core.Bool.{Bool, _&&_, _||_, false, not, true}
-use native.Mathlib.Omega.{arith}
+use mathlib.Core.Bool.{Bool, _&&_, _||_, not}
 use lib.Dec.{eqb, leb, ltb}
 use borrow.Author.Tests.{eqb-true}
 use Rattle.bytes_be.specs.Part.{partAt, same}
+use Rattle.bytes_be.proofs.Tests.{last-false, not-false}
 use Rattle.params.specs.declared.Check.{Check}
 use Rattle.params.specs.declared.Check.the-variants.{Good, Refused as Check·Refused}
 use Rattle.terms.specs.Announced.{announcedNumber}
@@ -23,14 +22,6 @@ SaidBounded opening = Bounded (opening .announced)
 
 abbrev pub HeardBounded : Opening → Type 0
 HeardBounded opening = Limited (opening .announced)
-
-last-false : (a b : Bool) → a || b ≡ false → b ≡ false
-last-false true b e = let z : _≡_ {A = ℕ} 0 1 = cc in absurd (omega arith)
-last-false false b e = e
-
-not-false : (a : Bool) → not a ≡ false → a ≡ true
-not-false true e = refl
-not-false false e = let z : _≡_ {A = ℕ} 0 1 = cc in absurd (omega arith)
 
 readable-bounded : (s : List ℕ) (from to : ℕ) → OfOpening SaidBounded (readable s from to)
 unfolding readable openingOf
