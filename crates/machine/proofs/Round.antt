@@ -102,7 +102,6 @@ module _ (e : Endpoint) (is-good : good e ≡ true) (r : Endpoint) (name format 
   open-carried : (asked wanted : List ℕ) → isGood asked wanted ≡ true → ReadBack e (OPEN asked wanted) → isOffered e (OPEN asked wanted) r name format ≡ true → Carried e (OPEN asked wanted) r name format
   unfolding carriedBy openAt
   open-carried asked wanted given back offers =
-      let frame = frameFor (e .flow) asked wanted (e .limit) in
       let read = read-back (e .flow) asked wanted (e .limit) given (good-told e is-good .bounded) (written e (OPEN asked wanted)) 18 (back .framed) in
       let heard = read .heard (r .flow) name format ∙ offered-heard (e .flow) asked wanted (read .opening) (r .flow) name format offers in
       record {
