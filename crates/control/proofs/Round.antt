@@ -32,14 +32,16 @@ type-few Noop = omega arith
 type-few Data = omega arith
 type-few Close = omega arith
 
-version-back : (type : ℕ) → versionOf (controlByte type) ≡ One type
+-- each stage passes what was written
+
+pub version-back : (type : ℕ) → versionOf (controlByte type) ≡ One type
 unfolding versionOf
 version-back type =
     let low : versionIn (controlByte type) ≡ version = omega arith in
     let high : typeIn (controlByte type) ≡ type = omega arith in
     simp (low, high)
 
-known-back : (message : MessageType) → knownTypeOf (typeOf message) ≡ Known message
+pub known-back : (message : MessageType) → knownTypeOf (typeOf message) ≡ Known message
 unfolding knownTypeOf
 known-back Open = refl
 known-back Ready = refl
@@ -47,7 +49,7 @@ known-back Noop = refl
 known-back Data = refl
 known-back Close = refl
 
-signed-back : (message : MessageType) (flags type-data : ℕ) → type-data < 65536 → signedOf (bytesOf message flags type-data) ≡ Frame (controlByte (typeOf message)) flags type-data
+pub signed-back : (message : MessageType) (flags type-data : ℕ) → type-data < 65536 → signedOf (bytesOf message flags type-data) ≡ Frame (controlByte (typeOf message)) flags type-data
 unfolding signedOf bytesOf toBytes numberAt fromBytes fromBytesBehind
 signed-back message flags type-data h =
     let control : 0 + controlByte (typeOf message) ≡ controlByte (typeOf message) = omega arith in

@@ -21,9 +21,9 @@ use Rattle.receiving.specs.Refusing.{closeCode, silent, refused}
 use Rattle.receiving.specs.Hearing.{movesAs, hearRow, tooLarge, carriedBy, unmatched, confirmedBy, replyTo, accepted, hearContent, hearMessage, hearOf}
 use Rattle.receiving.specs.Receiving.{receivedOf}
 use Rattle.sending.specs.Calls.{bundleWith}
-use Rattle.sending.specs.Sending.{sendRow, isFull, numberFor, sentBy, leftBy}
+use Rattle.sending.specs.Sending.{sendRow, isFull, numberFor, askedBy, sentBy, leftBy}
 use Rattle.marked.specs.Cases.{marked, allPass}
 
 pub marked-pass : allPass marked ≡ true
-unfolding flatMap flatten same putAt fromBytesBehind fromBytes toBytes numberAt countOf lengthOf lengthsBefore startOf good sizeOf contentsOf frameOf bundleOf signedOf versionOf knownTypeOf bytesOf toBits ofInt Double·bytesOf table dueBehind rest wellFormed shortestWithin shortestOf tagOf varintField eightField bytesField goodName goodFormat isGood formatField parametersField frameFor strangeFlags bodyOf readAs readingOf freshOf closed atPhase begun openRow readyRow dataRow noopRow closeRow atRow closeCode silent refused movesAs hearRow tooLarge carriedBy unmatched confirmedBy replyTo accepted hearContent hearMessage hearOf receivedOf bundleWith sendRow isFull numberFor sentBy leftBy
+unfolding flatMap flatten same putAt fromBytesBehind fromBytes toBytes numberAt countOf lengthOf lengthsBefore startOf good sizeOf contentsOf frameOf bundleOf signedOf versionOf knownTypeOf bytesOf toBits ofInt Double·bytesOf table dueBehind rest wellFormed shortestWithin shortestOf tagOf varintField eightField bytesField goodName goodFormat isGood formatField parametersField frameFor strangeFlags bodyOf readAs readingOf freshOf closed atPhase begun openRow readyRow dataRow noopRow closeRow atRow closeCode silent refused movesAs hearRow tooLarge carriedBy unmatched confirmedBy replyTo accepted hearContent hearMessage hearOf receivedOf bundleWith sendRow isFull numberFor askedBy sentBy leftBy
 marked-pass = refl

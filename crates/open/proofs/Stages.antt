@@ -1,21 +1,21 @@
--- One stage behind another, and what is heard lies in the bytes. Assumes nothing.
+-- One stage behind another, what holds behind all of them, and that what is heard lies in the bytes. Assumes nothing.
+use mathlib.Core.Path.{_≡_, refl, sym, _∙_, subst}
 use Prim.Native.Nat.{ℕ, _+_, _≤_}
-use mathlib.Core.Path.{_≡_, sym, _∙_, subst}
 use mathlib.Core.List.{List}
 use mathlib.Core.Bool.{Bool, true, false, not, _||_}
-use lib.ListN.{length}
-use lib.Dec.{leb, eqb}
 use native.Mathlib.Omega.{arith}
+use lib.Dec.{leb, eqb}
+use lib.ListN.{length}
 use Rattle.bytes_be.specs.Part.{partAt, same}
 use Rattle.wire.specs.declared.Fault.{Fault}
 use Rattle.params.specs.declared.Check.{Check}
 use Rattle.params.specs.declared.Check.the-variants.{Good, Refused as Check·Refused}
-use Rattle.open.specs.declared.Parts.{Parts}
-use Rattle.open.specs.declared.Opening.{Opening}
-use Rattle.open.specs.declared.Refusal.{Refusal}
-use Rattle.open.specs.declared.Refusal.the-variants.{Unreadable, OutOfRange, UnknownSocket, OtherPipe}
 use Rattle.open.specs.declared.Open.{Open}
 use Rattle.open.specs.declared.Open.the-variants.{Heard, Refused}
+use Rattle.open.specs.declared.Opening.{Opening}
+use Rattle.open.specs.declared.Parts.{Parts}
+use Rattle.open.specs.declared.Refusal.{Refusal}
+use Rattle.open.specs.declared.Refusal.the-variants.{Unreadable, OutOfRange, UnknownSocket, OtherPipe}
 use Rattle.open.specs.Frame.{frameCheck, partsOf}
 use Rattle.open.specs.Open.{openingOf, ifGood, readable, refusedIf, outOfRange, inRange, knownSocket, offeredSocket, offeredPipe, offeredFormat, _then_, openOf, offered, heardBy}
 use Rattle.open.proofs.Kept.{parts-lie}
@@ -41,42 +41,46 @@ module _ (s : List ℕ) (from to : ℕ) where
   unfolding readable
   read-whole e parts held opening is = rw (← e, ← held, ← is)
 
+-- what holds of an opening, of what the stages make of a frame: a refusal says nothing
+abbrev pub OfOpening : (Opening → Type 0) → Open → Type 0
+OfOpening Holds (Heard opening) = Holds opening
+OfOpening Holds (Refused refusal) = Unit
+
+pub then-holds : (First Second : Opening → Type 0) (said : Open) (stage : Opening → Open) → ((opening : Opening) → First opening → OfOpening Second (stage opening))
+    → OfOpening First said → OfOpening Second (said then stage)
+then-holds First Second (Heard opening) stage next first = next opening first
+then-holds First Second (Refused refusal) stage next first = tt
+
+pub stage-holds : (Holds : Opening → Type 0) (t : Bool) (refusal : Refusal) (opening : Opening) → (t ≡ false → Holds opening) → OfOpening Holds (refusedIf t refusal opening)
+stage-holds Holds true refusal opening there = tt
+stage-holds Holds false refusal opening there = there refl
+
 -- ---- what is heard lies in the bytes
 
-abbrev HeardLies : List ℕ → Open → Type 0
-HeardLies s (Heard opening) = (opening .name .at + opening .name .length ≤ length s) × (opening .format .at + opening .format .length ≤ length s)
-HeardLies s (Refused refusal) = Unit {0}
-
 module _ (s : List ℕ) where
-  stage-lies : (t : Bool) (refusal : Refusal) (opening : Opening) → HeardLies s (Heard opening) → HeardLies s (refusedIf t refusal opening)
-  stage-lies true refusal opening h = tt
-  stage-lies false refusal opening h = h
+  abbrev Lies : Opening → Type 0
+  Lies opening = (opening .name .at + opening .name .length ≤ length s) × (opening .format .at + opening .format .length ≤ length s)
 
-  then-lies : (said : Open) (stage : Opening → Open) → ((opening : Opening) → HeardLies s (Heard opening) → HeardLies s (stage opening))
-      → HeardLies s said → HeardLies s (said then stage)
-  then-lies (Heard opening) stage f h = f opening h
-  then-lies (Refused refusal) stage f h = tt
-
-  readable-lies : (from to : ℕ) → HeardLies s (readable s from to)
+  readable-lies : (from to : ℕ) → OfOpening Lies (readable s from to)
   unfolding readable openingOf
   readable-lies from to = go (frameCheck s from to)
     where
-      go : (check : Check) → HeardLies s (ifGood check (openingOf s (partsOf s from to)))
+      go : (check : Check) → OfOpening Lies (ifGood check (openingOf s (partsOf s from to)))
       go Good = let lies = parts-lie s from to in (lies .name, lies .format)
       go (Check·Refused why) = tt
 
-  open-lies : (from to : ℕ) → HeardLies s (openOf s from to)
+  open-lies : (from to : ℕ) → OfOpening Lies (openOf s from to)
   unfolding openOf inRange knownSocket
   open-lies from to =
-      then-lies (readable s from to then inRange) knownSocket (λ opening h. stage-lies (leb 3 (opening .socket)) UnknownSocket opening h)
-      (then-lies (readable s from to) inRange (λ opening h. stage-lies (outOfRange opening) OutOfRange opening h) (readable-lies from to))
+      then-holds Lies Lies (readable s from to then inRange) knownSocket (λ opening h. stage-holds Lies (leb 3 (opening .socket)) UnknownSocket opening (λ passed. h))
+      (then-holds Lies Lies (readable s from to) inRange (λ opening h. stage-holds Lies (outOfRange opening) OutOfRange opening (λ passed. h)) (readable-lies from to))
 
   -- the name and the format that are compared
   pub name-lies : (from to : ℕ) (r : Open) → r ≡ openOf s from to → (opening : Opening) → r ≡ Heard opening → opening .name .at + opening .name .length ≤ length s
-  name-lies from to r is opening e = subst (HeardLies s) (sym is ∙ e) (open-lies from to) .0
+  name-lies from to r is opening e = subst (OfOpening Lies) (sym is ∙ e) (open-lies from to) .0
 
   pub format-lies : (from to : ℕ) (r : Open) → r ≡ openOf s from to → (opening : Opening) → r ≡ Heard opening → opening .format .at + opening .format .length ≤ length s
-  format-lies from to r is opening e = subst (HeardLies s) (sym is ∙ e) (open-lies from to) .1
+  format-lies from to r is opening e = subst (OfOpening Lies) (sym is ∙ e) (open-lies from to) .1
 
 -- ---- what 21 and 22 make of it
 

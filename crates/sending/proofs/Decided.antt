@@ -30,13 +30,18 @@ passed : (t : Bool) (k rest : ℕ) → 0 < k → cond t k rest ≡ 0 → (t ≡ 
 passed t k rest some e = took-second t (not-zero some) e
 
 -- what a send of number 0 has passed
-pub record Passed (o : Outgoing) (room : ℕ) : Type 0 where
+pub record Passed (e : Endpoint) (o : Outgoing) (row : Row) (room : ℕ) : Type 0 where
+  pub alive : eqb (e .phase) shut ≡ false
+  pub allowed : notAllowed row ≡ false
+  pub below : aboveOffer row ≡ false
+  pub awaits : isFull e o ≡ false
   pub within : o .large ≡ false
   pub given : o .misgiven ≡ false
+  pub coded : o .miscoded ≡ false
   pub fits : o .length ≤ room
 
 module _ (e : Endpoint) (o : Outgoing) (row : Row) (room : ℕ) where
-  pub all-passed : numberFor e o row room ≡ 0 → Passed o room
+  pub all-passed : numberFor e o row room ≡ 0 → Passed e o row room
   unfolding numberFor
   all-passed none =
       let late = passed (eqb (e .phase) shut) 3 _ (lit< tt) none in
@@ -47,7 +52,16 @@ module _ (e : Endpoint) (o : Outgoing) (row : Row) (room : ℕ) where
       let misgiven = passed (o .misgiven) 34 _ (lit< tt) (large .1) in
       let miscoded = passed (o .miscoded) 35 _ (lit< tt) (misgiven .1) in
       let short = passed (ltb room (o .length)) 2 _ (lit< tt) (miscoded .1) in
-      record { within = large .0; given = misgiven .0; fits = ltb-false room (o .length) (short .0) }
+      record {
+        alive = late .0;
+        allowed = barred .0;
+        below = above .0;
+        awaits = full .0;
+        within = large .0;
+        given = misgiven .0;
+        coded = miscoded .0;
+        fits = ltb-false room (o .length) (short .0);
+      }
 
   -- the number of what was sent is that of the tests
   number-if : sentIf (numberFor e o row room) e o row .number ≡ numberFor e o row room
@@ -59,7 +73,7 @@ module _ (e : Endpoint) (o : Outgoing) (row : Row) (room : ℕ) where
       go false differs = refl
 
 module _ (e : Endpoint) (o : Outgoing) (room : ℕ) where
-  pub accepted-passed : sentBy e o room .number ≡ 0 → Passed o room
+  pub accepted-passed : sentBy e o room .number ≡ 0 → Passed e o (sendRow e o) room
   unfolding sentBy
   accepted-passed zero-number = all-passed e o (sendRow e o) room (sym (number-if e o (sendRow e o) room) ∙ zero-number)
 

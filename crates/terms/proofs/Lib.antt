@@ -1,3 +1,5 @@
--- `Layers` has the cases of a lookup, and that what it finds lies in its layer, `Answers` that what it finds is a Value that is read.
+-- `Layers` has the cases of a lookup, and that what it finds lies in its layer, `Answers` that what it finds is a Value that is read,
+-- `Limits` that what is announced is in the limits.
 pub mod Layers
 pub mod Answers
+pub mod Limits

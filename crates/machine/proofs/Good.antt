@@ -1,0 +1,143 @@
+-- Every send and every receive leaves a good endpoint good. Assumes nothing.
+use mathlib.Core.Path.{_≡_, refl, subst}
+use Prim.Native.Nat.{_<_, _^_, ℕ, _+_}
+use mathlib.Core.List.{List}
+use mathlib.Core.Bool.{Bool, cond, false, true}
+use lib.Dec.{eqb}
+use borrow.Author.Tests.{eq-eqb, eqb-true}
+use Rattle.bytes_be.specs.declared.Place.{Place}
+use Rattle.bytes_be.proofs.Numbers.{Bytes}
+use Rattle.control.specs.declared.MessageType.{MessageType}
+use Rattle.control.specs.declared.MessageType.the-variants.{Open, Ready, Noop, Data, Close}
+use Rattle.terms.specs.Announced.{announcedLimit}
+use Rattle.open.specs.declared.Open.{Open as OpenFrame}
+use Rattle.open.specs.declared.Open.the-variants.{Heard, Refused}
+use Rattle.open.specs.Open.{heardBy}
+use Rattle.open.proofs.Limits.{HeardBounded, heard-bounded}
+use Rattle.open.proofs.Stages.{OfOpening}
+use Rattle.message.specs.declared.Body.{Body}
+use Rattle.message.specs.declared.Body.the-variants.{Nothing as Body·Nothing, At}
+use Rattle.message.specs.declared.Message.{Message}
+use Rattle.message.specs.Reading.{bodyPlace}
+use Rattle.message.proofs.Inside.{read-small}
+use Rattle.endpoint.specs.declared.Endpoint.{Endpoint}
+use Rattle.endpoint.specs.declared.Entry.{Entry}
+use Rattle.endpoint.specs.Record.{asked, awaitable, producer, confirmed}
+use Rattle.endpoint.proofs.StaysGood.{asked-good, asked-sized, confirmed-good, confirmed-sized, limited-good, limited-sized}
+use Rattle.table.specs.declared.Row.{Row}
+use Rattle.table.specs.Table.{moved, notAllowed, other}
+use Rattle.receiving.specs.declared.Carried.{Carried}
+use Rattle.receiving.specs.declared.Carried.the-variants.{Content as Carried·Content, Refused as Carried·Refused}
+use Rattle.receiving.specs.declared.Content.{Content}
+use Rattle.receiving.specs.declared.Content.the-variants.{Nothing, Opening, Body as Content·Body}
+use Rattle.receiving.specs.declared.Received.{Received}
+use Rattle.receiving.specs.Hearing.{accepted, bodyCarried, carriedAs, carriedBy, confirmedBy, confirms, hearRow, limitedBy, movesAs, openAt, openCarried}
+use Rattle.receiving.specs.Refusing.{refused, unchanged}
+use Rattle.sending.specs.declared.Sent.{Sent}
+use Rattle.sending.specs.Calls.{Call, OPEN, READY, DATA, NOOP, CLOSE, outgoing}
+use Rattle.sending.specs.Sending.{askedBy, numberFor, sendRow, sentBy}
+use Rattle.sending.proofs.Decided.{all-passed}
+use Rattle.machine.specs.Good.{Fits, SentGood, Sound, HeardGood}
+use Rattle.machine.proofs.Rows.{Acts, row-sound, sent-data-acts, sent-noop-acts, closed-sound}
+use Rattle.machine.proofs.Stages.{Passed, received-holds}
+
+module _ (e : Endpoint) (sound : Sound e) where
+  -- an ask, or none
+  ask-sound : (ask : Bool) (after : Endpoint) → Acts e after → (entry : Entry) → awaitable (e .flow) entry ≡ true → entry .«type_data» < 256 ^ 2 → Sound (cond ask (asked after entry) after)
+  ask-sound true after acts entry awaits few =
+      let good = acts .sound in
+      record {
+        sized = asked-sized after (good .sized) entry few;
+        is-good = asked-good after (good .sized .sixteen) (good .is-good) entry (acts .early) (acts .late) (rw (acts .same) awaits);
+      }
+  ask-sound false after acts entry awaits few = acts .sound
+
+  accepted-sound : (call : Call) → Fits call → notAllowed (sendRow e (outgoing e call)) ≡ false → Sound (askedBy (moved e (sendRow e (outgoing e call))) (outgoing e call))
+  unfolding sendRow askedBy awaitable
+  accepted-sound (OPEN name format) fits passes = row-sound e sound (e .role) (e .flow) Open 0 fits
+  accepted-sound (READY count) fits passes = row-sound e sound (e .role) (e .flow) Ready count fits
+  accepted-sound (DATA type-data ask body) fits passes =
+      let acts = sent-data-acts e sound (e .flow) passes in
+      ask-sound ask _ (acts .1) (record { message = 4; «type_data» = type-data }) (eq-eqb (e .flow) producer (acts .0)) fits
+  accepted-sound (NOOP type-data ask) fits passes =
+      ask-sound ask _ (sent-noop-acts e sound passes) (record { message = 3; «type_data» = type-data }) refl fits
+  accepted-sound (CLOSE code) fits passes = row-sound e sound (e .role) (e .flow) Close code fits
+
+  sent-sound : (call : Call) → Fits call → (room : ℕ) → Sound (sentBy e (outgoing e call) room .next)
+  unfolding sentBy
+  sent-sound call fits room = go (eqb (numberFor e (outgoing e call) row room) 0) refl
+    where
+      row : Row
+      row = sendRow e (outgoing e call)
+
+      go : (t : Bool) → eqb (numberFor e (outgoing e call) row room) 0 ≡ t →
+          Sound (cond {A = Sent} t (record { number = 0; next = askedBy (moved e row) (outgoing e call); written = outgoing e call .length }) (record { number = numberFor e (outgoing e call) row room; next = e; written = 0 }) .next)
+      go true zero-number = accepted-sound call fits (all-passed e (outgoing e call) row room (eqb-true _ _ zero-number) .allowed)
+      go false number = sound
+
+pub sent-good : SentGood
+sent-good = sent-sound
+
+-- what is carried by an OPEN that is heard has a limit that is one
+
+abbrev CarriedBounded : Carried → Type 0
+CarriedBounded (Carried·Content Nothing) = Unit
+CarriedBounded (Carried·Content (Opening opening)) = HeardBounded opening
+CarriedBounded (Carried·Content (Content·Body place)) = Unit
+CarriedBounded (Carried·Refused number) = Unit
+
+open-carries : (said : OpenFrame) → OfOpening HeardBounded said → CarriedBounded (openCarried said)
+open-carries (Heard opening) bounded = bounded
+open-carries (Refused refusal) bounded = tt
+
+body-carries : (body : Body) → CarriedBounded (bodyCarried body)
+body-carries Body·Nothing = tt
+body-carries (At place) = tt
+
+carried-bounded : (e : Endpoint) (s name format : List ℕ) (m : Message) → CarriedBounded (carriedBy e s name format m)
+unfolding carriedBy openAt
+carried-bounded e s name format m = go (m .message)
+  where
+    place : Place
+    place = bodyPlace (m .body)
+
+    go : (message : MessageType) → CarriedBounded (carriedAs message (openAt e s name format place) (bodyCarried (m .body)))
+    go Open = open-carries (heardBy s (place .at) (place .at + place .length) (e .flow) name format) (heard-bounded s (place .at) (place .at + place .length) (e .flow) name format)
+    go Ready = body-carries (m .body)
+    go Noop = body-carries (m .body)
+    go Data = body-carries (m .body)
+    go Close = body-carries (m .body)
+
+module _ (e : Endpoint) (sound : Sound e) where
+  -- a confirmation, or none
+  confirmed-sound : (t : Bool) (after : Endpoint) → Sound after → Sound (cond t (confirmed after) after)
+  confirmed-sound true after good =
+      record { sized = confirmed-sized after (good .sized); is-good = confirmed-good after (good .sized .sixteen) (good .is-good) }
+  confirmed-sound false after good = good
+
+  -- a limit, or none
+  limited-sound : (content : Content) (after : Endpoint) → CarriedBounded (Carried·Content content) → Sound after → Sound (limitedBy after content)
+  limited-sound Nothing after bounded good = good
+  limited-sound (Opening opening) after bounded good =
+      let limit : ℕ = announcedLimit (opening .announced) in
+      record { sized = limited-sized after (good .sized) limit; is-good = limited-good after (good .is-good) limit bounded }
+  limited-sound (Content·Body place) after bounded good = good
+
+  stays-sound : (number : ℕ) → Sound (unchanged e number .next)
+  unfolding unchanged
+  stays-sound number = sound
+
+  refused-sound : (number said : ℕ) → Sound (refused e number said .next)
+  unfolding refused
+  refused-sound number said = closed-sound e sound
+
+  message-sound : (s : List ℕ) → Bytes s → (name format : List ℕ) (m : Message) (content : Content) → Passed e s name format m content → Sound (accepted e m (hearRow e m) content .next)
+  unfolding accepted confirmedBy hearRow
+  message-sound s bytes name format m content passed =
+      limited-sound content _ (subst CarriedBounded (passed .carried) (carried-bounded e s name format m))
+      (confirmed-sound (confirms (m .message) (m .flags)) (moved e (hearRow e m))
+      (row-sound e sound (other (e .role)) (other (e .flow)) (movesAs (m .message) (m .flags)) (m .«type_data») (read-small s bytes m (passed .read))))
+
+pub heard-good : HeardGood
+heard-good e sound s bytes name format room =
+    received-holds (λ (x : Received). Sound (x .next)) e s name format (stays-sound e sound) (refused-sound e sound) (message-sound e sound s bytes name format) room
