@@ -33,21 +33,22 @@ use Rattle.receiving.specs.declared.Reply.the-variants.{Nothing as Reply
 use Rattle.receiving.specs.declared.Received.{Received}
 use Rattle.receiving.specs.Refusing.{refused, unchanged}
 
--- "any message with ACK-REPLY": NOOP or DATA, as 14 refuses it on OPEN and READY, and a CLOSE stays a CLOSE "whatever its flags"
+-- the types that ask for a confirmation, and are confirmed: 14 refuses ACK-REPLY on OPEN and READY, and a CLOSE stays a CLOSE "whatever its
+-- flags"
+abbrev pub confirmable : MessageType → Bool
+confirmable Open = false
+confirmable Ready = false
+confirmable Noop = true
+confirmable Data = true
+confirmable Close = false
+
+-- "any message with ACK-REPLY"
 abbrev pub confirms : MessageType → ℕ → Bool
-confirms Open flags = false
-confirms Ready flags = false
-confirms Noop flags = eqb flags ackReply
-confirms Data flags = eqb flags ackReply
-confirms Close flags = false
+confirms message flags = confirmable message && eqb flags ackReply
 
 -- "NOOP or DATA with ACK-REQUEST .. Elsewhere ACK-REQUEST is ignored."
 abbrev pub asks : MessageType → ℕ → Bool
-asks Open flags = false
-asks Ready flags = false
-asks Noop flags = eqb flags ackRequest
-asks Data flags = eqb flags ackRequest
-asks Close flags = false
+asks message flags = confirmable message && eqb flags ackRequest
 
 -- "NOOP, and any message with ACK-REPLY: phase 2, 3 or 4."
 unfoldable pub movesAs : MessageType → ℕ → MessageType

@@ -4,7 +4,7 @@ ghost use Prim.Native.Nat.{_+_, _≤_};
 ghost use lib.ListN.{length};
 ghost use Rattle.message.specs.Reading.{bodyPlace};
 ghost use Rattle.receiving.specs.Refusing.{versionCode, closeCode, silent, refused, unchanged};
-ghost use Rattle.receiving.specs.Hearing.{confirms as Hearing·confirms, asks as Hearing·asks, movesAs, hearRow, tooLarge, openCarried, bodyCarried, openAt, carriedBy, matchesOldest, unmatched, confirmedBy, limitedBy, replyTo, accepted, hearContent, hearMessage, hearOf};
+ghost use Rattle.receiving.specs.Hearing.{confirmable, confirms as Hearing·confirms, asks as Hearing·asks, movesAs, hearRow, tooLarge, openCarried, bodyCarried, openAt, carriedBy, matchesOldest, unmatched, confirmedBy, limitedBy, replyTo, accepted, hearContent, hearMessage, hearOf};
 ghost use Rattle.receiving.specs.Receiving.{replied, ReceiveAnswer};
 use bytes_be::Place;
 use control::MessageType;
@@ -133,30 +133,31 @@ fn stay(e: Endpoint, number: u8) -> Received
     }
 }
 
-// Whether a message of this type and these flags is a confirmation.
-fn confirms(message: MessageType, flags: u8) -> bool
-    ensures { λ r. ⌜ r ≡ Hearing·confirms message flags ⌝ }
+// Whether a message of this type is confirmed where it asks for that.
+fn is_confirmable(message: MessageType) -> bool
+    ensures { λ r. ⌜ r ≡ confirmable message ⌝ }
 {
     match message {
         MessageType::Open => false,
         MessageType::Ready => false,
-        MessageType::Noop => flags == 2,
-        MessageType::Data => flags == 2,
+        MessageType::Noop => true,
+        MessageType::Data => true,
         MessageType::Close => false,
     }
+}
+
+// Whether a message of this type and these flags is a confirmation.
+fn confirms(message: MessageType, flags: u8) -> bool
+    ensures { λ r. ⌜ r ≡ Hearing·confirms message flags ⌝ }
+{
+    is_confirmable(message) & (flags == 2)
 }
 
 // Whether it asks for a confirmation.
 fn asks(message: MessageType, flags: u8) -> bool
     ensures { λ r. ⌜ r ≡ Hearing·asks message flags ⌝ }
 {
-    match message {
-        MessageType::Open => false,
-        MessageType::Ready => false,
-        MessageType::Noop => flags == 1,
-        MessageType::Data => flags == 1,
-        MessageType::Close => false,
-    }
+    is_confirmable(message) & (flags == 1)
 }
 
 // A confirmation moves the endpoint as NOOP does.

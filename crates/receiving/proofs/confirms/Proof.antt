@@ -1,50 +1,14 @@
--- `receiving::confirms` meets its contract: each type has its own answer.
+-- `receiving::confirms` meets its contract: the type and one flag are tested.
 -- Assumes nothing.
 use borrow.Author.Needs.{needs}
 use Rattle.receiving.proofs.confirms.Statement.{statement}
 use Rattle.receiving.proofs.confirms.Tie as tie
 
-enum-told : tie.Need-enum-told
-enum-told c = search needs
-
-enum-told-2 : tie.Need-enum-told-2
-enum-told-2 c = search needs
-
-enum-told-3 : tie.Need-enum-told-3
-enum-told-3 c = search needs
-
-enum-told-4 : tie.Need-enum-told-4
-enum-told-4 c = search needs
-
-enum-told-5 : tie.Need-enum-told-5
-enum-told-5 c = search needs
+is-confirmable-requires : tie.Need-is-confirmable-requires
+is-confirmable-requires c κs = search needs
 
 returns : tie.Need-returns
-returns c = search needs
-
-returns-2 : tie.Need-returns-2
-returns-2 c = search needs
-
-returns-3 : tie.Need-returns-3
-returns-3 c = simp (c .enum-told3 .given .1)
-
-returns-4 : tie.Need-returns-4
-returns-4 c = simp (c .enum-told4 .given .1)
-
-returns-5 : tie.Need-returns-5
-returns-5 c = search needs
+returns c = cc
 
 pub confirms-spec : {M : Type 1} → statement M
-confirms-spec =
-    tie.close
-    (tie.spec
-    enum-told
-    enum-told-2
-    enum-told-3
-    enum-told-4
-    enum-told-5
-    returns
-    returns-2
-    returns-3
-    returns-4
-    returns-5)
+confirms-spec = tie.close (tie.spec is-confirmable-requires returns)
