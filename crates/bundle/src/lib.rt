@@ -138,8 +138,8 @@ pub fn write_one(out: &mut [u8], frame: [u8; 8]) -> usize
     14
 }
 
-// Writes what stands in front of the second of two frames: the contents, and the first frame, of 8 bytes. Where there is no room for it,
-// `out` stays as it is.
+// Writes what stands in front of the second of two frames, the contents and the first frame of 8 bytes, or nothing where there is no room for
+// it.
 pub fn write_head(out: &mut [u8], first: [u8; 8], length: u32)
     ensures { λ _. ⌜ now (out .exit) ≡ putAt (now (out .entry)) 0 (headOf first length) ⌝ }
 {

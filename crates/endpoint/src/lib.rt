@@ -349,7 +349,7 @@ fn store_head(e: Endpoint, block: &mut [u8])
     }
 }
 
-// Stores the entries behind them. There are sixteen.
+// Stores the sixteen entries behind them.
 fn store_entries(entries: [Entry; 16], block: &mut [u8])
     ensures stored { λ _. ⌜ now (block .exit) ≡ putAt (now (block .entry)) 16 (flatMap entryBytes entries) ⌝ }
     ensures counted { λ _. ⌜ length entries ≡ 16 ⌝ }
@@ -365,7 +365,7 @@ fn store_entries(entries: [Entry; 16], block: &mut [u8])
     }
 }
 
-// Stores the 64 bytes of a record at the start of a block. Where they do not fit, the block stays as it is.
+// Stores the 64 bytes of a record at the start of a block, or nothing where they do not fit.
 pub fn store(e: Endpoint, block: &mut [u8])
     ensures { λ _. ⌜ now (block .exit) ≡ putAt (now (block .entry)) 0 (bytesOf e) ⌝ }
 {

@@ -169,7 +169,7 @@ fn read_as(
     })
 }
 
-// Reads a message. No byte of a data frame is looked at.
+// Reads a message without looking at a byte of its data frames.
 pub fn read(s: &[u8]) -> Reading
     ensures { λ r. ⌜ r ≡ readingOf (now (s .entry)) ⌝ }
 {

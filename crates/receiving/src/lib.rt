@@ -350,8 +350,8 @@ fn hear_message(e: Endpoint, s: &[u8], name: &[u8], format: &[u8], m: Message) -
     }
 }
 
-// What an endpoint that offers this name and this format makes of a message: 3, 10 to 24, or it is heard. No byte of a body is read, and
-// nothing is written.
+// What any endpoint that offers this name and this format makes of a message: 3, 10 to 24, or it is heard, with no byte of a body read and
+// nothing written.
 pub fn hear(e: Endpoint, s: &[u8], name: &[u8], format: &[u8]) -> Received
     ensures { λ r. ⌜ r ≡ hearOf e (now (s .entry)) (now (name .entry)) (now (format .entry)) ⌝ }
 {
@@ -380,7 +380,7 @@ pub fn write_reply(out: &mut [u8], reply: Reply)
     }
 }
 
-// Receives a message: 2, and then what `hear` makes of it, with the reply written to the start of the output.
+// Receives a message at any endpoint, good or not: 2, and then what `hear` makes of it, with the reply at the start of the output.
 pub fn receive(e: Endpoint, s: &[u8], name: &[u8], format: &[u8], out: &mut [u8]) -> Received
     ensures { λ r. ⌜ ReceiveAnswer e (now (s .entry)) (now (name .entry)) (now (format .entry)) (now (out .entry)) r (now (out .exit)) ⌝ }
 {

@@ -1,4 +1,4 @@
-// Sending: which of an endpoint's own messages is allowed, what it writes, and what the endpoint becomes.
+// Sending: which of an endpoint's own messages is allowed, what it writes, and what the endpoint becomes, for any record, good or not.
 ghost use mathlib.Core.Path.{_≡_};
 ghost use mathlib.Core.List.{[]};
 ghost use Rattle.control.specs.Frame.{bytesOf};
@@ -109,7 +109,7 @@ fn sent_if(number: u8, e: Endpoint, o: Outgoing, row: Row) -> Sent
     }
 }
 
-// What comes of an own message where the output has so much room. Nothing is written.
+// What comes of an own message where the output has so much room, before anything is written.
 fn decide(e: Endpoint, o: Outgoing, room: usize) -> Sent
     ensures { λ r. ⌜ r ≡ sentBy e o room ⌝ }
 {
@@ -186,7 +186,7 @@ pub fn send_close(e: Endpoint, code: u16, out: &mut [u8]) -> Sent
     send_plain(e, MessageType::Close, code, false, !good_code(e, code), out)
 }
 
-// Sends DATA with this body, with an ask for confirmation or without. The body is copied once.
+// Sends DATA with this body, which is copied once, and with an ask for confirmation or without.
 pub fn send_data(e: Endpoint, type_data: u16, ask: bool, body: &[u8], out: &mut [u8]) -> Sent
     ensures { λ r. ⌜ SendAnswer e (DATA «type_data» ask (now (body .entry))) (now (out .entry)) r (now (out .exit)) ⌝ }
 {

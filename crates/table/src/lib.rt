@@ -88,7 +88,7 @@ fn close_row(phase: u8) -> Row
     allowed((1 <= phase) & (phase <= 4), Row::To { phase: 5, n: 0 })
 }
 
-// The row for a message that an end of this role and flow sends, in this phase with this n. The type-data counts for READY.
+// The row for a message that an end of this role and flow sends in this phase with this n; only READY looks at the type-data.
 pub fn row_of(role: u8, flow: u8, phase: u8, n: u16, message: MessageType, type_data: u16) -> Row
     ensures { λ r. ⌜ r ≡ rowOf role flow phase n message «type_data» ⌝ }
 {
