@@ -563,10 +563,13 @@ static void answer_call(struct request *request, struct answer *answer)
  * answer holds, for each function and each bundle, the nanoseconds of the best round and the calls in that round, 8
  * bytes each. */
 
-enum { BUNDLES = 2, ROUNDS = 15 };
+enum { BUNDLES = 2, TRIALS = 5, ROUNDS = 200 };
 
 static const size_t bundle_lengths[BUNDLES] = {100, 50000000};
-static const uint64_t shortest_round = 5000000; /* nanoseconds */
+
+/* Nanoseconds: long beside what reading the clock takes, and so short that on a busy machine some of the rounds are
+ * not interrupted. */
+static const uint64_t shortest_round = 200000;
 static const uint64_t most_calls = 1u << 20;
 
 typedef uint32_t timed(const struct input *bundle);
@@ -638,15 +641,31 @@ static uint64_t time_of(timed *function, const struct input *bundle, uint64_t co
     return end > start ? end - start : UINT64_MAX;
 }
 
+/* The calls that make a round. An interruption lengthens a time and never shortens it: the least of some trials says
+ * whether so many calls are enough. */
+static uint64_t calls_of_round(timed *function, const struct input *bundle)
+{
+    for (uint64_t count = 1; count < most_calls; count *= 2) {
+        uint64_t least = UINT64_MAX;
+        for (size_t trial = 0; trial < TRIALS; trial++) {
+            const uint64_t time = time_of(function, bundle, count);
+            least = time < least ? time : least;
+        }
+        if (least >= shortest_round) {
+            return count;
+        }
+    }
+    return most_calls;
+}
+
+/* The rounds of the bundles take turns, so that all of them meet the same machine. */
 static void answer_times(timed *function, const struct input bundles[BUNDLES], struct answer *answer)
 {
     uint64_t count[BUNDLES];
     uint64_t best[BUNDLES];
     for (size_t i = 0; i < BUNDLES; i++) {
-        count[i] = 1;
-        while ((best[i] = time_of(function, &bundles[i], count[i])) < shortest_round && count[i] < most_calls) {
-            count[i] *= 2;
-        }
+        count[i] = calls_of_round(function, &bundles[i]);
+        best[i] = UINT64_MAX;
     }
     for (size_t round = 0; round < ROUNDS; round++) {
         for (size_t i = 0; i < BUNDLES; i++) {
