@@ -1,9 +1,9 @@
-//! Times of the functions that read the contents of a bundle only: they must not grow with the bodies.
+//! Times of the functions that read a bundle but none of its bodies: they must not grow with the bodies.
 
 use crate::host::{Host, Verb};
 
 /// The functions that the host times, in its order.
-const TIMED: [&str; 2] = ["fbdp_frame", "probe_contents"];
+const TIMED: [&str; 3] = ["fbdp_frame", "fbdp_receive", "probe_contents"];
 
 /// How many times as long the large bundle may take.
 const MOST_RATIO: f64 = 3.0;
