@@ -1,6 +1,7 @@
--- `Tests` has laws of tests, `Parts` those of parts and of what a store leaves, `Sameness` those of equal lists, `Numbers` those of
--- big-endian numbers at any width.
+-- `Tests` has laws of tests, `Parts` those of parts and of what a store leaves, `Filled` those of a list element by element, `Sameness` those
+-- of equal lists, `Numbers` those of big-endian numbers at any width.
 pub mod Tests
 pub mod Parts
+pub mod Filled
 pub mod Sameness
 pub mod Numbers

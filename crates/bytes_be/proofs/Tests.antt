@@ -1,6 +1,6 @@
 -- Laws of tests that are joined, and of choices by a test. Assumes nothing.
 use mathlib.Core.Path.{_≡_, refl}
-use mathlib.Core.Bool.{Bool, true, false, not, _&&_, _||_, cond}
+use mathlib.Core.Bool.{Bool, true, false, _&&_, _||_, cond}
 use Prim.Native.Nat.{ℕ}
 use native.Mathlib.Omega.{arith}
 
@@ -13,11 +13,6 @@ both-true false b e = let z : _≡_ {A = ℕ} 0 1 = cc in absurd (omega arith)
 pub last-false : (a b : Bool) → a || b ≡ false → b ≡ false
 last-false true b e = let z : _≡_ {A = ℕ} 0 1 = cc in absurd (omega arith)
 last-false false b e = e
-
--- a test whose negation does not hold
-pub not-false : (t : Bool) → not t ≡ false → t ≡ true
-not-false true e = refl
-not-false false e = let z : _≡_ {A = ℕ} 0 1 = cc in absurd (omega arith)
 
 module _ {A : Type 0} where
   -- a choice that gives what its second answer cannot be has taken the first

@@ -1,6 +1,5 @@
--- What the proofs share; what a good record says, and that it stays good; that loading and storing undo each other; the queue of entries.
-
-pub mod Filled
+-- `Stored` has what stores one behind the other leave, `Told` what a good record says, `StaysGood` that it stays good, `Round` that loading
+-- and storing undo each other, `Awaited` that the entries are a queue.
 pub mod Stored
 pub mod Told
 pub mod StaysGood

@@ -14,13 +14,12 @@ use Rattle.bytes_be.proofs.Numbers.{number-is, Bytes, bytes-there, number-below
 use Rattle.bytes_be.proofs.Parts.{part-behind, part-front, part-inside, part-part, getD-tabulate, length-tabulate, part-then}
 use Rattle.bytes_be.proofs.Tests.{both-true}
 use Rattle.double.specs.Limit.{leastLimit, mostLimit}
-use Rattle.double.proofs.Example.{most}
 use Rattle.endpoint.specs.declared.Endpoint.{Endpoint}
 use Rattle.endpoint.specs.declared.Entry.{Entry}
 use Rattle.endpoint.specs.Block.{bytesOf, entryBytes, entryIn, headBytes, entriesIn, isGood, loadOf, recordIn, spareIsZero}
 use Rattle.endpoint.specs.Record.{awaitable, entryFits, good, isNone, none, producer, batch, capacity, client, consumer, countFits, offer, server}
 use Rattle.endpoint.specs.Round.{Sized, LoadedStores, StoredLoads}
-use Rattle.endpoint.proofs.Filled.{filled}
+use Rattle.bytes_be.proofs.Filled.{filled}
 use Rattle.endpoint.proofs.Stored.{length-block, length-entry, length-head}
 use Rattle.endpoint.proofs.Told.{fits-at, fits-before, fits-behind, good-told}
 

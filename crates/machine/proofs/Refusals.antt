@@ -2,7 +2,6 @@
 use mathlib.Core.Path.{_≡_, refl}
 use mathlib.Core.Bool.{Bool, true, false, cond}
 use lib.Dec.{eqb}
-use Rattle.endpoint.specs.Record.{none}
 use Rattle.table.specs.declared.Row.{Row}
 use Rattle.table.specs.Table.{moved}
 use Rattle.receiving.specs.Hearing.{accepted}

@@ -6,9 +6,9 @@ use mathlib.Core.Bool.{false, true}
 use native.Mathlib.Omega.{arith}
 use lib.Dec.{leb, ltb}
 use lib.ListN.{length}
-use borrow.Author.Tests.{leb-true, ltb-false}
+use borrow.Author.Tests.{leb-true, ltb-false, not-false}
 use Rattle.bytes_be.specs.declared.Place.{Place}
-use Rattle.bytes_be.proofs.Tests.{both-true, not-false}
+use Rattle.bytes_be.proofs.Tests.{both-true}
 use Rattle.control.specs.declared.MessageType.the-variants.{Open, Ready, Noop, Data, Close}
 use Rattle.double.specs.Limit.{leastLimit, mostLimit}
 use Rattle.open_write.specs.Frame.{frameFor, isGood}

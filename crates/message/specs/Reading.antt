@@ -18,8 +18,6 @@ use Rattle.control.specs.declared.KnownType.the-variants.{Unknown}
 use Rattle.control.specs.Frame.{ackRequest, ackReply, typeIn, signedOf, versionOf, knownTypeOf, signedNumber, versionNumber, knownTypeNumber, ifSigned, ifVersionOne, ifKnown}
 use Rattle.message.specs.declared.Body.{Body}
 use Rattle.message.specs.declared.Body.the-variants.{Nothing, At}
-use Rattle.message.specs.declared.Message.{Message}
-use Rattle.message.specs.declared.Refusal.{Refusal}
 use Rattle.message.specs.declared.Reading.{Reading}
 use Rattle.message.specs.declared.Reading.the-variants.{Read, Refused}
 use Rattle.message.specs.declared.Test.{Test}

@@ -3,9 +3,9 @@ use Prim.Native.Nat.{_+_, ℕ}
 use mathlib.Core.List.{List}
 use mathlib.Core.Bool.{Bool, _&&_, _||_, not}
 use lib.Dec.{eqb, leb, ltb}
-use borrow.Author.Tests.{eqb-true}
+use borrow.Author.Tests.{eqb-true, not-false}
 use Rattle.bytes_be.specs.Part.{partAt, same}
-use Rattle.bytes_be.proofs.Tests.{last-false, not-false}
+use Rattle.bytes_be.proofs.Tests.{last-false}
 use Rattle.params.specs.declared.Check.{Check}
 use Rattle.params.specs.declared.Check.the-variants.{Good, Refused as Check·Refused}
 use Rattle.terms.specs.Announced.{announcedNumber}

@@ -6,9 +6,7 @@ use lib.Dec.{eqb}
 use Rattle.control.specs.declared.MessageType.the-variants.{Close}
 use Rattle.endpoint.specs.declared.Endpoint.{Endpoint}
 use Rattle.endpoint.specs.Record.{client, server, fresh, closed}
-use Rattle.receiving.specs.declared.Answer.{Answer}
 use Rattle.receiving.specs.declared.Answer.the-variants.{Refused}
-use Rattle.receiving.specs.declared.Reply.{Reply}
 use Rattle.receiving.specs.declared.Reply.the-variants.{Nothing, Frame}
 use Rattle.receiving.specs.declared.Received.{Received}
 

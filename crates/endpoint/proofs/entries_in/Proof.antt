@@ -8,9 +8,8 @@ use borrow.Author.Count.{below-none}
 use borrow.Author.Needs.{needs}
 use Rattle.endpoint.specs.Block.{entriesIn, entryIn}
 use Rattle.endpoint.specs.Record.{none}
-use Rattle.endpoint.proofs.Filled.{fill, filled}
+use Rattle.bytes_be.proofs.Filled.{fill, filled}
 use Rattle.endpoint.proofs.entries_in.Statement.{statement}
-use denote.Ref.{now}
 use Rattle.endpoint.proofs.entries_in.Tie as tie
 
 abbrev Inv-loop : tie.InvT-loop

@@ -8,7 +8,6 @@ use Rattle.bytes_be.specs.Part.{putAt}
 use Rattle.endpoint.specs.Block.{entryBytes}
 use Rattle.endpoint.proofs.Stored.{stored-whole}
 use Rattle.endpoint.proofs.store.Statement.{statement}
-use denote.Ref.{now}
 use Rattle.endpoint.proofs.store.Tie as tie
 
 store-head-requires : tie.Need-store-head-requires

@@ -14,7 +14,6 @@ use Rattle.endpoint.specs.declared.Entry.{Entry}
 use Rattle.endpoint.specs.Block.{entryBytes}
 use Rattle.endpoint.proofs.Stored.{length-entries, store-more}
 use Rattle.endpoint.proofs.store_entries.Statement.{statement}
-use denote.Ref.{now}
 use Rattle.endpoint.proofs.store_entries.Tie as tie
 
 abbrev Inv-loop : tie.InvT-loop

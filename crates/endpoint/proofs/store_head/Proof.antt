@@ -11,7 +11,6 @@ use Rattle.bytes_be.specs.Part.{putAt}
 use Rattle.endpoint.specs.Block.{headBytes}
 use Rattle.endpoint.proofs.Stored.{stored-head}
 use Rattle.endpoint.proofs.store_head.Statement.{statement}
-use denote.Ref.{now}
 use Rattle.endpoint.proofs.store_head.Tie as tie
 
 slice-aggregate-copy-at : tie.Need-slice-aggregate-copy-at

@@ -6,7 +6,7 @@ use lib.ListN.{length}
 use borrow.Author.Needs.{needs}
 use Rattle.endpoint.specs.declared.Entry.{Entry}
 use Rattle.endpoint.specs.Record.{none}
-use Rattle.endpoint.proofs.Filled.{last-elements}
+use Rattle.bytes_be.proofs.Filled.{last-elements}
 use Rattle.endpoint.proofs.without_oldest.Statement.{statement}
 use Rattle.endpoint.proofs.without_oldest.Tie as tie
 

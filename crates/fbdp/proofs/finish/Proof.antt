@@ -3,7 +3,6 @@ use mathlib.Core.Path.{refl, sym}
 use borrow.Author.Needs.{needs}
 use borrow.Author.Tests.{ne-eqb}
 use Rattle.bundle.specs.Reading.{counted}
-use Rattle.wire.specs.Fields.{numbered}
 use Rattle.open.specs.Frame.{kept}
 use Rattle.fbdp.specs.Blocks.{keptAfter, stored}
 use Rattle.fbdp.proofs.finish.Statement.{statement}

@@ -4,7 +4,7 @@ use Prim.Native.Nat.{ℕ}
 use mathlib.Core.List.{List, [], _++_, _∷_}
 use lib.ListN.{length}
 use borrow.Author.Needs.{needs}
-use Rattle.endpoint.proofs.Filled.{last-elements}
+use Rattle.bytes_be.proofs.Filled.{last-elements}
 use Rattle.fbdp.specs.Blocks.{heardSlots}
 use Rattle.fbdp.proofs.heard_slots.Statement.{statement}
 use Rattle.fbdp.proofs.heard_slots.Tie as tie

@@ -13,7 +13,6 @@ use Rattle.control.specs.Frame.{bytesOf}
 use Rattle.control.proofs.Round.{length-control}
 use Rattle.receiving.specs.Receiving.{replied}
 use Rattle.receiving.proofs.write_reply.Statement.{statement}
-use types.Kit.{frame}
 use Rattle.receiving.proofs.write_reply.Tie as tie
 
 enum-told : tie.Need-enum-told

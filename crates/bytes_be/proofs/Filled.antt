@@ -7,8 +7,8 @@ use native.Mathlib.Omega.{arith}
 use lib.ListN.{length, getD, drop, set, drop-of-length-le}
 use lib.Seq.{ext-getD, getD-set-same, getD-set-other, drop-cons}
 use borrow.Author.Count.{below-more}
-use Rattle.bytes_be.specs.Part.{tabulate, same}
+use Rattle.bytes_be.specs.Part.{tabulate}
 use Rattle.bytes_be.proofs.Parts.{length-tabulate, getD-tabulate}
 
 module _ {A : Type 0} (f : ℕ → A) (d : A) where
   -- a list whose elements are those of f
