@@ -1,9 +1,15 @@
-/* One endpoint of the Firebird Butler Data Pipe Protocol (9/FBDP).
+/* One endpoint of the Firebird Butler Data Pipe Protocol (9/FBDP): the pipe itself, without a transport.
  *
- * Every function returns a number: FBDP_ACCEPTED, or the refusal that applies first. No function keeps a pointer,
- * allocates, or calls anything; all that an endpoint knows is the block of 64 bytes that the host lends with every call.
+ * An endpoint is a block of FBDP_BLOCK_BYTES that the host lends with every call. Make it once; then put what a send
+ * writes on the transport, lend each message that arrives to fbdp_receive, and send the reply that this may leave. The
+ * block moves with the call, so whatever was written has to reach the other end, once and in order.
+ *
+ * Every function takes any bytes, any block and any order of calls, and returns a number: FBDP_ACCEPTED, or the refusal
+ * that applies first; fbdp_meaning says it in words. No function keeps a pointer, allocates or calls anything, so calls
+ * on different blocks may run at the same time.
+ *
  * A slice is a pointer and a length; an empty one may come with a null pointer. The slices of one call must lie apart,
- * and an output of numbers must not be null. Every call writes all its slots; a refusal writes the zeros, or for
+ * and a struct or number to be filled must not be null. It is filled by every call: a refusal writes the zeros, or for
  * fbdp_lookup the place, that stand beside the function. */
 #ifndef FBDP_H
 #define FBDP_H
@@ -15,176 +21,247 @@
 extern "C" {
 #endif
 
-/* The numbers answered. */
-enum {
-    FBDP_ACCEPTED = 0,
-    FBDP_BAD_BLOCK = 1,            /* a block that has not 64 bytes, or is not good */
-    FBDP_NO_ROOM = 2,              /* an output that is too short for what is to be written */
-    FBDP_CLOSED = 3,               /* the endpoint is closed */
-    FBDP_BAD_BUNDLE = 10,          /* not a frame count of 1 to 16, its lengths and its bodies, ending exactly */
-    FBDP_BAD_CONTROL = 11,         /* a control frame that has not 8 bytes, or a wrong signature */
-    FBDP_OTHER_VERSION = 12,       /* a version other than 1 */
-    FBDP_UNKNOWN_TYPE = 13,        /* a type other than FBDP_OPEN to FBDP_CLOSE */
-    FBDP_BAD_FLAGS = 14,           /* unknown flags, both flags, or a confirmation of OPEN or READY */
-    FBDP_BAD_FRAMES = 15,          /* too many data frames, or too few */
-    FBDP_TOO_LARGE = 16,           /* a message above the limit, or an OPEN frame above 4,096 bytes */
-    FBDP_NOT_ALLOWED = 17,         /* a message that role, flow or phase does not allow */
-    FBDP_UNREADABLE = 18,          /* an OPEN frame, parameters or a Value that break a rule */
-    FBDP_OUT_OF_RANGE = 19,        /* OPEN: a name, a format, a socket or a limit out of range */
-    FBDP_UNKNOWN_SOCKET = 20,      /* OPEN: a socket of 3 or more */
-    FBDP_OTHER_PIPE = 21,          /* OPEN: another name or socket than the offered one */
-    FBDP_OTHER_FORMAT = 22,        /* OPEN: another format than the offered one */
-    FBDP_ABOVE_OFFER = 23,         /* READY: a count above the offer */
-    FBDP_UNMATCHED = 24,           /* a confirmation of anything but the oldest that is awaited */
-    FBDP_SEND_NOT_ALLOWED = 30,    /* a send that role, flow or phase does not allow */
-    FBDP_SEND_ABOVE_OFFER = 31,    /* an own READY with a count above the offer */
-    FBDP_TOO_MANY_ASKS = 32,       /* an ask with 16 confirmations awaited */
-    FBDP_SEND_TOO_LARGE = 33,      /* own DATA above the limit */
-    FBDP_BADLY_GIVEN = 34,         /* a bad name, format, flow or limit */
-    FBDP_BAD_CODE = 35,            /* a CLOSE code that may not be sent, or not now */
-    FBDP_DEFAULTS_UNREADABLE = 36, /* a default Struct that breaks a rule */
-    FBDP_NO_SUCH_TERM = 37         /* neither the parameters nor the default Struct has the key */
-};
+/* The numbers answered: name, number, meaning. */
+#define FBDP_NUMBERS(ROW)                                                                                              \
+    ROW(FBDP_ACCEPTED, 0, "accepted")                                                                                  \
+    ROW(FBDP_BAD_BLOCK, 1, "the block does not have 64 bytes, or is not good")                                         \
+    ROW(FBDP_NO_ROOM, 2, "the output is too short for what is to be written")                                          \
+    ROW(FBDP_CLOSED, 3, "the endpoint is closed")                                                                      \
+    ROW(FBDP_BAD_BUNDLE, 10, "not a frame count of 1 to 16, its lengths and its bodies, ending exactly")               \
+    ROW(FBDP_BAD_CONTROL, 11, "a control frame that does not have 8 bytes, or a wrong signature")                      \
+    ROW(FBDP_OTHER_VERSION, 12, "a version other than 1")                                                              \
+    ROW(FBDP_UNKNOWN_TYPE, 13, "a message type other than OPEN, READY, NOOP, DATA and CLOSE")                          \
+    ROW(FBDP_BAD_FLAGS, 14, "unknown flags, both flags, or a confirmation of OPEN or READY")                           \
+    ROW(FBDP_BAD_FRAMES, 15, "too many data frames for the message, or too few")                                       \
+    ROW(FBDP_TOO_LARGE, 16, "a message above the limit, or an OPEN frame above 4,096 bytes")                           \
+    ROW(FBDP_NOT_ALLOWED, 17, "a message that role, flow or phase does not allow")                                     \
+    ROW(FBDP_UNREADABLE, 18, "an OPEN frame, parameters or a Value that cannot be read")                               \
+    ROW(FBDP_OUT_OF_RANGE, 19, "an OPEN whose name, format, socket or limit is out of range")                          \
+    ROW(FBDP_UNKNOWN_SOCKET, 20, "an OPEN for a socket of 3 or more")                                                  \
+    ROW(FBDP_OTHER_PIPE, 21, "an OPEN for another pipe name or socket than the offered one")                           \
+    ROW(FBDP_OTHER_FORMAT, 22, "an OPEN for another format than the offered one")                                      \
+    ROW(FBDP_ABOVE_OFFER, 23, "a READY with a count above the offer")                                                  \
+    ROW(FBDP_UNMATCHED, 24, "a confirmation of anything but the oldest message that awaits one")                       \
+    ROW(FBDP_SEND_NOT_ALLOWED, 30, "a send that role, flow or phase does not allow now")                               \
+    ROW(FBDP_SEND_ABOVE_OFFER, 31, "an own READY with a count above the offer")                                        \
+    ROW(FBDP_TOO_MANY_ASKS, 32, "an ask for confirmation while 16 are awaited")                                        \
+    ROW(FBDP_SEND_TOO_LARGE, 33, "own DATA above the limit")                                                           \
+    ROW(FBDP_BADLY_GIVEN, 34, "a bad name, format, flow or limit was given")                                           \
+    ROW(FBDP_BAD_CODE, 35, "a CLOSE code that may not be sent, or not now")                                            \
+    ROW(FBDP_DEFAULTS_UNREADABLE, 36, "a default Struct that cannot be read")                                          \
+    ROW(FBDP_NO_SUCH_TERM, 37, "neither the parameters nor the default Struct has the key")
 
-/* The block that holds an endpoint. It is the host's, and may be copied, stored and lent again; one that this
- * library cannot have left is refused by FBDP_BAD_BLOCK. */
-enum { FBDP_BLOCK_BYTES = 64 };
+/* The codes of CLOSE: name, code, meaning. Those from 100 on refuse an OPEN. */
+#define FBDP_CLOSE_CODES(ROW)                                                                                          \
+    ROW(FBDP_CLOSE_OK, 0, "closed normally")                                                                           \
+    ROW(FBDP_CLOSE_INVALID_MESSAGE, 1, "what was received is not a valid message")                                     \
+    ROW(FBDP_CLOSE_PROTOCOL_VIOLATION, 2, "a valid message that the protocol does not allow there")                    \
+    ROW(FBDP_CLOSE_ERROR, 3, "the sender cannot go on")                                                                \
+    ROW(FBDP_CLOSE_INTERNAL_ERROR, 4, "the sender cannot go on, for a reason that it did not expect")                  \
+    ROW(FBDP_CLOSE_INVALID_DATA, 5, "data that is not in its format, or cannot be put into it")                        \
+    ROW(FBDP_CLOSE_TIMEOUT, 6, "the sender has waited too long")                                                       \
+    ROW(FBDP_CLOSE_PIPE_UNAVAILABLE, 100, "the pipe that was asked for is not available")                              \
+    ROW(FBDP_CLOSE_VERSION_NOT_SUPPORTED, 101, "the server does not support this version of the protocol")             \
+    ROW(FBDP_CLOSE_NOT_IMPLEMENTED, 102, "the server does not support what the client requires")                       \
+    ROW(FBDP_CLOSE_FORMAT_NOT_SUPPORTED, 103, "the server does not support this data format")
 
-/* Which way the data goes: a producer sends DATA, a consumer receives it. */
+/* The types of messages: name, number, word. */
+#define FBDP_TYPES(ROW)                                                                                                \
+    ROW(FBDP_OPEN, 1, "OPEN")                                                                                          \
+    ROW(FBDP_READY, 2, "READY")                                                                                        \
+    ROW(FBDP_NOOP, 3, "NOOP")                                                                                          \
+    ROW(FBDP_DATA, 4, "DATA")                                                                                          \
+    ROW(FBDP_CLOSE, 5, "CLOSE")
+
+#define FBDP_CONSTANT(name, number, words) name = number,
+enum { FBDP_NUMBERS(FBDP_CONSTANT) };
+enum { FBDP_CLOSE_CODES(FBDP_CONSTANT) };
+enum { FBDP_TYPES(FBDP_CONSTANT) };
+#undef FBDP_CONSTANT
+
+/* Each number, code and type in words, for logs and screens; one that is not listed above has words too. */
+#define FBDP_WORDS(name, number, words)                                                                                \
+    case number:                                                                                                       \
+        return words;
+static inline const char *fbdp_meaning(uint64_t number) {
+    switch (number) { FBDP_NUMBERS(FBDP_WORDS) }
+    return "not a number of this library";
+}
+static inline const char *fbdp_close_meaning(uint64_t code) {
+    switch (code) { FBDP_CLOSE_CODES(FBDP_WORDS) }
+    return "a code that the protocol does not name";
+}
+static inline const char *fbdp_type_name(uint64_t type) {
+    switch (type) { FBDP_TYPES(FBDP_WORDS) }
+    return "none";
+}
+#undef FBDP_WORDS
+
+/* The flags of a message: it asks for confirmation, or it is one. */
+enum { FBDP_ACK_REQUEST = 1, FBDP_ACK_REPLY = 2 };
+
+/* Who opens the pipe, and which way the data goes: a producer sends DATA, a consumer receives it. */
+enum { FBDP_CLIENT = 1, FBDP_SERVER = 2 };
 enum { FBDP_PRODUCER = 1, FBDP_CONSUMER = 2 };
+
+/* The socket that an OPEN asks for: a producer's is the server's input, a consumer's its output. */
+enum { FBDP_INPUT = 1, FBDP_OUTPUT = 2 };
+
+/* The phases of an endpoint. */
+enum {
+    FBDP_PHASE_FRESH = 0,   /* nothing was sent or heard */
+    FBDP_PHASE_OPENING = 1, /* OPEN was: the server's READY or CLOSE is next */
+    FBDP_PHASE_IDLE = 2,    /* the server may offer a batch */
+    FBDP_PHASE_OFFER = 3,   /* a batch is offered: the client's READY is next */
+    FBDP_PHASE_BATCH = 4,   /* a batch is agreed on: the producer's DATA is next */
+    FBDP_PHASE_CLOSED = 5   /* for good */
+};
 
 /* The most and the fewest bytes that may be agreed on for a message, all its frames taken together. */
 enum { FBDP_LEAST_LIMIT = 1000000, FBDP_MOST_LIMIT = 50000000 };
 
-/* Makes a fresh endpoint in a block of FBDP_BLOCK_BYTES, whatever stood there before: a client with the limit that it
- * will announce, or a server, whose limit is FBDP_MOST_LIMIT until a client announces another.
- * Refuses FBDP_BAD_BLOCK (the length alone is tested), FBDP_BADLY_GIVEN; a refusal leaves the block as it was. */
+/* Sizes that always suffice. */
+enum {
+    FBDP_BLOCK_BYTES = 64,                    /* an endpoint: exactly this many */
+    FBDP_REPLY_BYTES = 14,                    /* what a receive wants for its reply */
+    FBDP_CONTROL_BYTES = 14,                  /* READY, NOOP, CLOSE */
+    FBDP_OPEN_BYTES = 570,                    /* OPEN with the longest name and format, and a limit */
+    FBDP_DATA_OVERHEAD = 18,                  /* DATA: so many more than its body */
+    FBDP_MESSAGE_BYTES = 10 + FBDP_MOST_LIMIT /* every message that is accepted, but for a CLOSE that has data frames */
+};
+
+/* What the block of an endpoint says; the functions below are to write it, and nobody else. */
+static inline uint8_t fbdp_phase(const uint8_t *block) { return block[2]; }
+
+/* How many confirmations are awaited, at most 16. */
+static inline uint8_t fbdp_awaited(const uint8_t *block) { return block[3]; }
+
+/* The count that is offered in FBDP_PHASE_OFFER, and that is left in FBDP_PHASE_BATCH; else 0. */
+static inline uint16_t fbdp_count(const uint8_t *block) { return (uint16_t)(block[4] << 8 | block[5]); }
+
+/* The most bytes of a message, all its frames taken together. */
+static inline uint32_t fbdp_limit(const uint8_t *block) {
+    return (uint32_t)block[8] << 24 | (uint32_t)block[9] << 16 | (uint32_t)block[10] << 8 | block[11];
+}
+
+/* Makes a fresh client with the limit that it will announce, whatever stood in the block before.
+ * Refuses FBDP_BAD_BLOCK (the length alone is tested), FBDP_BADLY_GIVEN.
+ * A refusal leaves the block as it was. */
 uint32_t fbdp_make_client(uint8_t *block, size_t block_length, uint8_t flow, uint32_t limit);
+
+/* Makes a fresh server, whose limit is FBDP_MOST_LIMIT until a client announces another.
+ * Refuses FBDP_BAD_BLOCK (the length alone is tested), FBDP_BADLY_GIVEN.
+ * A refusal leaves the block as it was. */
 uint32_t fbdp_make_server(uint8_t *block, size_t block_length, uint8_t flow);
 
 /* The sends. Each writes one message from the start of `out` and nothing behind it, and says in `written` how many
- * bytes it has. Each refuses FBDP_BAD_BLOCK, FBDP_CLOSED, FBDP_SEND_NOT_ALLOWED, what stands beside it, and last
- * FBDP_NO_ROOM; a refusal changes no byte of `block` and `out`, and `written` is then 0. */
+ * bytes it has. Each tests FBDP_BAD_BLOCK, FBDP_CLOSED and FBDP_SEND_NOT_ALLOWED first, then what stands beside it, and
+ * FBDP_NO_ROOM last. A refusal leaves every byte of `block` and `out` as it was, and says that 0 were written. */
 
-/* OPEN, a client's first message: asks for the pipe of this name, 1 to 255 bytes of UTF-8, and format, at most 255.
- * Refuses FBDP_BADLY_GIVEN. Its message has at most 570 bytes. */
+/* Sends OPEN, a client's first message, for the pipe of this name (1 to 255 bytes of UTF-8) and format (at most 255).
+ * Refuses what every send does, and FBDP_BADLY_GIVEN.
+ * Leaves the endpoint in FBDP_PHASE_OPENING, and at most FBDP_OPEN_BYTES in `out`. */
 uint32_t fbdp_send_open(uint8_t *block, size_t block_length, const uint8_t *name, size_t name_length,
                         const uint8_t *format, size_t format_length, uint8_t *out, size_t out_length,
                         uint64_t *written);
 
-/* READY: a server offers a batch of `count` messages, and a client agrees to as many of them; 0 is for none now.
- * Refuses FBDP_SEND_ABOVE_OFFER at a client. */
+/* Sends READY: a server offers a batch of `count` messages, and a client agrees to as many of them; 0 is for none now.
+ * Refuses what every send does, and at a client FBDP_SEND_ABOVE_OFFER.
+ * Leaves a server in FBDP_PHASE_OFFER and a client in FBDP_PHASE_BATCH, either in FBDP_PHASE_IDLE where the count is 0,
+ * and FBDP_CONTROL_BYTES in `out`. */
 uint32_t fbdp_send_ready(uint8_t *block, size_t block_length, uint16_t count, uint8_t *out, size_t out_length,
                          uint64_t *written);
 
-/* DATA, by a producer in a batch: a number of the host's, a body that may be empty, and an ask for confirmation (0 for
- * none). Its message has 18 bytes more than the body. Refuses FBDP_TOO_MANY_ASKS, FBDP_SEND_TOO_LARGE. */
+/* Sends DATA, by a producer in a batch: a number of the host's, a body that may be empty, an ask for confirmation or 0.
+ * Refuses what every send does, FBDP_TOO_MANY_ASKS and FBDP_SEND_TOO_LARGE.
+ * Leaves one message less to send, behind the last FBDP_PHASE_IDLE, and body_length + FBDP_DATA_OVERHEAD in `out`. */
 uint32_t fbdp_send_data(uint8_t *block, size_t block_length, uint16_t type_data, uint8_t ask, const uint8_t *body,
                         size_t body_length, uint8_t *out, size_t out_length, uint64_t *written);
 
-/* NOOP: a number of the host's, and an ask for confirmation (0 for none). Refuses FBDP_TOO_MANY_ASKS. */
+/* Sends NOOP, to keep a connection alive or to see that it is: a number of the host's, an ask for confirmation or 0.
+ * Refuses what every send does, and FBDP_TOO_MANY_ASKS.
+ * Leaves phase and count as they were, and FBDP_CONTROL_BYTES in `out`. */
 uint32_t fbdp_send_noop(uint8_t *block, size_t block_length, uint16_t type_data, uint8_t ask, uint8_t *out,
                         size_t out_length, uint64_t *written);
 
-/* CLOSE: the codes 0 to 6, and 100 to 103 by a server that has heard OPEN and not answered it yet.
- * Refuses FBDP_BAD_CODE. */
+/* Sends CLOSE with a code of 0 to 6, or of 100 to 103 by a server that has heard OPEN and not answered it yet.
+ * Refuses what every send does, and FBDP_BAD_CODE.
+ * Leaves the endpoint in FBDP_PHASE_CLOSED, with nothing awaited, and FBDP_CONTROL_BYTES in `out`. */
 uint32_t fbdp_send_close(uint8_t *block, size_t block_length, uint16_t code, uint8_t *out, size_t out_length,
                          uint64_t *written);
 
-/* The types of messages. */
-enum { FBDP_OPEN = 1, FBDP_READY = 2, FBDP_NOOP = 3, FBDP_DATA = 4, FBDP_CLOSE = 5 };
-
-/* The flags of a message. */
-enum { FBDP_ACK_REQUEST = 1, FBDP_ACK_REPLY = 2 };
-
-/* The slots that say what was heard. Places are offsets into the message. */
-enum {
-    FBDP_HEARD_TYPE = 0,              /* FBDP_OPEN to FBDP_CLOSE */
-    FBDP_HEARD_FLAGS = 1,             /* as they came */
-    FBDP_HEARD_TYPE_DATA = 2,         /* a count, a code, or a number of the other host's */
-    FBDP_HEARD_REPLY = 3,             /* bytes of the reply in `out`: 0 or FBDP_REPLY_BYTES; told of refusals too */
-    FBDP_HEARD_FRAMES = 4,            /* data frames of the message */
-    FBDP_HEARD_SOCKET = 5,            /* OPEN: 1 or 2 */
-    FBDP_HEARD_NAME_AT = 6,           /* OPEN: the pipe name */
-    FBDP_HEARD_NAME_LENGTH = 7,
-    FBDP_HEARD_FORMAT_AT = 8,         /* OPEN: the format; 0, 0 where there is none */
-    FBDP_HEARD_FORMAT_LENGTH = 9,
-    FBDP_HEARD_PARAMETERS_AT = 10,    /* OPEN: the parameters, for fbdp_lookup; 0, 0 where there are none */
-    FBDP_HEARD_PARAMETERS_LENGTH = 11,
-    FBDP_HEARD_BODY_AT = 12,          /* DATA that is no confirmation: its body */
-    FBDP_HEARD_BODY_LENGTH = 13,
-    FBDP_HEARD_SLOTS = 16             /* those that no message uses are 0 */
+/* What was heard. Places are offsets into the message; what a message does not have is 0. */
+struct fbdp_heard {
+    uint64_t type;                             /* FBDP_OPEN to FBDP_CLOSE */
+    uint64_t flags;                            /* as they came */
+    uint64_t type_data;                        /* a count, a code, or a number of the other host's */
+    uint64_t reply;                            /* bytes of the reply in `out`: 0 or FBDP_REPLY_BYTES, of refusals too */
+    uint64_t frames;                           /* data frames of the message */
+    uint64_t socket;                           /* OPEN: FBDP_INPUT or FBDP_OUTPUT */
+    uint64_t name_at, name_length;             /* OPEN: the pipe name */
+    uint64_t format_at, format_length;         /* OPEN: the format */
+    uint64_t parameters_at, parameters_length; /* OPEN: the parameters, for fbdp_lookup */
+    uint64_t body_at, body_length;             /* DATA that is no confirmation: its body */
+    uint64_t spare[2];                         /* 0 */
 };
 
-/* The room that a receive wants for a reply. */
-enum { FBDP_REPLY_BYTES = 14 };
-
-/* Receives one message, a whole bundle, at an endpoint that offers this pipe name and this format; a client lends two
- * empty slices. No byte of a body is read. What `heard` calls a reply stands at the start of `out` and is to be sent.
- * Refuses FBDP_BAD_BLOCK, FBDP_NO_ROOM (`out` under FBDP_REPLY_BYTES), FBDP_CLOSED, all of which change no byte, and
- * FBDP_BAD_BUNDLE to FBDP_UNMATCHED, which close the endpoint: the reply, if there is one, is then the CLOSE. A refusal
- * says 0 in every slot but FBDP_HEARD_REPLY. */
+/* Receives one message, a whole bundle, at an endpoint that offers this pipe name and format; a client lends two empty
+ * slices. No byte of a body is read. What `heard` counts as a reply, a confirmation or a CLOSE, is to be sent.
+ * Refuses FBDP_BAD_BLOCK, FBDP_NO_ROOM (`out` under FBDP_REPLY_BYTES, always tested) and FBDP_CLOSED, which leave every
+ * byte as it was, and FBDP_BAD_BUNDLE to FBDP_UNMATCHED, which close the endpoint.
+ * Leaves the block moved or closed, the reply at the start of `out` and nothing behind it, and in `heard` what was
+ * heard, or for a refusal zeros in all but `reply`. */
 uint32_t fbdp_receive(uint8_t *block, size_t block_length, const uint8_t *message, size_t message_length,
-                      const uint8_t *name, size_t name_length, const uint8_t *format, size_t format_length, uint8_t *out,
-                      size_t out_length, uint64_t heard[FBDP_HEARD_SLOTS]);
+                      const uint8_t *name, size_t name_length, const uint8_t *format, size_t format_length,
+                      uint8_t *out, size_t out_length, struct fbdp_heard *heard);
 
-/* The slots that say where a frame stands. */
-enum {
-    FBDP_FRAME_FOUND = 0,  /* 1, or 0 where there is no such frame */
-    FBDP_FRAME_AT = 1,     /* offset into the bundle that was lent */
-    FBDP_FRAME_LENGTH = 2, /* in bytes */
-    FBDP_FRAME_SLOTS = 3
+/* Where a frame stands in a bundle. */
+struct fbdp_frame_place {
+    uint64_t found; /* 1, or 0 where there is no such frame */
+    uint64_t at;
+    uint64_t length;
 };
 
-/* Hands out the place of one frame of a bundle; index 0 is the control frame.
- * Behind the last frame it accepts, and says with three zeros that there is none.
- * Refuses FBDP_BAD_BUNDLE, with three zeros. Reads the frame count and the lengths, never a body. */
-uint32_t fbdp_frame(const uint8_t *bundle, size_t bundle_length, uint32_t index, uint64_t frame[FBDP_FRAME_SLOTS]);
-
-/* The slots that say what a Value holds. */
-enum {
-    FBDP_VALUE_KIND = 0,   /* FBDP_NULL to FBDP_LIST */
-    FBDP_VALUE_HELD = 1,   /* a number's 64 bits, a text's offset, 0 or 1 for a bool; else 0 */
-    FBDP_VALUE_LENGTH = 2, /* a text's length in bytes; else 0 */
-    FBDP_VALUE_SLOTS = 3
-};
+/* Hands out the place of one frame of a bundle; index 0 is the control frame. No byte of a body is read.
+ * Refuses FBDP_BAD_BUNDLE.
+ * Leaves the place, or three zeros for a refusal and behind the last frame, which is accepted. */
+uint32_t fbdp_frame(const uint8_t *bundle, size_t bundle_length, uint32_t index, struct fbdp_frame_place *place);
 
 /* The kinds of Values. */
-enum {
-    FBDP_NULL = 1,
-    FBDP_NUMBER = 2, /* FBDP_VALUE_HELD is the double bit by bit, a NaN's too: memcpy it into a double */
-    FBDP_TEXT = 3,   /* well-formed UTF-8, not ended by a zero; the offset is into the bytes that were lent */
-    FBDP_BOOL = 4,
-    FBDP_STRUCT = 5,
-    FBDP_LIST = 6
+enum { FBDP_NULL = 1, FBDP_NUMBER = 2, FBDP_TEXT = 3, FBDP_BOOL = 4, FBDP_STRUCT = 5, FBDP_LIST = 6 };
+
+/* What a Value holds. */
+struct fbdp_value_held {
+    uint64_t kind;   /* FBDP_NULL to FBDP_LIST */
+    uint64_t held;   /* a number's double bit by bit, a NaN's too; a text's offset; a bool's 0 or 1; else 0 */
+    uint64_t length; /* of a text: well-formed UTF-8, not ended by a zero; else 0 */
 };
 
 /* Says what a Value holds: protobuf's google.protobuf.Value, its bytes without tag and length, as fbdp_lookup places
- * them. All of it is checked, at every level; read alone, its own Struct or list is level 1 of at most 8. Of a Struct
- * or a list only the kind is told.
- * Refuses FBDP_UNREADABLE, with three zeros: bytes that break a rule, or none at all. */
-uint32_t fbdp_value(const uint8_t *bytes, size_t bytes_length, uint64_t value[FBDP_VALUE_SLOTS]);
-
-/* The slots that say where a term stands. */
-enum {
-    FBDP_TERM_SLICE = 0,  /* FBDP_IN_CLIENT or FBDP_IN_DEFAULTS */
-    FBDP_TERM_AT = 1,     /* offset into that slice */
-    FBDP_TERM_LENGTH = 2, /* in bytes */
-    FBDP_TERM_SLOTS = 3
-};
+ * them. All of it is read, at every level; its own Struct or list is level 1 of at most 8. Of these only the kind is
+ * told.
+ * Refuses FBDP_UNREADABLE: bytes that break a rule, or none at all.
+ * Leaves what it holds, or three zeros for a refusal. */
+uint32_t fbdp_value(const uint8_t *bytes, size_t bytes_length, struct fbdp_value_held *value);
 
 /* The slices that a term may stand in. */
 enum { FBDP_IN_CLIENT = 1, FBDP_IN_DEFAULTS = 2 };
 
+/* Where the Value of a term stands: its bytes, without tag and length. */
+struct fbdp_term_place {
+    uint64_t slice; /* FBDP_IN_CLIENT or FBDP_IN_DEFAULTS */
+    uint64_t at;    /* offset into that slice */
+    uint64_t length;
+};
+
 /* Looks a term up by its key: in the client's parameters, an empty slice where it sent none, and failing that in the
  * default Struct. Both are protobuf's google.protobuf.Struct, without tag and length, and only their outermost entries
- * are looked at. The place is that of the Value's bytes, without tag and length; a null that is found is an answer.
- * Both Structs are read whole at each call, whichever has the term, in a time that grows with the square of the number
- * of entries of one Struct. The key is only compared, byte by byte; an empty one finds an entry with no key or an empty
- * one. A Value that was found is one that fbdp_value reads.
- * Refuses FBDP_UNREADABLE, FBDP_DEFAULTS_UNREADABLE, FBDP_NO_SUCH_TERM, in this order, with FBDP_IN_CLIENT, 0, 0. */
+ * are looked at. A null that is found is an answer; an empty key finds an entry with no key or an empty one. Both are
+ * read whole at each call, in a time that grows with the square of the number of entries of one Struct.
+ * Refuses FBDP_UNREADABLE, FBDP_DEFAULTS_UNREADABLE, FBDP_NO_SUCH_TERM, in this order.
+ * Leaves the place, of a Value that fbdp_value reads, or for a refusal FBDP_IN_CLIENT, 0, 0. */
 uint32_t fbdp_lookup(const uint8_t *client, size_t client_length, const uint8_t *defaults, size_t defaults_length,
-                     const uint8_t *key, size_t key_length, uint64_t term[FBDP_TERM_SLOTS]);
+                     const uint8_t *key, size_t key_length, struct fbdp_term_place *place);
 
 #ifdef __cplusplus
 }

@@ -30,8 +30,15 @@ enum {
     MOST_LENT = 8,    /* slices and arrays of numbers in one call */
     LINE_BYTES = 96,  /* the room that probe_line is given */
     DOUBLE_BYTES = 8, /* the room that probe_limit_bytes is given */
+    PLACE_SLOTS = 3,  /* the numbers that fbdp_frame, fbdp_value and fbdp_lookup are given */
     HEARD_SLOTS = 16  /* the numbers that fbdp_receive is given */
 };
+
+/* The structs of the header are these numbers and nothing else. */
+_Static_assert(sizeof(struct fbdp_frame_place) == PLACE_SLOTS * sizeof(uint64_t), "fbdp_frame_place");
+_Static_assert(sizeof(struct fbdp_value_held) == PLACE_SLOTS * sizeof(uint64_t), "fbdp_value_held");
+_Static_assert(sizeof(struct fbdp_term_place) == PLACE_SLOTS * sizeof(uint64_t), "fbdp_term_place");
+_Static_assert(sizeof(struct fbdp_heard) == HEARD_SLOTS * sizeof(uint64_t), "fbdp_heard");
 
 static void fail(const char *why)
 {
@@ -204,9 +211,9 @@ static struct room lend_room(struct call *call)
     return lend_room_of(call, (size_t)take_number(call->request, 4));
 }
 
-static uint64_t *lend_numbers(struct call *call, size_t count)
+static void *lend_numbers(struct call *call, size_t count)
 {
-    return (uint64_t *)(void *)(lend(call, count * sizeof(uint64_t))->area + GUARD);
+    return lend(call, count * sizeof(uint64_t))->area + GUARD;
 }
 
 static uint64_t number(struct call *call)
@@ -220,7 +227,7 @@ static uint64_t call_frame(struct call *call)
 {
     const struct input bundle = lend_input(call);
     const uint32_t index = (uint32_t)number(call);
-    uint64_t *place = lend_numbers(call, FBDP_FRAME_SLOTS);
+    struct fbdp_frame_place *place = lend_numbers(call, PLACE_SLOTS);
     return fbdp_frame(bundle.bytes, bundle.length, index, place);
 }
 
@@ -328,7 +335,7 @@ static uint64_t call_line(struct call *call)
 static uint64_t call_value(struct call *call)
 {
     const struct input bytes = lend_input(call);
-    uint64_t *value = lend_numbers(call, FBDP_VALUE_SLOTS);
+    struct fbdp_value_held *value = lend_numbers(call, PLACE_SLOTS);
     return fbdp_value(bytes.bytes, bytes.length, value);
 }
 
@@ -337,7 +344,7 @@ static uint64_t call_lookup(struct call *call)
     const struct input client = lend_input(call);
     const struct input defaults = lend_input(call);
     const struct input key = lend_input(call);
-    uint64_t *place = lend_numbers(call, FBDP_TERM_SLOTS);
+    struct fbdp_term_place *place = lend_numbers(call, PLACE_SLOTS);
     return fbdp_lookup(client.bytes, client.length, defaults.bytes, defaults.length, key.bytes, key.length, place);
 }
 
@@ -485,7 +492,7 @@ static uint64_t call_receive(struct call *call)
     const struct input name = lend_input(call);
     const struct input format = lend_input(call);
     const struct room out = lend_room(call);
-    uint64_t *heard = lend_numbers(call, HEARD_SLOTS);
+    struct fbdp_heard *heard = lend_numbers(call, HEARD_SLOTS);
     return fbdp_receive(block.bytes, block.length, message.bytes, message.length, name.bytes, name.length, format.bytes,
                         format.length, out.bytes, out.length, heard);
 }
@@ -576,8 +583,8 @@ typedef uint32_t timed(const struct input *bundle);
 
 static uint32_t timed_frame(const struct input *bundle)
 {
-    uint64_t place[FBDP_FRAME_SLOTS];
-    return fbdp_frame(bundle->bytes, bundle->length, 1, place);
+    struct fbdp_frame_place place;
+    return fbdp_frame(bundle->bytes, bundle->length, 1, &place);
 }
 
 /* A server that consumes, in a batch of 65,535 messages of at most 50,000,000 bytes: it accepts every such bundle. */
@@ -588,9 +595,9 @@ static uint32_t timed_receive(const struct input *bundle)
 {
     uint8_t block[FBDP_BLOCK_BYTES];
     uint8_t out[FBDP_REPLY_BYTES];
-    uint64_t heard[FBDP_HEARD_SLOTS];
+    struct fbdp_heard heard;
     memcpy(block, in_batch, sizeof block);
-    return fbdp_receive(block, sizeof block, bundle->bytes, bundle->length, NULL, 0, NULL, 0, out, sizeof out, heard);
+    return fbdp_receive(block, sizeof block, bundle->bytes, bundle->length, NULL, 0, NULL, 0, out, sizeof out, &heard);
 }
 
 static uint32_t timed_contents(const struct input *bundle)

@@ -1,0 +1,23 @@
+/* Every number that the library answers, every code of CLOSE and every type of message, in words. */
+#include <fbdp.h>
+#include <inttypes.h>
+#include <stdio.h>
+#include <string.h>
+
+typedef const char *words(uint64_t number);
+
+/* Prints those up to 65,535 that have words of their own. */
+static void list(const char *title, words *of) {
+    printf("%s\n", title);
+    for (uint64_t number = 0; number <= UINT16_MAX; number++) {
+        if (strcmp(of(number), of(UINT64_MAX)) != 0) printf("%5" PRIu64 "  %s\n", number, of(number));
+    }
+}
+
+int main(void) {
+    list("Numbers answered", fbdp_meaning);
+    list("Codes of CLOSE", fbdp_close_meaning);
+    list("Types of messages", fbdp_type_name);
+    printf("Any other: %s; %s; %s\n", fbdp_meaning(4), fbdp_close_meaning(7), fbdp_type_name(0));
+    return 0;
+}
