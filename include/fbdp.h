@@ -5,8 +5,8 @@
  * block moves with the call, so whatever was written has to reach the other end, once and in order.
  *
  * Every function takes any bytes, any block and any order of calls, and returns a number: FBDP_ACCEPTED, or the refusal
- * that applies first; fbdp_meaning says it in words. No function keeps a pointer, allocates or calls anything, so calls
- * on different blocks may run at the same time.
+ * that applies first; fbdp_meaning says it in words. No function keeps a pointer, allocates, or calls anything but
+ * memcpy, so calls on different blocks may run at the same time.
  *
  * A slice is a pointer and a length; an empty one may come with a null pointer. The slices of one call must lie apart,
  * and a struct or number to be filled must not be null. It is filled by every call: a refusal writes the zeros, or for

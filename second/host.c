@@ -34,12 +34,6 @@ enum {
     HEARD_SLOTS = 16  /* the numbers that fbdp_receive is given */
 };
 
-/* The structs of the header are these numbers and nothing else. */
-_Static_assert(sizeof(struct fbdp_frame_place) == PLACE_SLOTS * sizeof(uint64_t), "fbdp_frame_place");
-_Static_assert(sizeof(struct fbdp_value_held) == PLACE_SLOTS * sizeof(uint64_t), "fbdp_value_held");
-_Static_assert(sizeof(struct fbdp_term_place) == PLACE_SLOTS * sizeof(uint64_t), "fbdp_term_place");
-_Static_assert(sizeof(struct fbdp_heard) == HEARD_SLOTS * sizeof(uint64_t), "fbdp_heard");
-
 static void fail(const char *why)
 {
     fprintf(stderr, "host: %s\n", why);
