@@ -1,5 +1,5 @@
 -- Laws of the lengths of a bundle, and what is known of a good one. Assumes nothing.
-use mathlib.Core.Path.{_≡_, refl, sym, ap}
+use mathlib.Core.Path.{_≡_, _∙_, refl, sym, ap}
 use mathlib.Core.List.{List}
 use mathlib.Core.Bool.{true, false}
 use Prim.Native.Nat.{ℕ, zero, suc, _+_, _*_, _-_, _≤_, _<_}
@@ -74,9 +74,10 @@ pub record Told (s : List ℕ) (count : ℕ) (control : Place) (size : ℕ) : Ty
   pub first : placeOf s 0 ≡ control
   pub sized : sizeOf s ≡ size
   pub inside : control .at + control .length ≤ length s
+  pub within : control .length ≤ size
 
 pub contents-told : (s : List ℕ) (count size : ℕ) (control : Place) → contentsOf s ≡ Frames count control size → Told s count control size
-unfolding contentsOf
+unfolding contentsOf sizeOf
 contents-told s count size control e =
     let taken = took-first (good s) bad-frames e in
     let same : Frames (countOf s) (placeOf s 0) (sizeOf s) ≡ Frames count control size = taken .1 in
@@ -86,13 +87,28 @@ contents-told s count size control e =
     let starts : startOf s 0 ≡ control .at = ap (λ (place : Place). place .at) first in
     let long : lengthOf s 0 ≡ control .length = ap (λ (place : Place). place .length) first in
     let good = good-told s (taken .0) in
+    let all : 1 + (countOf s - 1) ≡ countOf s = omega (arith, good .some) in
     record {
       whole = rw counts at good;
       first = first;
       sized = sized;
       inside = omega (arith, body-inside s (taken .0) 0 (good .some));
+      within = omega (arith, before-suc s 0, rw all at (before-grows s 1 (countOf s - 1)));
     }
 
 pub contents-none : (s : List ℕ) → contentsOf s ≡ Contents·BadBundle → good s ≡ false
 unfolding contentsOf
 contents-none s e = took-second (good s) (λ same. bad-frames (sym same)) e .0
+
+-- the second of two frames is all that stands behind the first
+pub second-of-two : (s : List ℕ) (size : ℕ) (control : Place) → contentsOf s ≡ Frames 2 control size →
+    frameOf s 1 ≡ At (record { at = control .at + control .length; length = size - control .length })
+unfolding startOf sizeOf lengthsBefore
+second-of-two s size control e =
+    let told = contents-told s 2 size control e in
+    let starts : startOf s 0 ≡ control .at = ap (λ (place : Place). place .at) (told .first) in
+    let long : lengthOf s 0 ≡ control .length = ap (λ (place : Place). place .length) (told .first) in
+    let sum : lengthsBefore s 2 ≡ size = rw (told .whole .counts) at (told .sized) in
+    let at : startOf s 1 ≡ control .at + control .length = omega arith in
+    let length : lengthOf s 1 ≡ size - control .length = omega arith in
+    frame-there s (told .whole .is-good) 1 (omega (arith, told .whole .counts)) ∙ simp (at, length)

@@ -1,8 +1,10 @@
 // A message as a bundle carries it: its control frame and its data frame, or the first of 10 to 15 that refuses it.
 ghost use mathlib.Core.Path.{_≡_};
-ghost use Rattle.message.specs.Reading.{testOf, strangeFlags, badFlags, badFrames, carries as Reading·carries, bodyIn, bodyOf, bodyPlace, refused as Reading·refused, readAs, readingOf};
+ghost use mathlib.Core.Bool.{cond};
+ghost use Rattle.message.specs.Reading.{testOf, strangeFlags, badFlags, badFrames, carries as Reading·carries, bodyPlace, refused as Reading·refused, ifPasses, readingOf};
+ghost use Rattle.message.specs.declared.Body.the-variants.{Nothing, At as Body·At};
+ghost use Rattle.message.specs.declared.Reading.the-variants.{Read};
 use bundle::Contents;
-use bundle::Frame;
 use bytes_be::Place;
 use control::KnownType;
 use control::MessageType;
@@ -102,22 +104,16 @@ fn bad_frames(message: MessageType, flags: u8, frames: usize) -> bool
     }
 }
 
-fn body_in(frame: Frame) -> Body
-    ensures { λ r. ⌜ r ≡ bodyIn frame ⌝ }
-{
-    match frame {
-        Frame::At(place) => Body::At(place),
-        Frame::Behind => Body::Nothing,
-        Frame::BadBundle => Body::Nothing,
-    }
-}
-
-fn body_of(s: &[u8], message: MessageType, flags: u8) -> Body
-    ensures { λ r. ⌜ r ≡ bodyOf (now (s .entry)) message flags ⌝ }
+// The body of a message whose data frame stands at this place, if it carries one.
+fn body_of(message: MessageType, flags: u8, at: usize, length: usize) -> Body
+    ensures { λ r. ⌜ r ≡ cond (Reading·carries message flags) (Body·At (record { at = at; length = length })) Nothing ⌝ }
 {
     let some = carries(message, flags);
     if some {
-        return body_in(bundle::frame_at(s, 1));
+        return Body::At(Place {
+            at: at,
+            length: length,
+        });
     }
     Body::Nothing
 }
@@ -141,32 +137,22 @@ fn refused(number: u8, said: u8) -> Reading
     })
 }
 
-// Reads a message whose type is known.
-fn read_as(
-    s: &[u8],
-    said: u8,
-    message: MessageType,
-    flags: u8,
-    type_data: u16,
-    frames: usize,
-    size: u64,
-) -> Reading
-    ensures { λ r. ⌜ r ≡ readAs (now (s .entry)) said message flags «type_data» frames size ⌝ }
+// A message whose type is known, or the first of 14 and 15 that refuses it.
+fn tested(said: u8, whole: Message) -> Reading
+    ensures { λ r. ⌜ r ≡
+        ifPasses (testOf (badFlags (whole .message) (whole .flags))) (Reading·refused 14 said)
+        (ifPasses (testOf (badFrames (whole .message) (whole .flags) (whole .frames))) (Reading·refused 15 said)
+        (Read whole)) ⌝ }
 {
+    let message = whole.message;
+    let flags = whole.flags;
     let Test::Passes = test_of(bad_flags(message, flags)) else {
         return refused(14, said);
     };
-    let Test::Passes = test_of(bad_frames(message, flags, frames)) else {
+    let Test::Passes = test_of(bad_frames(message, flags, whole.frames)) else {
         return refused(15, said);
     };
-    Reading::Read(Message {
-        message: message,
-        flags: flags,
-        type_data: type_data,
-        frames: frames,
-        size: size,
-        body: body_of(s, message, flags),
-    })
+    Reading::Read(whole)
 }
 
 // Reads a message without looking at a byte of its data frames.
@@ -197,5 +183,15 @@ pub fn read(s: &[u8]) -> Reading
     let KnownType::Known(message) = control::known_type_of(said) else {
         return refused(13, said);
     };
-    read_as(s, said, message, flags, type_data, count - 1, size)
+    // Where there is one data frame, it is all that stands behind the control frame.
+    let rest = size as usize - control.length;
+    let whole = Message {
+        message: message,
+        flags: flags,
+        type_data: type_data,
+        frames: count - 1,
+        size: size,
+        body: body_of(message, flags, end, rest),
+    };
+    tested(said, whole)
 }

@@ -13,6 +13,7 @@ use Rattle.control.specs.declared.Signed.the-variants.{Frame, Unsigned}
 use Rattle.control.specs.declared.Version.the-variants.{One}
 use Rattle.control.specs.Frame.{knownTypeOf, signedOf, versionOf}
 use Rattle.message.specs.Reading.{readingOf}
+use Rattle.message.proofs.Bodies.{read-behind}
 use Rattle.message.proofs.read.Statement.{statement}
 use Rattle.message.proofs.read.Tie as tie
 
@@ -112,15 +113,21 @@ returns-4 : tie.Need-returns-4
 unfolding readingOf
 returns-4 c = simp (contents (c .before .before .before .before .before .before .before .before .before .before .before .before .before .before .before), signed (c .before .before .before .before .before .before .before .before .before), versioned (c .before .before .before .before .before), sym (c .before .before .before .known-type-of .ensures) ∙ c .before .enum-told4 .given .1) (c .refused4 .ensures)
 
-sub-read-as : tie.Need-sub-read-as
-sub-read-as c = omega (arith, is-told (c .before .before .before .before .before .before .before .before .before .before .before .before .before .before .before) .whole .some)
+sub-rest : tie.Need-sub-rest
+sub-rest c = omega (arith, is-told (c .before .before .before .before .before .before .before .before .before .before .before .before .before .before .before .before) .within)
 
-read-as-requires : tie.Need-read-as-requires
-read-as-requires c κs = search needs
+sub-t17 : tie.Need-sub-t17
+sub-t17 c = omega (arith, is-told (c .before .before .before .before .before .before .before .before .before .before .before .before .before .before .before .before) .whole .some)
+
+body-of-requires : tie.Need-body-of-requires
+body-of-requires c κs = search needs
+
+tested-requires : tie.Need-tested-requires
+tested-requires c κs = search needs
 
 returns-5 : tie.Need-returns-5
 unfolding readingOf
-returns-5 c = simp (contents (c .before .before .before .before .before .before .before .before .before .before .before .before .before .before .before .before), signed (c .before .before .before .before .before .before .before .before .before .before), versioned (c .before .before .before .before .before .before), known (c .before .before)) (c .read-as .ensures)
+returns-5 c = simp (contents (c .before .before .before .before .before .before .before .before .before .before .before .before .before .before .before .before .before .before), signed (c .before .before .before .before .before .before .before .before .before .before .before .before), versioned (c .before .before .before .before .before .before .before .before), known (c .before .before .before .before)) (c .tested .ensures ∙ sym (read-behind _ _ _ _ (contents (c .before .before .before .before .before .before .before .before .before .before .before .before .before .before .before .before .before .before)) _ _ _ _ _ (c .before .body-of .ensures)))
 
 pub read-spec : {M : Type 1} → statement M
 read-spec =
@@ -150,6 +157,8 @@ read-spec =
     enum-told-4
     refused-requires-4
     returns-4
-    sub-read-as
-    read-as-requires
+    sub-rest
+    sub-t17
+    body-of-requires
+    tested-requires
     returns-5)

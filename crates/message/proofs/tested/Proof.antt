@@ -1,13 +1,13 @@
--- `message::read_as` meets its contract: each answer is the case of `readAs` whose tests were passed.
+-- `message::tested` meets its contract: each answer is the case whose tests were passed.
 -- Assumes nothing.
 use mathlib.Core.Path.{_∙_, _≡_, ap, sym}
 use borrow.Author.Needs.{needs}
 use Rattle.message.specs.declared.Test.the-variants.{Passes}
-use Rattle.message.specs.Reading.{badFlags, readAs, testOf}
-use Rattle.message.proofs.read_as.Statement.{statement}
-use Rattle.message.proofs.read_as.Tie as tie
+use Rattle.message.specs.Reading.{badFlags, testOf}
+use Rattle.message.proofs.tested.Statement.{statement}
+use Rattle.message.proofs.tested.Tie as tie
 
-flagged : (c : tie.After-enum-told) → testOf (badFlags (c .before .before .before .before .before .args .message) (c .before .before .before .before .before .args .flags)) ≡ Passes
+flagged : (c : tie.After-enum-told) → testOf (badFlags (c .before .before .before .before .args .whole .message) (c .before .before .before .before .args .whole .flags)) ≡ Passes
 flagged c = ap testOf (sym (c .before .before .before .bad-flags .ensures)) ∙ sym (c .before .before .test-of .ensures) ∙ c .enum-told .given .1
 
 bad-flags-requires : tie.Need-bad-flags-requires
@@ -26,7 +26,6 @@ refused-requires : tie.Need-refused-requires
 refused-requires c κs = search needs
 
 returns : tie.Need-returns
-unfolding readAs
 returns c = simp (ap testOf (sym (c .before .before .before .before .bad-flags .ensures)) ∙ sym (c .before .before .before .test-of .ensures) ∙ c .before .enum-told2 .given .1) (c .refused .ensures)
 
 bad-frames-requires : tie.Need-bad-frames-requires
@@ -45,18 +44,13 @@ refused-requires-2 : tie.Need-refused-requires-2
 refused-requires-2 c κs = search needs
 
 returns-2 : tie.Need-returns-2
-unfolding readAs
 returns-2 c = simp (flagged (c .before .before .before .before .before), ap testOf (sym (c .before .before .before .before .bad-frames .ensures)) ∙ sym (c .before .before .before .test-of2 .ensures) ∙ c .before .enum-told4 .given .1) (c .refused2 .ensures)
 
-body-of-requires : tie.Need-body-of-requires
-body-of-requires c κs = search needs
-
 returns-3 : tie.Need-returns-3
-unfolding readAs
-returns-3 c = simp (flagged (c .before .before .before .before .before), ap testOf (sym (c .before .before .before .before .bad-frames .ensures)) ∙ sym (c .before .before .before .test-of2 .ensures) ∙ c .before .enum-told3 .given .1, sym (c .body-of .ensures))
+returns-3 c = simp (flagged (c .before .before .before .before), ap testOf (sym (c .before .before .before .bad-frames .ensures)) ∙ sym (c .before .before .test-of2 .ensures) ∙ c .enum-told3 .given .1)
 
-pub read-as-spec : {M : Type 1} → statement M
-read-as-spec =
+pub tested-spec : {M : Type 1} → statement M
+tested-spec =
     tie.close
     (tie.spec
     bad-flags-requires
@@ -71,5 +65,4 @@ read-as-spec =
     enum-told-4
     refused-requires-2
     returns-2
-    body-of-requires
     returns-3)

@@ -1,0 +1,81 @@
+-- The body of a message that passes 15 is all that stands behind its control frame. Assumes nothing.
+use mathlib.Core.Path.{_≡_, _∙_, ap, refl, sym}
+use Prim.Native.Nat.{_+_, _-_, ℕ}
+use native.Mathlib.Omega.{arith}
+use mathlib.Core.List.{List}
+use mathlib.Core.Bool.{Bool, true, false, cond, not}
+use lib.Dec.{eqb}
+use borrow.Author.Tests.{eqb-true}
+use Rattle.bytes_be.specs.declared.Place.{Place}
+use Rattle.bundle.specs.declared.Contents.the-variants.{Frames}
+use Rattle.bundle.specs.Reading.{contentsOf, frameOf}
+use Rattle.bundle.proofs.Sums.{second-of-two}
+use Rattle.control.specs.Frame.{ackReply}
+use Rattle.control.specs.declared.MessageType.{MessageType}
+use Rattle.control.specs.declared.MessageType.the-variants.{Open, Ready, Noop, Data, Close}
+use Rattle.message.specs.declared.Body.{Body}
+use Rattle.message.specs.declared.Body.the-variants.{Nothing, At}
+use Rattle.message.specs.declared.Reading.{Reading}
+use Rattle.message.specs.declared.Reading.the-variants.{Read}
+use Rattle.message.specs.Reading.{badFlags, badFrames, bodyIn, bodyOf, carries, ifPasses, readAs, refused, testOf}
+
+-- a test has one answer
+other : {A : Type 0} → true ≡ false → A
+other e = let z : _≡_ {A = ℕ} 0 1 = cc in absurd (omega arith)
+
+-- a count that is not another than 1
+one : (frames : ℕ) → not (eqb frames 1) ≡ false → frames ≡ 1
+one frames e = go (eqb frames 1) refl e
+  where
+    go : (t : Bool) → eqb frames 1 ≡ t → not t ≡ false → frames ≡ 1
+    go true is e = eqb-true frames 1 is
+    go false is e = other e
+
+-- a message that carries a data frame and passes 15 has one
+carried-one : (message : MessageType) (flags frames : ℕ) → badFrames message flags frames ≡ false → carries message flags ≡ true → frames ≡ 1
+carried-one Open flags frames passes some = one frames passes
+carried-one Data flags frames passes some = go (eqb flags ackReply) passes some
+  where
+    go : (t : Bool) → cond t (not (eqb frames 0)) (not (eqb frames 1)) ≡ false → not t ≡ true → frames ≡ 1
+    go true passes some = other (sym some)
+    go false passes some = one frames passes
+carried-one Ready flags frames passes some = other (sym some)
+carried-one Noop flags frames passes some = other (sym some)
+carried-one Close flags frames passes some = other (sym some)
+
+module _ (s : List ℕ) (count size : ℕ) (control : Place) (contents : contentsOf s ≡ Frames count control size) where
+  -- all that stands behind the control frame
+  abbrev behind : Body
+  behind = At (record { at = control .at + control .length; length = size - control .length })
+
+  second-frame : count - 1 ≡ 1 → bodyIn (frameOf s 1) ≡ behind
+  second-frame e =
+      let two : count ≡ 2 = omega arith in
+      ap bodyIn (second-of-two s size control (rw two at contents))
+
+  body-behind : (message : MessageType) (flags : ℕ) → badFrames message flags (count - 1) ≡ false →
+      bodyOf s message flags ≡ cond (carries message flags) behind Nothing
+  unfolding bodyOf
+  body-behind message flags passes = go (carries message flags) refl
+    where
+      go : (t : Bool) → carries message flags ≡ t → cond t (bodyIn (frameOf s 1)) Nothing ≡ cond t behind Nothing
+      go true some = second-frame (carried-one message flags (count - 1) passes some)
+      go false none = refl
+
+  -- what is read of a message whose type is known, where its body is what stands behind its control frame
+  pub read-behind : (said : ℕ) (message : MessageType) (flags type-data : ℕ) (body : Body) → body ≡ cond (carries message flags) behind Nothing →
+      readAs s said message flags type-data (count - 1) size ≡
+      ifPasses (testOf (badFlags message flags)) (refused 14 said)
+      (ifPasses (testOf (badFrames message flags (count - 1))) (refused 15 said)
+      (Read (record { message = message; flags = flags; «type_data» = type-data; frames = count - 1; size = size; body = body })))
+  unfolding readAs
+  read-behind said message flags type-data body is =
+      ap (ifPasses (testOf (badFlags message flags)) (refused 14 said)) (go (badFrames message flags (count - 1)) refl)
+    where
+      read-with : Body → Reading
+      read-with body = Read (record { message = message; flags = flags; «type_data» = type-data; frames = count - 1; size = size; body = body })
+
+      go : (t : Bool) → badFrames message flags (count - 1) ≡ t →
+          ifPasses (testOf t) (refused 15 said) (read-with (bodyOf s message flags)) ≡ ifPasses (testOf t) (refused 15 said) (read-with body)
+      go true bad = refl
+      go false passes = ap read-with (body-behind message flags passes ∙ sym is)
