@@ -1,4 +1,4 @@
--- Loading and storing undo each other, and a good block holds a good record. Assumes nothing.
+-- Loading and storing undo each other, and what is loaded is good where the block is. Assumes nothing.
 use mathlib.Core.Path.{_∙_, _≡_, ap, refl, sym, ap₂}
 use Prim.Native.Nat.{_%_, _*_, _+_, _<_, _^_, _≤_, suc, zero, ℕ}
 use mathlib.Core.List.{List, [], _++_, _∷_, flatMap}
@@ -16,11 +16,12 @@ use Rattle.bytes_be.proofs.Tests.{both-true}
 use Rattle.double.specs.Limit.{leastLimit, mostLimit}
 use Rattle.endpoint.specs.declared.Endpoint.{Endpoint}
 use Rattle.endpoint.specs.declared.Entry.{Entry}
-use Rattle.endpoint.specs.Block.{bytesOf, entryBytes, entryIn, headBytes, entriesIn, isGood, loadOf, recordIn, spareIsZero}
-use Rattle.endpoint.specs.Record.{awaitable, entryFits, good, isNone, none, producer, batch, capacity, client, consumer, countFits, offer, server}
-use Rattle.endpoint.specs.Round.{Sized, LoadedStores, StoredLoads}
+use Rattle.endpoint.specs.Block.{bytesOf, entryBytes, entryIn, headBytes, entriesIn, holdsEndpoint, isGood, loadOf, noEndpoint, recordIn, spareIsZero}
+use Rattle.endpoint.specs.Record.{awaitable, entryFits, freshOf, good, inRanges, isNone, none, producer, batch, capacity, client, consumer, countFits, offer, server}
+use Rattle.endpoint.specs.Round.{Sized, LoadedGood, LoadedStores, StoredLoads}
 use Rattle.bytes_be.proofs.Filled.{filled}
 use Rattle.endpoint.proofs.Stored.{length-block, length-entry, length-head}
+use Rattle.endpoint.proofs.StaysGood.{fresh-sized}
 use Rattle.endpoint.proofs.Told.{fits-at, fits-before, fits-behind, good-told}
 
 -- a byte is the number at its place
@@ -130,43 +131,54 @@ module _ (e : Endpoint) (sized : Sized e) (g : good e ≡ true) where
   unfolding spareIsZero headBytes toBytes
   spare-back = simp (number-back 2 6 0 (omega arith) (omega arith) refl, number-back 4 12 0 (omega arith) (omega arith) refl)
 
--- the block of a good record is good and holds that record: what was stored is loaded
+-- the block of a good record holds that record: what was stored is loaded
 pub stored-loads : StoredLoads
-unfolding loadOf isGood
-stored-loads e sized g =
-    let well : isGood (bytesOf e) ≡ true =
-    simp (eq-eqb (length (bytesOf e)) 64 (long e sized g), spare-back e sized g) (ap good (record-back e sized g) ∙ g) in
-    λ i. record { good = well i; endpoint = record-back e sized g i }
+unfolding loadOf
+stored-loads e sized g = simp (eq-eqb (length (bytesOf e)) 64 (long e sized g), spare-back e sized g) (record-back e sized g)
+
+-- a block that holds an endpoint is as good as its record, and any other is not good and loaded as none
+pub loaded-good : LoadedGood
+unfolding isGood loadOf good inRanges freshOf
+loaded-good block = go (holdsEndpoint block)
+  where
+    go : (t : Bool) → good (cond t (recordIn block) noEndpoint) ≡ t && good (recordIn block)
+    go true = refl
+    go false = refl
 
 -- what a good block says
 record BlockTold (block : List ℕ) : Type 0 where
   full : length block ≡ 64
   spare-two : numberAt 2 block 6 ≡ 0
   spare-four : numberAt 4 block 12 ≡ 0
-  good-record : good (recordIn block) ≡ true
+  held : loadOf block ≡ recordIn block
 
 block-told : (block : List ℕ) → isGood block ≡ true → BlockTold block
-unfolding isGood spareIsZero
+unfolding isGood loadOf spareIsZero
 block-told block g =
-    let p = both-true (eqb (length block) 64 && spareIsZero block) (good (recordIn block)) g in
+    let p = both-true (holdsEndpoint block) (good (recordIn block)) g in
     let q = both-true (eqb (length block) 64) (spareIsZero block) (p .0) in
     let r = both-true (eqb (numberAt 2 block 6) 0) (eqb (numberAt 4 block 12) 0) (q .1) in
-    record { full = eqb-true _ _ (q .0); spare-two = eqb-true _ _ (r .0); spare-four = eqb-true _ _ (r .1); good-record = p .1 }
-
--- a good block holds a good record
-pub loaded-good : (block : List ℕ) → isGood block ≡ true → good (recordIn block) ≡ true
-loaded-good block g = block-told block g .good-record
+    record { full = eqb-true _ _ (q .0); spare-two = eqb-true _ _ (r .0); spare-four = eqb-true _ _ (r .1); held = simp (p .0) }
 
 module _ (block : List ℕ) (bytes : Bytes block) where
   -- the entries of a block of bytes are sixteen, each with a type-data of two bytes
-  pub loaded-sized : Sized (recordIn block)
+  record-sized : Sized (recordIn block)
   unfolding recordIn entriesIn entryIn
-  loaded-sized = record { sixteen = length-tabulate (entryIn block) 0 capacity; small = λ i. small-at i (ltb i capacity) refl }
+  record-sized = record { sixteen = length-tabulate (entryIn block) 0 capacity; small = λ i. small-at i (ltb i capacity) refl }
     where
       small-at : (i : ℕ) (t : Bool) → ltb i capacity ≡ t → getD (tabulate 0 capacity (entryIn block)) i none .«type_data» < 256 ^ 2
       small-at i true inside = rw (getD-tabulate (entryIn block) 0 capacity i none (ltb-true i capacity inside)) (number-below 2 block (17 + 3 * (0 + i)) bytes)
       small-at i false outside =
           rw (List·getD-eq-default (tabulate 0 capacity (entryIn block)) none {n = i} (omega (arith, length-tabulate (entryIn block) 0 capacity, ltb-false i capacity outside))) (omega arith)
+
+  -- and so are those of what is loaded
+  pub loaded-sized : Sized (loadOf block)
+  unfolding loadOf
+  loaded-sized = go (holdsEndpoint block)
+    where
+      go : (t : Bool) → Sized (cond t (recordIn block) noEndpoint)
+      go true = record-sized
+      go false = fresh-sized 0 0 0
 
   module _ (full : length block ≡ 64) where
     -- the bytes of the numbers at their places are those of the block
@@ -212,6 +224,7 @@ pub loaded-stores : LoadedStores
 unfolding bytesOf recordIn entriesIn
 loaded-stores block bytes g =
     let told = block-told block g in
-    ap₂ (λ (a b : List ℕ). a ++ b) (head-there block bytes (told .full) (told .spare-two) (told .spare-four)) (entries-there block bytes (told .full) 0 16 (omega arith))
+    ap bytesOf (told .held)
+    ∙ ap₂ (λ (a b : List ℕ). a ++ b) (head-there block bytes (told .full) (told .spare-two) (told .spare-four)) (entries-there block bytes (told .full) 0 16 (omega arith))
     ∙ part-then block 0 16 48 16 refl
     ∙ take-all 64 block (omega (arith, told .full))

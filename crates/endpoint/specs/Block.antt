@@ -2,15 +2,14 @@
 -- 16-63 sixteen entries of 3 bytes (type, type-data), oldest first."
 use Prim.Native.Nat.{ℕ, _+_, _*_}
 use mathlib.Core.List.{List, [], _∷_, _++_, flatMap}
-use mathlib.Core.Bool.{Bool, _&&_}
+use mathlib.Core.Bool.{Bool, cond, _&&_}
 use lib.ListN.{length}
 use lib.Dec.{eqb}
 use Rattle.bytes_be.specs.Part.{tabulate}
 use Rattle.bytes_be.specs.Number.{numberAt, toBytes}
 use Rattle.endpoint.specs.declared.Entry.{Entry}
 use Rattle.endpoint.specs.declared.Endpoint.{Endpoint}
-use Rattle.endpoint.specs.declared.Loaded.{Loaded}
-use Rattle.endpoint.specs.Record.{capacity, good}
+use Rattle.endpoint.specs.Record.{capacity, good, freshOf}
 
 -- "entries of 3 bytes (type, type-data)"
 unfoldable pub entryBytes : Entry → List ℕ
@@ -50,9 +49,17 @@ recordIn block =
 unfoldable pub spareIsZero : List ℕ → Bool
 spareIsZero block = eqb (numberAt 2 block 6) 0 && eqb (numberAt 4 block 12) 0
 
+-- whether a block holds an endpoint, good or not: "64 bytes", and zeros where they must be
+abbrev pub holdsEndpoint : List ℕ → Bool
+holdsEndpoint block = eqb (length block) 64 && spareIsZero block
+
 -- "1 block not 64 bytes, or not good"
 unfoldable pub isGood : List ℕ → Bool
-isGood block = eqb (length block) 64 && spareIsZero block && good (recordIn block)
+isGood block = holdsEndpoint block && good (recordIn block)
 
-unfoldable pub loadOf : List ℕ → Loaded
-loadOf block = record { good = isGood block; endpoint = recordIn block }
+-- what any other block is loaded as: no role is 0, so it is not good
+abbrev pub noEndpoint : Endpoint
+noEndpoint = freshOf 0 0 0
+
+unfoldable pub loadOf : List ℕ → Endpoint
+loadOf block = cond (holdsEndpoint block) (recordIn block) noEndpoint

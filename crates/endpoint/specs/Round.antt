@@ -1,4 +1,5 @@
--- Loading and storing undo each other: a good record is loaded from the block that it was stored to, and a good block is stored again as it was.
+-- A record that is loaded is good where its block is. Loading and storing undo each other: a good record is loaded from the block that it was
+-- stored to, and a good block is stored again as it was.
 use Prim.Native.Nat.{ℕ, _<_, _^_}
 use mathlib.Core.Path.{_≡_}
 use mathlib.Core.List.{List}
@@ -6,17 +7,21 @@ use mathlib.Core.Bool.{true}
 use lib.ListN.{length, getD}
 use Rattle.endpoint.specs.declared.Endpoint.{Endpoint}
 use Rattle.endpoint.specs.Record.{none, good}
-use Rattle.endpoint.specs.Block.{bytesOf, recordIn, isGood, loadOf}
+use Rattle.endpoint.specs.Block.{bytesOf, isGood, loadOf}
 
 -- what the types of a record's fields say of its entries: there are sixteen, each with a type-data of two bytes
 pub record Sized (e : Endpoint) : Type 0 where
   pub sixteen : length (e .entries) ≡ 16
   pub small : (i : ℕ) → getD (e .entries) i none .«type_data» < 256 ^ 2
 
--- the block of every good record is good, and holds that record
+-- the record of a block is good where the block is, and nowhere else
+abbrev pub LoadedGood : Type 0
+LoadedGood = (block : List ℕ) → good (loadOf block) ≡ isGood block
+
+-- the block of every good record holds that record
 abbrev pub StoredLoads : Type 0
-StoredLoads = (e : Endpoint) → Sized e → good e ≡ true → loadOf (bytesOf e) ≡ record { good = true; endpoint = e }
+StoredLoads = (e : Endpoint) → Sized e → good e ≡ true → loadOf (bytesOf e) ≡ e
 
 -- every good block is the block of the record that it holds
 abbrev pub LoadedStores : Type 0
-LoadedStores = (block : List ℕ) → ((i : ℕ) → getD block i 0 < 256) → isGood block ≡ true → bytesOf (recordIn block) ≡ block
+LoadedStores = (block : List ℕ) → ((i : ℕ) → getD block i 0 < 256) → isGood block ≡ true → bytesOf (loadOf block) ≡ block

@@ -40,13 +40,6 @@ pub enum Given {
     Bad,
 }
 
-// What a block holds.
-pub struct Loaded {
-    // Whether the block is good: else 1.
-    pub good: bool,
-    pub endpoint: Endpoint,
-}
-
 fn in_ranges(e: Endpoint) -> bool
     ensures { λ r. ⌜ r ≡ inRanges e ⌝ }
 {
@@ -317,15 +310,15 @@ fn spare_is_zero(block: &[u8]) -> bool
     (bytes_be::read16(block, 6) == 0) & (bytes_be::read32(block, 12) == 0)
 }
 
-// The record that a block holds, and whether the block is a good one of 64 bytes.
-pub fn load(block: &[u8]) -> Loaded
+// The record that a block holds, which is good where the block is.
+pub fn load(block: &[u8]) -> Endpoint
     ensures { λ r. ⌜ r ≡ loadOf (now (block .entry)) ⌝ }
 {
-    let e = record_in(block);
-    Loaded {
-        good: (block.len() == 64) & spare_is_zero(block) & good(e),
-        endpoint: e,
+    let holds = (block.len() == 64) & spare_is_zero(block);
+    if holds {
+        return record_in(block);
     }
+    fresh(0, 0, 0)
 }
 
 fn entry_bytes(entry: Entry) -> [u8; 3]

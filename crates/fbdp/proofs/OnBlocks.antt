@@ -1,83 +1,81 @@
--- From what an endpoint's record makes of a call or a message to what the entry answers on its block. Assumes nothing.
-use mathlib.Core.Path.{_∙_, _≡_, ap, ap₂, sym}
+-- From what an endpoint's record makes of a call or a message to what the entry answers on its block, and that a bad block is left as it was.
+-- Assumes nothing.
+use mathlib.Core.Path.{_∙_, _≡_, ap}
 use Prim.Native.Nat.{ℕ}
-use mathlib.Core.List.{List, [], _∷_}
-use mathlib.Core.Bool.{true, false, not}
-use lib.ListN.{length}
-use borrow.Author.Tests.{not-false, not-true}
+use mathlib.Core.List.{List}
+use mathlib.Core.Bool.{false}
 use Rattle.bytes_be.proofs.Parts.{put-nothing}
 use Rattle.endpoint.specs.declared.Endpoint.{Endpoint}
-use Rattle.endpoint.specs.declared.Loaded.{Loaded}
-use Rattle.endpoint.specs.Block.{isGood, loadOf, recordIn}
+use Rattle.endpoint.specs.Block.{isGood, loadOf}
+use Rattle.endpoint.specs.Record.{good}
+use Rattle.endpoint.proofs.Round.{loaded-good}
 use Rattle.receiving.specs.declared.Received.{Received}
 use Rattle.receiving.specs.Receiving.{ReceiveAnswer as Heard-by-record, answerNumber, receivedOf, replied}
 use Rattle.receiving.specs.Refusing.{unchanged}
 use Rattle.sending.specs.declared.Sent.{Sent}
 use Rattle.sending.specs.Calls.{Call, written}
-use Rattle.sending.specs.Sending.{SendAnswer as Sent-by-record, leftBy, sendOf}
-use Rattle.fbdp.specs.Blocks.{SendAnswer, ReceiveAnswer, Finished, answerSlots, receivedOn, replyLength, sentOn, keptAfter, leaves, keptBy}
+use Rattle.sending.specs.Sending.{SendAnswer as Sent-by-record, leftBy, numberFor, sendOf, sentBy, unsent}
+use Rattle.fbdp.specs.Blocks.{SendAnswer, ReceiveAnswer, Finished, BadBlockSends, BadBlockReceives, answerSlots, replyLength, keptAfter, leaves, keptBy}
 
-module _ (block : List ℕ) (loaded : Loaded) (said : loaded ≡ loadOf block) where
-  holds-good : isGood block ≡ loaded .good
-  unfolding loadOf
-  holds-good = ap (λ (l : Loaded). l .good) (sym said)
+module _ (block : List ℕ) (e : Endpoint) (loaded : e ≡ loadOf block) where
+  -- the answer is that of the record that was loaded
 
-  holds-record : recordIn block ≡ loaded .endpoint
-  unfolding loadOf
-  holds-record = ap (λ (l : Loaded). l .endpoint) (sym said)
+  pub send-finished : (call : Call) (out out′ : List ℕ) (sent : Sent) (number count : ℕ) (block′ : List ℕ) →
+      Sent-by-record e call out sent out′ → Finished sent block number count block′ → SendAnswer call block out number count block′ out′
+  send-finished call out out′ sent number count block′ by-record finished =
+      let by-loaded : Sent-by-record (loadOf block) call out sent out′ = rw loaded at by-record in
+      let on-block = by-loaded .answered in
+      record {
+        numbered = finished .numbered ∙ ap (λ (s : Sent). s .number) on-block;
+        counted = finished .counted ∙ ap (λ (s : Sent). s .written) on-block;
+        kept = finished .kept ∙ ap (λ (s : Sent). keptAfter s block) on-block;
+        left = by-loaded .left;
+      }
 
-  module _ (bad : not (loaded .good) ≡ true) where
-    not-good : isGood block ≡ false
-    not-good = holds-good ∙ not-true (loaded .good) bad
+  pub receive-finished : (s name format out out′ : List ℕ) (received : Received) (number : ℕ) (slots block′ : List ℕ) →
+      Heard-by-record e s name format out received out′ → number ≡ answerNumber (received .answer) →
+      slots ≡ answerSlots (received .answer) (replyLength (received .reply)) → block′ ≡ keptBy received block →
+      ReceiveAnswer s name format block out number slots block′ out′
+  receive-finished s name format out out′ received number slots block′ by-record its-number its-slots its-block =
+      let by-loaded : Heard-by-record (loadOf block) s name format out received out′ = rw loaded at by-record in
+      let on-block = by-loaded .answered in
+      record {
+        numbered = its-number ∙ ap (λ (r : Received). answerNumber (r .answer)) on-block;
+        told = its-slots ∙ ap (λ (r : Received). answerSlots (r .answer) (replyLength (r .reply))) on-block;
+        kept = its-block ∙ ap (λ (r : Received). keptBy r block) on-block;
+        left = by-loaded .left;
+      }
 
-    -- a bad block gets 1, and nothing is changed
+-- a block that is not good is left as it was
 
-    pub send-refused : (call : Call) (out : List ℕ) (number count : ℕ) → (number ≡ 1) × (count ≡ 0) → SendAnswer call block out number count block out
-    unfolding sentOn leftBy keptAfter
-    send-refused call out number count (one, none-written) =
-        record { numbered = simp not-good one; counted = simp not-good none-written; kept = simp not-good; left = simp not-good }
+module _ (block : List ℕ) (bad : isGood block ≡ false) where
+  not-good : good (loadOf block) ≡ false
+  not-good = loaded-good block ∙ bad
 
-    pub receive-refused : (s name format out : List ℕ) → ReceiveAnswer s name format block out 1 (0 ∷ 0 ∷ 0 ∷ 0 ∷ 0 ∷ 0 ∷ 0 ∷ 0 ∷ 0 ∷ 0 ∷ 0 ∷ 0 ∷ 0 ∷ 0 ∷ 0 ∷ 0 ∷ []) block out
-    unfolding receivedOn unchanged replied keptBy leaves
-    receive-refused s name format out =
-        record { numbered = simp not-good; told = simp not-good; kept = simp not-good; left = simp not-good (sym (put-nothing out 0)) }
+  refused-send : (call : Call) (room : ℕ) → sendOf (loadOf block) call room ≡ unsent (loadOf block) 1
+  unfolding sentBy numberFor
+  refused-send call room = simp not-good
 
-  module _ (fine : not (loaded .good) ≡ false) where
-    is-good : isGood block ≡ true
-    is-good = holds-good ∙ not-false (loaded .good) fine
+  refused-receive : (s name format : List ℕ) (room : ℕ) → receivedOf (loadOf block) s name format room ≡ unchanged (loadOf block) 1
+  unfolding receivedOf
+  refused-receive s name format room = simp not-good
 
-    -- on a good block the answer is that of its record
+pub bad-block-sends : BadBlockSends
+unfolding leftBy keptAfter
+bad-block-sends call block out number count block′ out′ bad answer =
+    let refusal = refused-send block bad call _ in (
+      answer .numbered ∙ ap (λ (s : Sent). s .number) refusal,
+      answer .counted ∙ ap (λ (s : Sent). s .written) refusal,
+      answer .kept ∙ ap (λ (s : Sent). keptAfter s block) refusal,
+      answer .left ∙ ap (λ (s : Sent). leftBy s (written (loadOf block) call) out) refusal,
+    )
 
-    sent-same : (call : Call) (out : List ℕ) (sent : Sent) → sent ≡ sendOf (loaded .endpoint) call (length out) → sent ≡ sentOn block call (length out)
-    unfolding sentOn
-    sent-same call out sent decided = decided ∙ simp is-good (ap (λ (e : Endpoint). sendOf e call (length out)) (sym holds-record))
-
-    pub send-finished : (call : Call) (out out′ : List ℕ) (sent : Sent) (number count : ℕ) (block′ : List ℕ) →
-        Sent-by-record (loaded .endpoint) call out sent out′ → Finished sent block number count block′ → SendAnswer call block out number count block′ out′
-    send-finished call out out′ sent number count block′ by-record finished =
-        let on-block = sent-same call out sent (by-record .answered) in
-        record {
-          numbered = finished .numbered ∙ ap (λ (s : Sent). s .number) on-block;
-          counted = finished .counted ∙ ap (λ (s : Sent). s .written) on-block;
-          kept = finished .kept ∙ ap (λ (s : Sent). keptAfter s block) on-block;
-          left = by-record .left ∙ ap₂ (λ (s : Sent) (e : Endpoint). leftBy s (written e call) out) (sym (by-record .answered) ∙ on-block) (sym holds-record);
-        }
-
-    received-same : (s name format out : List ℕ) (received : Received) → received ≡ receivedOf (loaded .endpoint) s name format (length out) →
-        received ≡ receivedOn block s name format (length out)
-    unfolding receivedOn
-    received-same s name format out received answered =
-        answered ∙ simp is-good (ap (λ (e : Endpoint). receivedOf e s name format (length out)) (sym holds-record))
-
-    pub receive-finished : (s name format out out′ : List ℕ) (received : Received) (number : ℕ) (slots block′ : List ℕ) →
-        Heard-by-record (loaded .endpoint) s name format out received out′ → number ≡ answerNumber (received .answer) →
-        slots ≡ answerSlots (received .answer) (replyLength (received .reply)) → block′ ≡ keptBy received block →
-        ReceiveAnswer s name format block out number slots block′ out′
-    receive-finished s name format out out′ received number slots block′ by-record its-number its-slots its-block =
-        let on-block = received-same s name format out received (by-record .answered) in
-        record {
-          numbered = its-number ∙ ap (λ (r : Received). answerNumber (r .answer)) on-block;
-          told = its-slots ∙ ap (λ (r : Received). answerSlots (r .answer) (replyLength (r .reply))) on-block;
-          kept = its-block ∙ ap (λ (r : Received). keptBy r block) on-block;
-          left = by-record .left ∙ ap (λ (r : Received). replied (r .reply) out) (sym (by-record .answered) ∙ on-block);
-        }
+pub bad-block-receives : BadBlockReceives
+unfolding unchanged replied keptBy leaves
+bad-block-receives s name format block out number slots block′ out′ bad answer =
+    let refusal = refused-receive block bad s name format _ in (
+      answer .numbered ∙ ap (λ (r : Received). answerNumber (r .answer)) refusal,
+      answer .told ∙ ap (λ (r : Received). answerSlots (r .answer) (replyLength (r .reply))) refusal,
+      answer .kept ∙ ap (λ (r : Received). keptBy r block) refusal,
+      answer .left ∙ ap (λ (r : Received). replied (r .reply) out) refusal ∙ put-nothing out 0,
+    )

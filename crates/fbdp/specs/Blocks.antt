@@ -1,16 +1,16 @@
 -- What each entry on a state block answers and leaves: making, the five sends and receive, each with an equation for the number, for every
--- output of numbers, for the block and for the output. "1 block not 64 bytes, or not good" comes first.
+-- output of numbers, for the block and for the output: what the record in the block answers, 1 if the block is not good.
 use Prim.Native.Nat.{ℕ}
 use mathlib.Core.Path.{_≡_}
 use mathlib.Core.List.{List, [], _∷_, _++_}
-use mathlib.Core.Bool.{Bool, cond, not, _&&_}
-use lib.ListN.{length}
+use mathlib.Core.Bool.{Bool, false, cond, not, _&&_}
+use lib.ListN.{length, replicate}
 use lib.Dec.{leb, eqb}
 use Rattle.bytes_be.specs.Part.{putAt}
 use Rattle.control.specs.Frame.{typeOf}
 use Rattle.endpoint.specs.declared.Endpoint.{Endpoint}
 use Rattle.endpoint.specs.Record.{givenOf, givenNumber}
-use Rattle.endpoint.specs.Block.{bytesOf, recordIn, isGood}
+use Rattle.endpoint.specs.Block.{bytesOf, isGood, loadOf}
 use Rattle.receiving.specs.declared.Content.{Content}
 use Rattle.receiving.specs.declared.Content.the-variants.{Nothing, Opening, Body}
 use Rattle.receiving.specs.declared.Heard.{Heard}
@@ -18,11 +18,10 @@ use Rattle.receiving.specs.declared.Answer.{Answer}
 use Rattle.receiving.specs.declared.Answer.the-variants.{Heard as Answer·Heard, Refused}
 use Rattle.receiving.specs.declared.Reply.{Reply}
 use Rattle.receiving.specs.declared.Received.{Received}
-use Rattle.receiving.specs.Refusing.{unchanged}
 use Rattle.receiving.specs.Receiving.{answerNumber, replyBytes, replied, receivedOf}
 use Rattle.sending.specs.declared.Sent.{Sent}
 use Rattle.sending.specs.Calls.{Call, written}
-use Rattle.sending.specs.Sending.{unsent, sendOf, leftBy}
+use Rattle.sending.specs.Sending.{sendOf, leftBy}
 
 -- the block with the 64 bytes of a record
 unfoldable pub stored : Endpoint → List ℕ → List ℕ
@@ -38,14 +37,14 @@ pub record MakeAnswer (made : Endpoint) (flow limit : ℕ) (before : List ℕ) (
   pub kept : after ≡ cond (eqb (makeNumber flow limit before) 0) (stored made before) before
 
 -- what comes of a call on a block
-unfoldable pub sentOn : List ℕ → Call → ℕ → Sent
-sentOn block call room = cond (isGood block) (sendOf (recordIn block) call room) (unsent (recordIn block) 1)
+abbrev pub sentOn : List ℕ → Call → ℕ → Sent
+sentOn block call room = sendOf (loadOf block) call room
 
 -- "All others change no byte.": the block after a send
 unfoldable pub keptAfter : Sent → List ℕ → List ℕ
 keptAfter sent block = cond (eqb (sent .number) 0) (stored (sent .next) block) block
 
--- what a send on a good block answers, and the block afterwards
+-- what a send answers, and the block afterwards
 pub record Finished (sent : Sent) (before : List ℕ) (number count : ℕ) (after : List ℕ) : Type 0 where
   pub numbered : number ≡ sent .number
   pub counted : count ≡ sent .written
@@ -60,12 +59,17 @@ pub record SendAnswer (call : Call) (block out : List ℕ) (number count : ℕ) 
   pub numbered : number ≡ sentOn block call (length out) .number
   pub counted : count ≡ sentOn block call (length out) .written
   pub kept : block′ ≡ keptAfter (sentOn block call (length out)) block
-  pub left : out′ ≡ leftBy (sentOn block call (length out)) (written (recordIn block) call) out
+  pub left : out′ ≡ leftBy (sentOn block call (length out)) (written (loadOf block) call) out
+
+-- "1 block not 64 bytes, or not good": a send on such a block changes no byte
+abbrev pub BadBlockSends : Type 0
+BadBlockSends =
+    (call : Call) (block out : List ℕ) (number count : ℕ) (block′ out′ : List ℕ) → isGood block ≡ false → SendAnswer call block out number count block′ out′
+    → (number ≡ 1) × (count ≡ 0) × (block′ ≡ block) × (out′ ≡ out)
 
 -- what comes of a message on a block
-unfoldable pub receivedOn : List ℕ → List ℕ → List ℕ → List ℕ → ℕ → Received
-receivedOn block s name format room =
-    cond (isGood block) (receivedOf (recordIn block) s name format room) (unchanged (recordIn block) 1)
+abbrev pub receivedOn : List ℕ → List ℕ → List ℕ → List ℕ → ℕ → Received
+receivedOn block s name format room = receivedOf (loadOf block) s name format room
 
 -- how many bytes of the output are the reply
 abbrev pub replyLength : Reply → ℕ
@@ -114,3 +118,9 @@ pub record ReceiveAnswer (s name format block out : List ℕ) (number : ℕ) (sl
       ≡ answerSlots (receivedOn block s name format (length out) .answer) (replyLength (receivedOn block s name format (length out) .reply))
   pub kept : block′ ≡ keptBy (receivedOn block s name format (length out)) block
   pub left : out′ ≡ replied (receivedOn block s name format (length out) .reply) out
+
+-- 1 again: a receive on such a block changes no byte, and tells nothing
+abbrev pub BadBlockReceives : Type 0
+BadBlockReceives =
+    (s name format block out : List ℕ) (number : ℕ) (slots block′ out′ : List ℕ) → isGood block ≡ false → ReceiveAnswer s name format block out number slots block′ out′
+    → (number ≡ 1) × (slots ≡ replicate 16 0) × (block′ ≡ block) × (out′ ≡ out)

@@ -133,15 +133,7 @@ pub extern "C" fn fbdp_make_server(block: &mut [u8], flow: u8) -> u32
     make(block, 2, flow, 50000000)
 }
 
-// The answer of a send on a bad block.
-fn bad_block(written: &mut u64) -> u32
-    ensures { λ r. ⌜ (r ≡ 1) × (now (written .exit) ≡ 0) ⌝ }
-{
-    *written = 0;
-    1
-}
-
-// Tells what came of a send on a good block, and stores the endpoint unless the send was refused.
+// Tells what came of a send, and stores the endpoint unless the send was refused.
 fn finish(sent: Sent, block: &mut [u8], written: &mut u64) -> u32
     ensures { λ r. ⌜ Finished sent (now (block .entry)) r (now (written .exit)) (now (block .exit)) ⌝ }
 {
@@ -172,11 +164,7 @@ pub extern "C" fn fbdp_send_open(
 ) -> u32
     ensures { λ r. ⌜ SendAnswer (OPEN (now (name .entry)) (now (format .entry))) (now (block .entry)) (now (out .entry)) r (now (written .exit)) (now (block .exit)) (now (out .exit)) ⌝ }
 {
-    let loaded = endpoint::load(block);
-    if !loaded.good {
-        return bad_block(written);
-    }
-    let e = loaded.endpoint;
+    let e = endpoint::load(block);
     finish(sending::send_open(e, name, format, out), block, written)
 }
 
@@ -190,11 +178,7 @@ pub extern "C" fn fbdp_send_ready(
 ) -> u32
     ensures { λ r. ⌜ SendAnswer (READY count) (now (block .entry)) (now (out .entry)) r (now (written .exit)) (now (block .exit)) (now (out .exit)) ⌝ }
 {
-    let loaded = endpoint::load(block);
-    if !loaded.good {
-        return bad_block(written);
-    }
-    let e = loaded.endpoint;
+    let e = endpoint::load(block);
     finish(sending::send_ready(e, count, out), block, written)
 }
 
@@ -210,11 +194,7 @@ pub extern "C" fn fbdp_send_data(
 ) -> u32
     ensures { λ r. ⌜ SendAnswer (DATA «type_data» (asksFor ask) (now (body .entry))) (now (block .entry)) (now (out .entry)) r (now (written .exit)) (now (block .exit)) (now (out .exit)) ⌝ }
 {
-    let loaded = endpoint::load(block);
-    if !loaded.good {
-        return bad_block(written);
-    }
-    let e = loaded.endpoint;
+    let e = endpoint::load(block);
     let asked = asks_for(ask);
     finish(
         sending::send_data(e, type_data, asked, body, out),
@@ -234,11 +214,7 @@ pub extern "C" fn fbdp_send_noop(
 ) -> u32
     ensures { λ r. ⌜ SendAnswer (NOOP «type_data» (asksFor ask)) (now (block .entry)) (now (out .entry)) r (now (written .exit)) (now (block .exit)) (now (out .exit)) ⌝ }
 {
-    let loaded = endpoint::load(block);
-    if !loaded.good {
-        return bad_block(written);
-    }
-    let e = loaded.endpoint;
+    let e = endpoint::load(block);
     let asked = asks_for(ask);
     finish(sending::send_noop(e, type_data, asked, out), block, written)
 }
@@ -253,11 +229,7 @@ pub extern "C" fn fbdp_send_close(
 ) -> u32
     ensures { λ r. ⌜ SendAnswer (CLOSE code) (now (block .entry)) (now (out .entry)) r (now (written .exit)) (now (block .exit)) (now (out .exit)) ⌝ }
 {
-    let loaded = endpoint::load(block);
-    if !loaded.good {
-        return bad_block(written);
-    }
-    let e = loaded.endpoint;
+    let e = endpoint::load(block);
     finish(sending::send_close(e, code, out), block, written)
 }
 
@@ -358,12 +330,7 @@ pub extern "C" fn fbdp_receive(
 ) -> u32
     ensures { λ r. ⌜ ReceiveAnswer (now (message .entry)) (now (name .entry)) (now (format .entry)) (now (block .entry)) (now (out .entry)) r (now (heard .exit)) (now (block .exit)) (now (out .exit)) ⌝ }
 {
-    let loaded = endpoint::load(block);
-    if !loaded.good {
-        *heard = [0, 0, 0, 0, 0, 0, 0, 0, 0, 0, 0, 0, 0, 0, 0, 0];
-        return 1;
-    }
-    let e = loaded.endpoint;
+    let e = endpoint::load(block);
     let received = receiving::receive(e, message, name, format, out);
     let next = received.next;
     let answer = received.answer;

@@ -1,24 +1,14 @@
 -- Every send and every receive leaves a good endpoint good. Assumes nothing.
 use mathlib.Core.Path.{_≡_, refl, subst}
-use Prim.Native.Nat.{_<_, _^_, ℕ, _+_}
+use Prim.Native.Nat.{_<_, _^_, ℕ}
 use mathlib.Core.List.{List}
 use mathlib.Core.Bool.{Bool, cond, false, true}
 use lib.Dec.{eqb}
 use borrow.Author.Tests.{eq-eqb, eqb-true}
-use Rattle.bytes_be.specs.declared.Place.{Place}
 use Rattle.bytes_be.proofs.Numbers.{Bytes}
-use Rattle.control.specs.declared.MessageType.{MessageType}
 use Rattle.control.specs.declared.MessageType.the-variants.{Open, Ready, Noop, Data, Close}
 use Rattle.terms.specs.Announced.{announcedLimit}
-use Rattle.open.specs.declared.Open.{Open as OpenFrame}
-use Rattle.open.specs.declared.Open.the-variants.{Heard, Refused}
-use Rattle.open.specs.Open.{heardBy}
-use Rattle.open.proofs.Limits.{HeardBounded, heard-bounded}
-use Rattle.open.proofs.Stages.{OfOpening}
-use Rattle.message.specs.declared.Body.{Body}
-use Rattle.message.specs.declared.Body.the-variants.{Nothing as Body·Nothing, At}
 use Rattle.message.specs.declared.Message.{Message}
-use Rattle.message.specs.Reading.{bodyPlace}
 use Rattle.message.proofs.Inside.{read-small}
 use Rattle.endpoint.specs.declared.Endpoint.{Endpoint}
 use Rattle.endpoint.specs.declared.Entry.{Entry}
@@ -26,18 +16,19 @@ use Rattle.endpoint.specs.Record.{asked, awaitable, producer, confirmed}
 use Rattle.endpoint.proofs.StaysGood.{asked-good, asked-sized, confirmed-good, confirmed-sized, limited-good, limited-sized}
 use Rattle.table.specs.declared.Row.{Row}
 use Rattle.table.specs.Table.{moved, notAllowed, other}
-use Rattle.receiving.specs.declared.Carried.{Carried}
-use Rattle.receiving.specs.declared.Carried.the-variants.{Content as Carried·Content, Refused as Carried·Refused}
+use Rattle.receiving.specs.declared.Carried.the-variants.{Content as Carried·Content}
 use Rattle.receiving.specs.declared.Content.{Content}
 use Rattle.receiving.specs.declared.Content.the-variants.{Nothing, Opening, Body as Content·Body}
 use Rattle.receiving.specs.declared.Received.{Received}
-use Rattle.receiving.specs.Hearing.{accepted, bodyCarried, carriedAs, carriedBy, confirmedBy, confirms, hearRow, limitedBy, movesAs, openAt, openCarried}
+use Rattle.receiving.specs.Hearing.{accepted, confirmedBy, confirms, hearRow, limitedBy, movesAs}
 use Rattle.receiving.specs.Refusing.{refused, unchanged}
 use Rattle.sending.specs.declared.Sent.{Sent}
 use Rattle.sending.specs.Calls.{Call, OPEN, READY, DATA, NOOP, CLOSE, outgoing}
 use Rattle.sending.specs.Sending.{askedBy, numberFor, sendRow, sentBy}
 use Rattle.sending.proofs.Decided.{all-passed}
 use Rattle.machine.specs.Good.{Fits, SentGood, Sound, HeardGood}
+use Rattle.machine.specs.Refusals.{Closing, Staying}
+use Rattle.machine.proofs.Carried.{CarriedBounded, carried-bounded}
 use Rattle.machine.proofs.Rows.{Acts, row-sound, sent-data-acts, sent-noop-acts, closed-sound}
 use Rattle.machine.proofs.Stages.{Passed, received-holds}
 
@@ -78,36 +69,6 @@ module _ (e : Endpoint) (sound : Sound e) where
 pub sent-good : SentGood
 sent-good = sent-sound
 
--- what is carried by an OPEN that is heard has a limit that is one
-
-abbrev CarriedBounded : Carried → Type 0
-CarriedBounded (Carried·Content Nothing) = Unit
-CarriedBounded (Carried·Content (Opening opening)) = HeardBounded opening
-CarriedBounded (Carried·Content (Content·Body place)) = Unit
-CarriedBounded (Carried·Refused number) = Unit
-
-open-carries : (said : OpenFrame) → OfOpening HeardBounded said → CarriedBounded (openCarried said)
-open-carries (Heard opening) bounded = bounded
-open-carries (Refused refusal) bounded = tt
-
-body-carries : (body : Body) → CarriedBounded (bodyCarried body)
-body-carries Body·Nothing = tt
-body-carries (At place) = tt
-
-carried-bounded : (e : Endpoint) (s name format : List ℕ) (m : Message) → CarriedBounded (carriedBy e s name format m)
-unfolding carriedBy openAt
-carried-bounded e s name format m = go (m .message)
-  where
-    place : Place
-    place = bodyPlace (m .body)
-
-    go : (message : MessageType) → CarriedBounded (carriedAs message (openAt e s name format place) (bodyCarried (m .body)))
-    go Open = open-carries (heardBy s (place .at) (place .at + place .length) (e .flow) name format) (heard-bounded s (place .at) (place .at + place .length) (e .flow) name format)
-    go Ready = body-carries (m .body)
-    go Noop = body-carries (m .body)
-    go Data = body-carries (m .body)
-    go Close = body-carries (m .body)
-
 module _ (e : Endpoint) (sound : Sound e) where
   -- a confirmation, or none
   confirmed-sound : (t : Bool) (after : Endpoint) → Sound after → Sound (cond t (confirmed after) after)
@@ -123,13 +84,13 @@ module _ (e : Endpoint) (sound : Sound e) where
       record { sized = limited-sized after (good .sized) limit; is-good = limited-good after (good .is-good) limit bounded }
   limited-sound (Content·Body place) after bounded good = good
 
-  stays-sound : (number : ℕ) → Sound (unchanged e number .next)
+  stays-sound : (number : ℕ) → Staying number → Sound (unchanged e number .next)
   unfolding unchanged
-  stays-sound number = sound
+  stays-sound number among = sound
 
-  refused-sound : (number said : ℕ) → Sound (refused e number said .next)
+  refused-sound : (number said : ℕ) → Closing number → Sound (refused e number said .next)
   unfolding refused
-  refused-sound number said = closed-sound e sound
+  refused-sound number said among = closed-sound e sound
 
   message-sound : (s : List ℕ) → Bytes s → (name format : List ℕ) (m : Message) (content : Content) → Passed e s name format m content → Sound (accepted e m (hearRow e m) content .next)
   unfolding accepted confirmedBy hearRow

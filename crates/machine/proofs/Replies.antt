@@ -24,6 +24,7 @@ use Rattle.receiving.specs.declared.Reply.the-variants.{Nothing, Frame}
 use Rattle.receiving.specs.Hearing.{accepted, asks, hearRow, replyTo, carriedBy, confirmedBy}
 use Rattle.receiving.specs.Receiving.{replyBytes}
 use Rattle.receiving.specs.Refusing.{refused, unchanged, closeCode, silent, versionCode}
+use Rattle.machine.specs.Refusals.{Closing, Staying}
 use Rattle.machine.specs.Round.{RepliesOnly, RepliesReadBack, isReply, RepliesHeard, messageWith}
 use Rattle.machine.proofs.Bundled.{plain-read}
 use Rattle.machine.proofs.Hearing.{message-heard}
@@ -63,13 +64,13 @@ code-small e number said =
     (cond-small (eqb number 24) 2 1 (lit< tt) (lit< tt)))))))))
 
 module _ (e : Endpoint) where
-  stays-replied : (number : ℕ) → OfReply (unchanged e number .reply)
+  stays-replied : (number : ℕ) → Staying number → OfReply (unchanged e number .reply)
   unfolding unchanged
-  stays-replied number = tt
+  stays-replied number among = tt
 
-  refused-replied : (number said : ℕ) → OfReply (refused e number said .reply)
+  refused-replied : (number said : ℕ) → Closing number → OfReply (refused e number said .reply)
   unfolding refused
-  refused-replied number said = go (silent e number said)
+  refused-replied number said among = go (silent e number said)
     where
       go : (t : Bool) → OfReply (cond t Nothing (Frame Close 0 (closeCode e number said)))
       go true = tt

@@ -60,11 +60,11 @@ module _ (e : Endpoint) (is-good : good e ≡ true) where
   call-read (NOOP type-data false) fits within given = record { read = plain-read Noop 0 type-data fits refl refl refl; framed = refl }
   call-read (CLOSE code) fits within given = record { read = plain-read Close 0 code fits refl refl refl; framed = refl }
 
--- every call that a good endpoint accepts is read as its message
+-- every call that is accepted is read as its message
 pub reads-back : ReadsBack
-reads-back e is-good call fits room number =
+reads-back e call fits room number =
     let passed = accepted-passed e (outgoing e call) room number in
-    call-read e is-good call fits (passed .within) (passed .given)
+    call-read e (passed .is-good) call fits (passed .within) (passed .given)
 
 -- ---- heard as sent
 
@@ -130,13 +130,13 @@ module _ (e : Endpoint) (is-good : good e ≡ true) (r : Endpoint) (name format 
   call-carried (NOOP type-data ask) given back offers = record { content = Nothing; sent = refl; carried = refl; limits = λ moved. refl }
   call-carried (CLOSE code) given back offers = record { content = Nothing; sent = refl; carried = refl; limits = λ moved. refl }
 
--- every call that a good endpoint accepts is heard as it was sent by every end that may hear it
+-- every call that is accepted is heard as it was sent by every end that may hear it
 pub heard-as-sent : HeardAsSent
 unfolding accepted
-heard-as-sent e is-good call fits room number r name format phase n may =
+heard-as-sent e call fits room number r name format phase n may =
     let passed = accepted-passed e (outgoing e call) room number in
-    let back = reads-back e is-good call fits room number in
-    let found = call-carried e is-good r name format call (passed .given) back (may .offered) in
+    let back = reads-back e call fits room number in
+    let found = call-carried e (passed .is-good) r name format call (passed .given) back (may .offered) in
     let heard : hearOf r (written e call) name format ≡ accepted r (messageSent e call) (To phase n) (found .content) =
     message-heard r (messageSent e call) phase n (may .leads) (written e call) name format (found .content) (back .read) (may .small) (found .carried) (never-unmatched e call r) in
     record {

@@ -21,7 +21,7 @@ use Rattle.message.specs.declared.Message.{Message}
 use Rattle.message.specs.declared.Reading.the-variants.{Read}
 use Rattle.message.specs.Reading.{bodyPlace, readingOf}
 use Rattle.endpoint.specs.declared.Endpoint.{Endpoint}
-use Rattle.endpoint.specs.Record.{good, confirmed, limited}
+use Rattle.endpoint.specs.Record.{confirmed, limited}
 use Rattle.table.specs.declared.Row.the-variants.{To}
 use Rattle.table.specs.Table.{atRow}
 use Rattle.receiving.specs.declared.Content.{Content}
@@ -66,10 +66,10 @@ pub record ReadBack (e : Endpoint) (call : Call) : Type 0 where
   pub read : readingOf (written e call) ≡ Read (messageSent e call)
   pub framed : partAt (written e call) (bodyPlace (messageSent e call .body)) ≡ firstFrame (dataFrames e call)
 
--- for every call that a good endpoint accepts
+-- for every call that is accepted
 abbrev pub ReadsBack : Type 0
 ReadsBack =
-    (e : Endpoint) → good e ≡ true → (call : Call) → Fits call → (room : ℕ) → sendOf e call room .number ≡ 0
+    (e : Endpoint) (call : Call) → Fits call → (room : ℕ) → sendOf e call room .number ≡ 0
     → ReadBack e call
 
 -- whether an OPEN asks for what is offered to it: "pipe name or socket not the offered one", "format not empty and not the offered one"
@@ -139,10 +139,10 @@ pub record HeardBack (e : Endpoint) (call : Call) (r : Endpoint) (name format : 
   pub after : hearOf r (written e call) name format .next ≡ afterHearing e call (atRow r phase n)
   pub replied : hearOf r (written e call) name format .reply ≡ confirmation call
 
--- for every call that a good endpoint accepts, and every end that may hear it
+-- for every call that is accepted, and every end that may hear it
 abbrev pub HeardAsSent : Type 0
 HeardAsSent =
-    (e : Endpoint) → good e ≡ true → (call : Call) → Fits call → (room : ℕ) → sendOf e call room .number ≡ 0
+    (e : Endpoint) (call : Call) → Fits call → (room : ℕ) → sendOf e call room .number ≡ 0
     → (r : Endpoint) (name format : List ℕ) (phase n : ℕ) → MayHear e call r name format phase n
     → HeardBack e call r name format phase n
 

@@ -1,4 +1,5 @@
--- The data frame of a message that was read lies in the message, and its type-data is a number of two bytes. Assumes nothing.
+-- The data frame of a message that was read lies in the message, and its type-data is a number of two bytes; one that was not is refused by a
+-- number of 10 to 15. Assumes nothing.
 use mathlib.Core.Path.{_≡_, refl, subst}
 use Prim.Native.Nat.{_+_, _<_, _^_, _≤_, zero-le, ℕ}
 use native.Mathlib.Omega.{arith}
@@ -21,9 +22,10 @@ use Rattle.message.specs.declared.Body.{Body}
 use Rattle.message.specs.declared.Body.the-variants.{Nothing}
 use Rattle.message.specs.declared.Message.{Message}
 use Rattle.message.specs.declared.Reading.{Reading}
-use Rattle.message.specs.declared.Reading.the-variants.{Read}
+use Rattle.message.specs.declared.Reading.the-variants.{Read, Refused}
+use Rattle.message.specs.declared.Refusal.{Refusal}
 use Rattle.message.specs.Reading.{bodyIn, bodyOf, bodyPlace, carries, readingOf}
-use Rattle.message.proofs.Stages.{OfMessage, by-stages}
+use Rattle.message.proofs.Stages.{OfMessage, WhileReading, by-stages}
 
 module _ (s : List ℕ) where
   abbrev pub BodyInside : Body → Type 0
@@ -73,3 +75,8 @@ read-small s bytes m is =
     subst (OfMessage (λ (m : Message). m .«type_data» < 256 ^ 2)) is
     (by-stages (λ (m : Message). m .«type_data» < 256 ^ 2) s
     (λ control message byte flags type-data frames size signed. signed-small (partAt s control) (bytes-part s (control .at) (control .length) bytes) byte flags type-data signed))
+
+-- the number of a message that is not read
+pub read-refused : (s : List ℕ) (refusal : Refusal) → readingOf s ≡ Refused refusal → WhileReading (refusal .number)
+read-refused s refusal is =
+    subst (OfMessage (λ (m : Message). Unit)) is (by-stages (λ (m : Message). Unit) s (λ control message byte flags type-data frames size signed. tt))

@@ -1,15 +1,16 @@
--- "A reply is one bundle of 14 bytes: a single control frame." "An accepted send or reply writes its own bytes from the start of the output
--- and nothing behind them."
+-- "Checks run in the order of the numbers 1, 2, 3, 10..24". "A reply is one bundle of 14 bytes: a single control frame." "An accepted send or
+-- reply writes its own bytes from the start of the output and nothing behind them."
 use Prim.Native.Nat.{ℕ}
 use mathlib.Core.Path.{_≡_}
 use mathlib.Core.List.{List, [], _∷_}
-use mathlib.Core.Bool.{cond}
+use mathlib.Core.Bool.{cond, not}
 use lib.ListN.{length}
 use lib.Dec.{ltb}
 use Rattle.bytes_be.specs.Part.{putAt}
 use Rattle.bundle.specs.Writing.{bundleOf}
 use Rattle.control.specs.Frame.{bytesOf}
 use Rattle.endpoint.specs.declared.Endpoint.{Endpoint}
+use Rattle.endpoint.specs.Record.{good}
 use Rattle.receiving.specs.declared.Answer.{Answer}
 use Rattle.receiving.specs.declared.Answer.the-variants.{Heard, Refused}
 use Rattle.receiving.specs.declared.Reply.{Reply}
@@ -32,9 +33,12 @@ replyBytes (Frame message flags type-data) = bundleOf (bytesOf message flags typ
 unfoldable pub replied : Reply → List ℕ → List ℕ
 replied reply out = putAt out 0 (replyBytes reply)
 
--- "2 output too short (receive: under 14 bytes, always tested)"
+-- 1, "2 output too short (receive: under 14 bytes, always tested)", and then 3 and 10 to 24
 unfoldable pub receivedOf : Endpoint → List ℕ → List ℕ → List ℕ → ℕ → Received
-receivedOf e s name format room = cond (ltb room 14) (unchanged e 2) (hearOf e s name format)
+receivedOf e s name format room =
+    cond (not (good e)) (unchanged e 1)
+    (cond (ltb room 14) (unchanged e 2)
+    (hearOf e s name format))
 
 -- what a receive answers, and the output afterwards
 pub record ReceiveAnswer (e : Endpoint) (s name format before : List ℕ) (received : Received) (after : List ℕ) : Type 0 where

@@ -380,10 +380,13 @@ pub fn write_reply(out: &mut [u8], reply: Reply)
     }
 }
 
-// Receives a message at any endpoint, good or not: 2, and then what `hear` makes of it, with the reply at the start of the output.
+// Receives a message: 1, 2, and then what `hear` makes of it, with the reply at the start of the output.
 pub fn receive(e: Endpoint, s: &[u8], name: &[u8], format: &[u8], out: &mut [u8]) -> Received
     ensures { λ r. ⌜ ReceiveAnswer e (now (s .entry)) (now (name .entry)) (now (format .entry)) (now (out .entry)) r (now (out .exit)) ⌝ }
 {
+    if !endpoint::good(e) {
+        return stay(e, 1);
+    }
     if out.len() < 14 {
         return stay(e, 2);
     }

@@ -2,11 +2,11 @@
 use mathlib.Core.Path.{_∙_, _≡_, ap, refl, sym}
 use Prim.Native.Nat.{_<_, _≤_, ℕ, _+_}
 use mathlib.Core.List.{List, [], _∷_}
-use mathlib.Core.Bool.{Bool, true, false, cond, _&&_}
+use mathlib.Core.Bool.{Bool, true, false, cond, not, _&&_}
 use native.Mathlib.Omega.{arith}
 use lib.Dec.{eqb, lit<, ltb, leb}
 use lib.ListN.{length}
-use borrow.Author.Tests.{eqb-true, ltb-false, ne-eqb}
+use borrow.Author.Tests.{eqb-true, ltb-false, ne-eqb, not-false}
 use Rattle.bytes_be.specs.Part.{putAt}
 use Rattle.bytes_be.proofs.Tests.{took-second}
 use Rattle.bundle.proofs.Outputs.{one-long, two-long}
@@ -14,7 +14,7 @@ use Rattle.control.specs.declared.MessageType.{MessageType}
 use Rattle.control.specs.Frame.{bytesOf}
 use Rattle.control.proofs.Round.{length-control}
 use Rattle.endpoint.specs.declared.Endpoint.{Endpoint}
-use Rattle.endpoint.specs.Record.{shut, capacity}
+use Rattle.endpoint.specs.Record.{good, shut, capacity}
 use Rattle.table.specs.declared.Row.{Row}
 use Rattle.table.specs.Table.{aboveOffer, moved, notAllowed, rowOf}
 use Rattle.sending.specs.declared.Outgoing.{Outgoing}
@@ -31,6 +31,7 @@ passed t k rest some e = took-second t (not-zero some) e
 
 -- what a send of number 0 has passed
 pub record Passed (e : Endpoint) (o : Outgoing) (row : Row) (room : ℕ) : Type 0 where
+  pub is-good : good e ≡ true
   pub alive : eqb (e .phase) shut ≡ false
   pub allowed : notAllowed row ≡ false
   pub below : aboveOffer row ≡ false
@@ -44,7 +45,8 @@ module _ (e : Endpoint) (o : Outgoing) (row : Row) (room : ℕ) where
   pub all-passed : numberFor e o row room ≡ 0 → Passed e o row room
   unfolding numberFor
   all-passed none =
-      let late = passed (eqb (e .phase) shut) 3 _ (lit< tt) none in
+      let bad = passed (not (good e)) 1 _ (lit< tt) none in
+      let late = passed (eqb (e .phase) shut) 3 _ (lit< tt) (bad .1) in
       let barred = passed (notAllowed row) 30 _ (lit< tt) (late .1) in
       let above = passed (aboveOffer row) 31 _ (lit< tt) (barred .1) in
       let full = passed (isFull e o) 32 _ (lit< tt) (above .1) in
@@ -53,6 +55,7 @@ module _ (e : Endpoint) (o : Outgoing) (row : Row) (room : ℕ) where
       let miscoded = passed (o .miscoded) 35 _ (lit< tt) (misgiven .1) in
       let short = passed (ltb room (o .length)) 2 _ (lit< tt) (miscoded .1) in
       record {
+        is-good = not-false (good e) (bad .0);
         alive = late .0;
         allowed = barred .0;
         below = above .0;
@@ -115,10 +118,11 @@ pub misgiven-any : (e : Endpoint) (o : Outgoing) (room size : ℕ) → o .misgiv
 unfolding sentBy numberFor isFull sendRow
 misgiven-any e o room size bad =
     let row : Row = rowOf (e .role) (e .flow) (e .phase) (e .n) (o .message) (o .«type_data») in
-    let none : eqb (cond (eqb (e .phase) shut) 3 (cond (notAllowed row) 30 (cond (aboveOffer row) 31 (cond (o .ask && leb capacity (e .w)) 32 (cond (o .large) 33 34))))) 0 ≡ false =
-    refused-if (eqb (e .phase) shut) 3 _ (lit< tt)
+    let none : eqb (cond (not (good e)) 1 (cond (eqb (e .phase) shut) 3 (cond (notAllowed row) 30 (cond (aboveOffer row) 31 (cond (o .ask && leb capacity (e .w)) 32 (cond (o .large) 33 34)))))) 0 ≡ false =
+    refused-if (not (good e)) 1 _ (lit< tt)
+    (refused-if (eqb (e .phase) shut) 3 _ (lit< tt)
     (refused-if (notAllowed row) 30 _ (lit< tt)
     (refused-if (aboveOffer row) 31 _ (lit< tt)
     (refused-if (o .ask && leb capacity (e .w)) 32 _ (lit< tt)
-    (refused-if (o .large) 33 34 (lit< tt) refl)))) in
+    (refused-if (o .large) 33 34 (lit< tt) refl))))) in
     simp (bad, none)

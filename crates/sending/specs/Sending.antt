@@ -3,13 +3,13 @@
 use Prim.Native.Nat.{ℕ}
 use mathlib.Core.Path.{_≡_}
 use mathlib.Core.List.{List}
-use mathlib.Core.Bool.{Bool, cond, _&&_}
+use mathlib.Core.Bool.{Bool, cond, not, _&&_}
 use lib.ListN.{length}
 use lib.Dec.{ltb, leb, eqb}
 use Rattle.bytes_be.specs.Part.{putAt}
 use Rattle.control.specs.Frame.{typeOf}
 use Rattle.endpoint.specs.declared.Endpoint.{Endpoint}
-use Rattle.endpoint.specs.Record.{shut, capacity, asked}
+use Rattle.endpoint.specs.Record.{good, shut, capacity, asked}
 use Rattle.table.specs.declared.Row.{Row}
 use Rattle.table.specs.declared.Row.the-variants.{NotAllowed, AboveOffer}
 use Rattle.table.specs.Table.{rowOf, sendNumber, notAllowed, aboveOffer, moved}
@@ -25,10 +25,11 @@ sendRow e o = rowOf (e .role) (e .flow) (e .phase) (e .n) (o .message) (o .«typ
 unfoldable pub isFull : Endpoint → Outgoing → Bool
 isFull e o = o .ask && leb capacity (e .w)
 
--- "3, 30, 31, 32, 33, 34, 35, 2": the first that applies, or 0
+-- "1, 3, 30, 31, 32, 33, 34, 35, 2": the first that applies, or 0
 unfoldable pub numberFor : Endpoint → Outgoing → Row → ℕ → ℕ
 numberFor e o row room =
-    cond (eqb (e .phase) shut) 3
+    cond (not (good e)) 1
+    (cond (eqb (e .phase) shut) 3
     (cond (notAllowed row) (sendNumber NotAllowed)
     (cond (aboveOffer row) (sendNumber AboveOffer)
     (cond (isFull e o) 32
@@ -36,7 +37,7 @@ numberFor e o row room =
     (cond (o .misgiven) 34
     (cond (o .miscoded) 35
     (cond (ltb room (o .length)) 2
-    0)))))))
+    0))))))))
 
 -- "An ask adds an entry."
 unfoldable pub askedBy : Endpoint → Outgoing → Endpoint

@@ -1,4 +1,4 @@
-// Sending: which of an endpoint's own messages is allowed, what it writes, and what the endpoint becomes, for any record, good or not.
+// Sending: which of an endpoint's own messages is allowed, what it writes, and what the endpoint becomes.
 ghost use mathlib.Core.Path.{_≡_};
 ghost use mathlib.Core.List.{[]};
 ghost use Rattle.control.specs.Frame.{bytesOf};
@@ -44,6 +44,9 @@ fn send_row(e: Endpoint, o: Outgoing) -> Row
 fn number_for(e: Endpoint, o: Outgoing, row: Row, room: usize) -> u8
     ensures { λ r. ⌜ r ≡ numberFor e o row room ⌝ }
 {
+    if !endpoint::good(e) {
+        return 1;
+    }
     if e.phase == 5 {
         return 3;
     }

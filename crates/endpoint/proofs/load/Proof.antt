@@ -1,22 +1,28 @@
--- `endpoint::load` meets its contract: the record is read whole, and then tested.
+-- `endpoint::load` meets its contract: the record is read where the block holds one, and else it is none.
 -- Assumes nothing.
+use mathlib.Core.Path.{sym}
 use borrow.Author.Needs.{needs}
-use Rattle.endpoint.specs.Block.{loadOf, isGood}
+use Rattle.endpoint.specs.Block.{loadOf}
 use Rattle.endpoint.proofs.load.Statement.{statement}
 use Rattle.endpoint.proofs.load.Tie as tie
-
-record-in-requires : tie.Need-record-in-requires
-record-in-requires c κs = search needs
 
 spare-is-zero-requires : tie.Need-spare-is-zero-requires
 spare-is-zero-requires c κs = search needs
 
-good-requires : tie.Need-good-requires
-good-requires c κs = search needs
+record-in-requires : tie.Need-record-in-requires
+record-in-requires c κs = search needs
 
 returns : tie.Need-returns
-unfolding loadOf isGood
-returns c = cc
+unfolding loadOf
+returns c = simp (sym (c .before .before .spare-is-zero .ensures), c .before .if1 .taken) (c .record-in .ensures)
+
+fresh-requires : tie.Need-fresh-requires
+fresh-requires c κs = search needs
+
+returns-2 : tie.Need-returns-2
+unfolding loadOf
+returns-2 c = simp (sym (c .before .before .spare-is-zero .ensures), c .before .if1 .left) (c .fresh .ensures)
 
 pub load-spec : {M : Type 1} → statement M
-load-spec = tie.close (tie.spec record-in-requires spare-is-zero-requires good-requires returns)
+load-spec =
+    tie.close (tie.spec spare-is-zero-requires record-in-requires returns fresh-requires returns-2)

@@ -1,24 +1,13 @@
--- `fbdp::fbdp_send_noop` meets its contract: 1 for a bad block, and else what its record makes of the call. Assumes nothing.
+-- `fbdp::fbdp_send_noop` meets its contract: the answer is what the record in the block makes of the call. Assumes nothing.
 use borrow.Author.Needs.{needs}
 use Rattle.sending.specs.Calls.{NOOP}
 use Rattle.fbdp.specs.Blocks.{asksFor}
-use Rattle.fbdp.proofs.OnBlocks.{send-finished, send-refused}
+use Rattle.fbdp.proofs.OnBlocks.{send-finished}
 use Rattle.fbdp.proofs.fbdp_send_noop.Statement.{statement}
 use Rattle.fbdp.proofs.fbdp_send_noop.Tie as tie
 
 load-requires : tie.Need-load-requires
 load-requires c κs = search needs
-
-bad-block-requires : tie.Need-bad-block-requires
-bad-block-requires c κs = search needs
-
-same-length : tie.Need-same-length
-same-length c = search needs
-
-returns : tie.Need-returns
-returns c =
-    let a = c .before .before .before .before .before .before .before .before .args in
-    send-refused (a .block .now) (c .before .before .before .before .load .result) (c .before .before .before .before .load .ensures) (c .before .before .if1 .taken) (NOOP (a .type-data) (asksFor (a .ask))) (a .out .now) _ _ (c .bad-block .ensures)
 
 asks-for-requires : tie.Need-asks-for-requires
 asks-for-requires c κs = search needs
@@ -29,28 +18,25 @@ send-noop-requires c κs = search needs
 finish-requires : tie.Need-finish-requires
 finish-requires c κs = search needs
 
+same-length : tie.Need-same-length
+same-length c = search needs
+
 same-length-2 : tie.Need-same-length-2
 same-length-2 c = search needs
 
-same-length-3 : tie.Need-same-length-3
-same-length-3 c = search needs
-
-returns-2 : tie.Need-returns-2
-returns-2 c =
-    let a = c .before .before .before .before .before .before .before .before .before .before .before .before .before .before .before .before .before .args in
-    send-finished (a .block .now) (c .before .before .before .before .before .before .before .before .before .before .before .before .before .load .result) (c .before .before .before .before .before .before .before .before .before .before .before .before .before .load .ensures) (c .before .before .before .before .before .before .before .before .before .before .before .if1 .left) (NOOP (a .type-data) (asksFor (a .ask))) (a .out .now) _ (c .before .before .before .before .before .before .before .send-noop .result) _ _ _ (rw (c .before .before .before .before .before .before .before .before .before .asks-for .ensures) at (c .before .before .before .before .before .before .before .send-noop .ensures)) (c .before .before .finish .ensures)
+returns : tie.Need-returns
+returns c =
+    let a = c .before .before .before .before .before .before .before .before .before .before .before .before .before .before .args in
+    send-finished (a .block .now) (c .before .before .before .before .before .before .before .before .before .before .load .result) (c .before .before .before .before .before .before .before .before .before .before .load .ensures) (NOOP (a .type-data) (asksFor (a .ask))) (a .out .now) _ (c .before .before .before .before .before .before .before .send-noop .result) _ _ _ (rw (c .before .before .before .before .before .before .before .before .before .asks-for .ensures) at (c .before .before .before .before .before .before .before .send-noop .ensures)) (c .before .before .finish .ensures)
 
 pub fbdp-send-noop-spec : {M : Type 1} → statement M
 fbdp-send-noop-spec =
     tie.close
     (tie.spec
     load-requires
-    bad-block-requires
-    same-length
-    returns
     asks-for-requires
     send-noop-requires
     finish-requires
+    same-length
     same-length-2
-    same-length-3
-    returns-2)
+    returns)

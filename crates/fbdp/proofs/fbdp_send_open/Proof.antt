@@ -1,23 +1,12 @@
--- `fbdp::fbdp_send_open` meets its contract: 1 for a bad block, and else what its record makes of the call. Assumes nothing.
+-- `fbdp::fbdp_send_open` meets its contract: the answer is what the record in the block makes of the call. Assumes nothing.
 use borrow.Author.Needs.{needs}
 use Rattle.sending.specs.Calls.{OPEN}
-use Rattle.fbdp.proofs.OnBlocks.{send-finished, send-refused}
+use Rattle.fbdp.proofs.OnBlocks.{send-finished}
 use Rattle.fbdp.proofs.fbdp_send_open.Statement.{statement}
 use Rattle.fbdp.proofs.fbdp_send_open.Tie as tie
 
 load-requires : tie.Need-load-requires
 load-requires c κs = search needs
-
-bad-block-requires : tie.Need-bad-block-requires
-bad-block-requires c κs = search needs
-
-same-length : tie.Need-same-length
-same-length c = search needs
-
-returns : tie.Need-returns
-returns c =
-    let a = c .before .before .before .before .before .before .before .before .before .before .args in
-    send-refused (a .block .now) (c .before .before .before .before .load .result) (c .before .before .before .before .load .ensures) (c .before .before .if1 .taken) (OPEN (a .name .now) (a .format .now)) (a .out .now) _ _ (c .bad-block .ensures)
 
 send-open-requires : tie.Need-send-open-requires
 send-open-requires c κs = search needs
@@ -25,27 +14,24 @@ send-open-requires c κs = search needs
 finish-requires : tie.Need-finish-requires
 finish-requires c κs = search needs
 
+same-length : tie.Need-same-length
+same-length c = search needs
+
 same-length-2 : tie.Need-same-length-2
 same-length-2 c = search needs
 
-same-length-3 : tie.Need-same-length-3
-same-length-3 c = search needs
-
-returns-2 : tie.Need-returns-2
-returns-2 c =
-    let a = c .before .before .before .before .before .before .before .before .before .before .before .before .before .before .before .before .before .before .args in
-    send-finished (a .block .now) (c .before .before .before .before .before .before .before .before .before .before .before .before .load .result) (c .before .before .before .before .before .before .before .before .before .before .before .before .load .ensures) (c .before .before .before .before .before .before .before .before .before .before .if1 .left) (OPEN (a .name .now) (a .format .now)) (a .out .now) _ (c .before .before .before .before .before .before .before .send-open .result) _ _ _ (c .before .before .before .before .before .before .before .send-open .ensures) (c .before .before .finish .ensures)
+returns : tie.Need-returns
+returns c =
+    let a = c .before .before .before .before .before .before .before .before .before .before .before .before .before .before .before .args in
+    send-finished (a .block .now) (c .before .before .before .before .before .before .before .before .before .load .result) (c .before .before .before .before .before .before .before .before .before .load .ensures) (OPEN (a .name .now) (a .format .now)) (a .out .now) _ (c .before .before .before .before .before .before .before .send-open .result) _ _ _ (c .before .before .before .before .before .before .before .send-open .ensures) (c .before .before .finish .ensures)
 
 pub fbdp-send-open-spec : {M : Type 1} → statement M
 fbdp-send-open-spec =
     tie.close
     (tie.spec
     load-requires
-    bad-block-requires
-    same-length
-    returns
     send-open-requires
     finish-requires
+    same-length
     same-length-2
-    same-length-3
-    returns-2)
+    returns)

@@ -2,8 +2,6 @@
 use mathlib.Core.Path.{refl, sym}
 use borrow.Author.Needs.{needs}
 use borrow.Author.Tests.{ne-eqb}
-use Rattle.bundle.specs.Reading.{counted}
-use Rattle.open.specs.Frame.{kept}
 use Rattle.fbdp.specs.Blocks.{keptAfter, stored}
 use Rattle.fbdp.proofs.finish.Statement.{statement}
 use Rattle.fbdp.proofs.finish.Tie as tie

@@ -4,7 +4,6 @@ use lib.ListN.{length}
 use borrow.Author.Needs.{needs}
 use borrow.Author.Tests.{eq-eqb, ne-eqb}
 use Rattle.bytes_be.specs.Part.{putAt}
-use Rattle.open.specs.Frame.{kept}
 use Rattle.endpoint.specs.declared.Endpoint.{Endpoint}
 use Rattle.endpoint.specs.Block.{bytesOf}
 use Rattle.fbdp.specs.Blocks.{makeNumber, stored}
