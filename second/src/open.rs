@@ -38,13 +38,13 @@ pub const DEFAULT_LIMIT: u32 = 50_000_000;
 
 /// What a server offers, and whether its flow is that of a producer.
 #[derive(Clone)]
-pub struct Offer {
+pub struct Offer<Bytes = Vec<u8>> {
     pub producer: bool,
-    pub name: Vec<u8>,
-    pub format: Vec<u8>,
+    pub name: Bytes,
+    pub format: Bytes,
 }
 
-impl Offer {
+impl<Bytes> Offer<Bytes> {
     /// The socket that is offered.
     pub fn socket(&self) -> u64 {
         if self.producer {
@@ -55,16 +55,23 @@ impl Offer {
     }
 }
 
+impl Offer {
+    /// The same offer with its bytes lent.
+    pub fn lent(&self) -> Offer<&[u8]> {
+        Offer { producer: self.producer, name: &self.name, format: &self.format }
+    }
+}
+
 /// What a client opens a pipe with, and whether its flow is that of a producer.
 #[derive(Clone)]
-pub struct Opening {
+pub struct Opening<Bytes = Vec<u8>> {
     pub producer: bool,
-    pub name: Vec<u8>,
-    pub format: Vec<u8>,
+    pub name: Bytes,
+    pub format: Bytes,
     pub limit: u32,
 }
 
-impl Opening {
+impl<Bytes> Opening<Bytes> {
     /// The socket that is opened.
     pub fn socket(&self) -> u64 {
         if self.producer {
@@ -72,6 +79,13 @@ impl Opening {
         } else {
             OUTPUT
         }
+    }
+}
+
+impl Opening {
+    /// The same opening with its bytes lent.
+    pub fn lent(&self) -> Opening<&[u8]> {
+        Opening { producer: self.producer, name: &self.name, format: &self.format, limit: self.limit }
     }
 }
 
@@ -134,12 +148,12 @@ fn allowed(message: &[u8], field: &Field, before: &Frame) -> Result<(), Fault> {
 }
 
 /// The limit that holds for a frame which the offer meets; else the first of 19 to 22 that applies.
-fn met(message: &[u8], frame: &Frame, offer: &Offer) -> Result<u64, u64> {
+fn met(message: &[u8], frame: &Frame, offer: Offer<&[u8]>) -> Result<u32, u64> {
     let (name, format) = (&message[frame.place(NAME)], &message[frame.place(FORMAT)]);
     let socket = frame.socket();
     let limit = match limit::announced(&frame.parameters) {
-        Announced::Absent => DEFAULT_LIMIT.into(),
-        Announced::Good(limit) => limit,
+        Announced::Absent => DEFAULT_LIMIT,
+        Announced::Good(limit) => limit as u32,
         Announced::Bad => return Err(OUT_OF_RANGE),
     };
     if name.is_empty() || name.len() > MOST_TEXT || format.len() > MOST_TEXT || socket == 0 {
@@ -169,39 +183,76 @@ fn frame_place(message: &[u8], at: u64, end: u64) -> Result<Range<usize>, Fault>
     Ok(at as usize..end as usize)
 }
 
+/// What is heard of an OPEN frame: socket, places of name, format and parameters, and the limit that holds.
+pub struct Heard {
+    pub socket: u64,
+    pub places: [Range<usize>; 3],
+    pub limit: u32,
+}
+
+impl Heard {
+    /// Socket, places and lengths in a row.
+    pub fn numbers(&self) -> [u64; 7] {
+        let [name, format, parameters] = self.places.clone().map(|place| (place.start as u64, place.len() as u64));
+        [self.socket, name.0, name.1, format.0, format.1, parameters.0, parameters.1]
+    }
+}
+
+/// Why an OPEN frame is refused: it cannot be read, or another number applies.
+pub enum Refusal {
+    Unreadable(Fault),
+    Number(u64),
+}
+
+impl Refusal {
+    pub fn number(&self) -> u64 {
+        match self {
+            Refusal::Unreadable(_) => UNREADABLE,
+            Refusal::Number(number) => *number,
+        }
+    }
+}
+
+/// What a server with this offer hears of the OPEN frame from `at` up to `end`.
+pub fn hear(message: &[u8], at: u64, end: u64, offer: Offer<&[u8]>) -> Result<Heard, Refusal> {
+    let frame = frame_place(message, at, end).and_then(|place| read(message, place)).map_err(Refusal::Unreadable)?;
+    let limit = met(message, &frame, offer).map_err(Refusal::Number)?;
+    Ok(Heard { socket: frame.socket(), places: [NAME, FORMAT, PARAMETERS].map(|number| frame.place(number)), limit })
+}
+
 /// The number answered for the OPEN frame from `at` up to `end`, and what is heard: socket, places of name, format and
 /// parameters, limit, or zeros where it is refused; behind them the kind and place of the fault of an unreadable one.
 pub fn heard(message: &[u8], at: u64, end: u64, offer: &Offer) -> (u64, [u64; 10]) {
-    let frame = match frame_place(message, at, end).and_then(|place| read(message, place)) {
-        Ok(frame) => frame,
-        Err(fault) => return (UNREADABLE, [0, 0, 0, 0, 0, 0, 0, 0, fault.kind as u64, fault.at as u64]),
-    };
-    let limit = match met(message, &frame, offer) {
-        Ok(limit) => limit,
-        Err(refusal) => return (refusal, [0; 10]),
-    };
-    let place = |number| {
-        let place = frame.place(number);
-        [place.start as u64, place.len() as u64]
-    };
-    let places = [NAME, FORMAT, PARAMETERS].map(place).concat();
-    let mut heard = [0; 10];
-    heard[0] = frame.socket();
-    heard[1..7].copy_from_slice(&places);
-    heard[7] = limit;
-    (0, heard)
+    let mut answer = [0; 10];
+    match hear(message, at, end, offer.lent()) {
+        Ok(heard) => {
+            answer[..7].copy_from_slice(&heard.numbers());
+            answer[7] = heard.limit.into();
+            (0, answer)
+        }
+        Err(refusal) => {
+            if let Refusal::Unreadable(fault) = refusal {
+                answer[8..].copy_from_slice(&[fault.kind as u64, fault.at as u64]);
+            }
+            (refusal.number(), answer)
+        }
+    }
 }
 
 /// The OPEN frame of a client; nothing where its name or format is bad.
 pub fn frame(opening: &Opening) -> Option<Vec<u8>> {
+    frame_of(opening.lent())
+}
+
+pub fn frame_of(opening: Opening<&[u8]>) -> Option<Vec<u8>> {
     let good = |text: &[u8]| text.len() <= MOST_TEXT && text::well_formed(text);
-    if opening.name.is_empty() || !good(&opening.name) || !good(&opening.format) {
+    if opening.name.is_empty() || !good(opening.name) || !good(opening.format) {
         return None;
     }
-    let mut frame = wire::delimited_field(NAME, &opening.name);
+    let mut frame = wire::delimited_field(NAME, opening.name);
     frame.extend(wire::varint_field(SOCKET, opening.socket()));
     if !opening.format.is_empty() {
-        frame.extend(wire::delimited_field(FORMAT, &opening.format));
+        frame.extend(wire::delimited_field(FORMAT, opening.format));
     }
     if opening.limit != DEFAULT_LIMIT {
         frame.extend(wire::delimited_field(PARAMETERS, &limit::parameters(opening.limit)));
