@@ -2,9 +2,9 @@
 
 use std::ops::Range;
 
-use crate::bytes;
+use crate::bytes::{self, Buffer};
 use crate::limit::{self, Announced};
-use crate::structs::{self, Entry, Rules, UNREADABLE};
+use crate::structs::{self, Rules, UNREADABLE};
 use crate::text;
 use crate::wire::{self, Fault, FaultKind, Field, LENGTH_DELIMITED, VARINT};
 
@@ -89,17 +89,15 @@ impl Opening {
     }
 }
 
-/// The fields of an OPEN frame that can be read, in order and without those that are skipped, and the entries of its
-/// parameters.
-#[derive(Default)]
+/// The fields of an OPEN frame that can be read, by their numbers from 1 on, and how its parameters say a limit.
 struct Frame {
-    fields: Vec<Field>,
-    parameters: Vec<Entry>,
+    fields: [Option<Field>; PARAMETERS as usize],
+    announced: Announced,
 }
 
 impl Frame {
     fn field(&self, number: u64) -> Option<&Field> {
-        self.fields.iter().find(|field| field.number == number)
+        self.fields[number as usize - 1].as_ref()
     }
 
     /// The place of a field's payload; the empty place at 0 where there is no such field.
@@ -115,7 +113,7 @@ impl Frame {
 
 /// The frame at this place of the message, or its first fault.
 fn read(message: &[u8], place: Range<usize>) -> Result<Frame, Fault> {
-    let mut frame = Frame::default();
+    let mut frame = Frame { fields: [None, None, None, None], announced: Announced::Absent };
     for field in wire::fields(message, place) {
         let field = field?;
         if field.number > PARAMETERS {
@@ -123,9 +121,10 @@ fn read(message: &[u8], place: Range<usize>) -> Result<Frame, Fault> {
         }
         allowed(message, &field, &frame)?;
         if field.number == PARAMETERS {
-            frame.parameters = structs::read_struct_at(message, field.payload.clone())?;
+            frame.announced = limit::announced(message, field.payload.clone())?;
         }
-        frame.fields.push(field);
+        let place = field.number as usize - 1;
+        frame.fields[place] = Some(field);
     }
     Ok(frame)
 }
@@ -151,9 +150,9 @@ fn allowed(message: &[u8], field: &Field, before: &Frame) -> Result<(), Fault> {
 fn met(message: &[u8], frame: &Frame, offer: Offer<&[u8]>) -> Result<u32, u64> {
     let (name, format) = (&message[frame.place(NAME)], &message[frame.place(FORMAT)]);
     let socket = frame.socket();
-    let limit = match limit::announced(&frame.parameters) {
+    let limit = match frame.announced {
         Announced::Absent => DEFAULT_LIMIT,
-        Announced::Good(limit) => limit as u32,
+        Announced::Good(limit) => limit,
         Announced::Bad => return Err(OUT_OF_RANGE),
     };
     if name.is_empty() || name.len() > MOST_TEXT || format.len() > MOST_TEXT || socket == 0 {
@@ -239,25 +238,31 @@ pub fn heard(message: &[u8], at: u64, end: u64, offer: &Offer) -> (u64, [u64; 10
     }
 }
 
-/// The OPEN frame of a client; nothing where its name or format is bad.
-pub fn frame(opening: &Opening) -> Option<Vec<u8>> {
-    frame_of(opening.lent())
-}
+/// The most bytes of a client's OPEN frame: name and format behind a tag and two bytes of length, the socket, and the
+/// parameters behind a tag and one byte of length.
+const MOST_WRITTEN: usize = 2 * (3 + MOST_TEXT) + 2 + 2 + limit::PARAMETERS;
 
-pub fn frame_of(opening: Opening<&[u8]>) -> Option<Vec<u8>> {
+/// The OPEN frame of a client; nothing where its name or format is bad.
+pub fn written(opening: Opening<&[u8]>) -> Option<Buffer<MOST_WRITTEN>> {
     let good = |text: &[u8]| text.len() <= MOST_TEXT && text::well_formed(text);
     if opening.name.is_empty() || !good(opening.name) || !good(opening.format) {
         return None;
     }
-    let mut frame = wire::delimited_field(NAME, opening.name);
-    frame.extend(wire::varint_field(SOCKET, opening.socket()));
+    let mut frame = Buffer::EMPTY;
+    wire::put_delimited_field(&mut frame, NAME, opening.name);
+    wire::put_varint_field(&mut frame, SOCKET, opening.socket());
     if !opening.format.is_empty() {
-        frame.extend(wire::delimited_field(FORMAT, opening.format));
+        wire::put_delimited_field(&mut frame, FORMAT, opening.format);
     }
     if opening.limit != DEFAULT_LIMIT {
-        frame.extend(wire::delimited_field(PARAMETERS, &limit::parameters(opening.limit)));
+        wire::put_delimited_field(&mut frame, PARAMETERS, &limit::parameters(opening.limit));
     }
     Some(frame)
+}
+
+/// The same as bytes of their own.
+pub fn frame(opening: &Opening) -> Option<Vec<u8>> {
+    written(opening.lent()).map(|frame| frame.to_vec())
 }
 
 /// The number answered for a client's OPEN frame, its length, and `out` after it is stored from `at` on; `out` is as it

@@ -11,23 +11,22 @@ pub const UNREADABLE: u64 = 18;
 /// The most Structs and lists that may nest.
 pub const MOST_LEVELS: usize = 8;
 
-/// What a Value holds.
+/// What a Value holds; of a text, a Struct and a list the place.
 #[derive(Debug, PartialEq)]
 pub enum Value {
     Null,
     /// The double's 64 bits.
     Number(u64),
-    /// The place of the text.
     Text(Range<usize>),
     Bool(bool),
-    Struct(Vec<Entry>),
-    List(Vec<Value>),
+    Struct(Range<usize>),
+    List(Range<usize>),
 }
 
 /// An entry of a Struct: its key, its Value, and the place of that Value's bytes without tag and length.
 #[derive(Debug, PartialEq)]
-pub struct Entry {
-    pub key: Vec<u8>,
+pub struct Entry<'a> {
+    pub key: &'a [u8],
     pub value: Value,
     pub place: Range<usize>,
 }
@@ -62,14 +61,32 @@ const IN_VALUE: &Rules = &[
     (LIST, LENGTH_DELIMITED),
 ];
 
-/// The entries of a lent Struct, in order.
-pub fn read_struct(bytes: &[u8]) -> Result<Vec<Entry>, Fault> {
-    read_struct_at(bytes, 0..bytes.len())
+/// The entry with this key in the Struct at this place, all of which is read; its place and that of a fault are offsets
+/// into the bytes.
+pub fn find<'a>(bytes: &'a [u8], place: Range<usize>, key: &[u8]) -> Result<Option<Entry<'a>>, Fault> {
+    let mut found = None;
+    for entry in entries(bytes, place) {
+        let entry = entry?;
+        if entry.key == key {
+            found = Some(entry);
+        }
+    }
+    Ok(found)
 }
 
-/// The entries of the Struct at this place, in order; all their places and that of a fault are offsets into the bytes.
-pub fn read_struct_at(bytes: &[u8], place: Range<usize>) -> Result<Vec<Entry>, Fault> {
+/// The entries of the Struct at this place, in order; where one is at fault, that stands last.
+pub fn entries(bytes: &[u8], place: Range<usize>) -> impl Iterator<Item = Result<Entry<'_>, Fault>> {
     Reader { bytes }.entries(place, 1)
+}
+
+/// All entries of a lent Struct, in order.
+pub fn read_struct(bytes: &[u8]) -> Result<Vec<Entry<'_>>, Fault> {
+    entries(bytes, 0..bytes.len()).collect()
+}
+
+/// The Values of the list at this place, in order; where one is at fault, that stands last.
+pub fn items(bytes: &[u8], place: Range<usize>) -> impl Iterator<Item = Result<Value, Fault>> + '_ {
+    Reader { bytes }.items(place, 1)
 }
 
 /// What a lent Value holds; its own Struct or list is level 1.
@@ -79,24 +96,23 @@ pub fn read_value(bytes: &[u8]) -> Result<Value, Fault> {
 
 /// Reads messages out of the lent bytes. A place is that of a message, a level the number of Structs and lists that
 /// nest there, the message itself included.
+#[derive(Clone, Copy)]
 struct Reader<'a> {
     bytes: &'a [u8],
 }
 
-impl Reader<'_> {
-    fn entries(&self, place: Range<usize>, level: usize) -> Result<Vec<Entry>, Fault> {
-        let mut entries = Vec::new();
-        for field in wire::fields(self.bytes, place) {
+impl<'a> Reader<'a> {
+    fn entries(self, place: Range<usize>, level: usize) -> impl Iterator<Item = Result<Entry<'a>, Fault>> {
+        let start = place.start;
+        wire::fields(self.bytes, place).map(move |field| {
             let field = field?;
             stands_in(IN_STRUCT, &field)?;
-            let entry = self.entry(field.payload, &entries, level)?;
-            entries.push(entry);
-        }
-        Ok(entries)
+            self.entry(field.payload, start..field.at, level)
+        })
     }
 
     /// An entry, whose key none of the entries before has.
-    fn entry(&self, place: Range<usize>, before: &[Entry], level: usize) -> Result<Entry, Fault> {
+    fn entry(self, place: Range<usize>, before: Range<usize>, level: usize) -> Result<Entry<'a>, Fault> {
         let end = place.end;
         let mut key = None;
         let mut value = None;
@@ -108,32 +124,43 @@ impl Reader<'_> {
                 return Err(field.fault(FaultKind::Repeated));
             }
             if field.number == KEY {
-                key = Some(self.key(&field, before)?);
+                key = Some(self.key(&field, before.clone())?);
             } else {
                 value = Some((self.value(field.payload.clone(), level)?, field.payload));
             }
         }
         let at_end = |kind| Fault { kind, at: end };
-        if key.is_none() && has_key(before, &[]) {
+        if key.is_none() && self.has_key(before, &[]) {
             return Err(at_end(FaultKind::Repeated));
         }
         let (value, place) = value.ok_or(at_end(FaultKind::Other))?;
         Ok(Entry { key: key.unwrap_or_default(), value, place })
     }
 
-    fn key(&self, field: &Field, before: &[Entry]) -> Result<Vec<u8>, Fault> {
+    fn key(self, field: &Field, before: Range<usize>) -> Result<&'a [u8], Fault> {
         let key = &self.bytes[field.payload.clone()];
-        if has_key(before, key) {
+        if self.has_key(before, key) {
             return Err(field.fault(FaultKind::Repeated));
         }
         if !text::well_formed(key) {
             return Err(field.fault(FaultKind::BadText));
         }
-        Ok(key.to_vec())
+        Ok(key)
+    }
+
+    /// Whether one of the entries at this place has the key. They were all read before, so none is at fault.
+    fn has_key(self, entries: Range<usize>, key: &[u8]) -> bool {
+        wire::fields(self.bytes, entries).flatten().any(|entry| self.key_of(entry.payload) == key)
+    }
+
+    /// The key of an entry that was read before, which is the empty one where it says none.
+    fn key_of(self, entry: Range<usize>) -> &'a [u8] {
+        let key = wire::fields(self.bytes, entry).flatten().find(|field| field.number == KEY);
+        key.map_or(&[], |key| &self.bytes[key.payload])
     }
 
     /// What a Value holds; `level` is that of the Struct or list around it, 0 where there is none.
-    fn value(&self, place: Range<usize>, level: usize) -> Result<Value, Fault> {
+    fn value(self, place: Range<usize>, level: usize) -> Result<Value, Fault> {
         let end = place.end;
         let mut held = None;
         for field in wire::fields(self.bytes, place) {
@@ -150,7 +177,7 @@ impl Reader<'_> {
     }
 
     /// Refuses a field that may not stand in its Value, given the number of the field that stood there before.
-    fn allowed_in_value(&self, field: &Field, held_before: Option<u64>) -> Result<(), Fault> {
+    fn allowed_in_value(self, field: &Field, held_before: Option<u64>) -> Result<(), Fault> {
         if held_before == Some(field.number) {
             return Err(field.fault(FaultKind::Repeated));
         }
@@ -169,7 +196,7 @@ impl Reader<'_> {
     }
 
     /// What a field of a Value holds.
-    fn held(&self, field: &Field, level: usize) -> Result<Value, Fault> {
+    fn held(self, field: &Field, level: usize) -> Result<Value, Fault> {
         let payload = field.payload.clone();
         if matches!(field.number, STRUCT | LIST) && level == MOST_LEVELS {
             return Err(field.fault(FaultKind::TooDeep));
@@ -179,19 +206,23 @@ impl Reader<'_> {
             NUMBER => Value::Number(little_endian(&self.bytes[payload])),
             TEXT => Value::Text(payload),
             BOOL => Value::Bool(field.value == 1),
-            STRUCT => Value::Struct(self.entries(payload, level + 1)?),
-            _ => Value::List(self.list(payload, level + 1)?),
+            STRUCT => {
+                self.entries(payload.clone(), level + 1).try_for_each(|entry| entry.map(drop))?;
+                Value::Struct(payload)
+            }
+            _ => {
+                self.items(payload.clone(), level + 1).try_for_each(|item| item.map(drop))?;
+                Value::List(payload)
+            }
         })
     }
 
-    fn list(&self, place: Range<usize>, level: usize) -> Result<Vec<Value>, Fault> {
-        let mut values = Vec::new();
-        for field in wire::fields(self.bytes, place) {
+    fn items(self, place: Range<usize>, level: usize) -> impl Iterator<Item = Result<Value, Fault>> + 'a {
+        wire::fields(self.bytes, place).map(move |field| {
             let field = field?;
             stands_in(IN_LIST, &field)?;
-            values.push(self.value(field.payload, level)?);
-        }
-        Ok(values)
+            self.value(field.payload, level)
+        })
     }
 }
 
@@ -202,10 +233,6 @@ pub fn stands_in(rules: &Rules, field: &Field) -> Result<(), Fault> {
         Some((_, wire_type)) if *wire_type != field.wire_type => Err(field.fault(FaultKind::WireType)),
         Some(_) => Ok(()),
     }
-}
-
-fn has_key(entries: &[Entry], key: &[u8]) -> bool {
-    entries.iter().any(|entry| entry.key == key)
 }
 
 fn little_endian(bytes: &[u8]) -> u64 {

@@ -130,7 +130,7 @@ fn write(state: &State, send: &Send<&[u8]>, out: &mut [u8]) -> Result<usize, u64
     let written = match *send {
         Send::Open { name, format } => {
             let opening = Opening { producer: state.is_producer(), name, format, limit: state.limit };
-            let frame = open::frame_of(opening).ok_or(BAD_GIVEN)?;
+            let frame = open::written(opening).ok_or(BAD_GIVEN)?;
             bundle::write(out, &control(OPEN, 0), Some(&frame))
         }
         Send::Ready { count } => bundle::write(out, &control(READY, count), None),
