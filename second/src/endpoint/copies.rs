@@ -39,7 +39,8 @@ pub fn sent(block: &[u8], send: &Send, out: &[u8]) -> Sent {
 /// What comes of a message.
 pub fn received(block: &[u8], message: &[u8], name: &[u8], format: &[u8], out: &[u8]) -> Received {
     let (mut block, mut out) = (block.to_vec(), out.to_vec());
-    let (number, heard) = endpoint::receive(&mut block, message, name, format, &mut out);
+    let mut heard = [0; 16];
+    let number = endpoint::receive(&mut block, message, name, format, &mut out, &mut heard);
     Received { number, block, out, heard }
 }
 

@@ -48,27 +48,27 @@ impl Message<'_> {
     }
 }
 
-/// Hears a message, or refuses it with the first number that applies; the number, and what is heard.
+/// Hears a message, or refuses it with the first number that applies; all of `heard` is written.
 ///
-/// The pipe name and format are those that a server offers. The first three refusals leave every byte as it was.
-pub fn receive(block: &mut [u8], bytes: &[u8], name: &[u8], format: &[u8], out: &mut [u8]) -> (u64, Heard) {
+/// The pipe name and format are those that a server offers. The first three refusals leave block and `out` as they were.
+pub fn receive(block: &mut [u8], bytes: &[u8], name: &[u8], format: &[u8], out: &mut [u8], heard: &mut Heard) -> u64 {
+    *heard = [0; 16];
     let Some(mut state) = State::read(block) else {
-        return (BAD_BLOCK, [0; 16]);
+        return BAD_BLOCK;
     };
     if out.len() < REPLY {
-        return (SHORT_OUTPUT, [0; 16]);
+        return SHORT_OUTPUT;
     }
     if state.phase == Phase::Closed {
-        return (IS_CLOSED, [0; 16]);
+        return IS_CLOSED;
     }
     let offer = Offer { producer: state.is_producer(), name, format };
-    let mut heard = [0; 16];
-    let (number, reply) = match hear(&mut state, bytes, offer, &mut heard) {
+    let (number, reply) = match hear(&mut state, bytes, offer, heard) {
         Ok(reply) => (0, reply),
         Err(number) => {
             let reply = refusal_reply(number, &state, bytes);
             state.close();
-            heard = [0; 16];
+            *heard = [0; 16];
             (number, reply)
         }
     };
@@ -76,7 +76,7 @@ pub fn receive(block: &mut [u8], bytes: &[u8], name: &[u8], format: &[u8], out: 
         heard[REPLY_SLOT] = bundle::write(out, &reply, None) as u64;
     }
     state.store(block);
-    (number, heard)
+    number
 }
 
 /// Hears a message at an endpoint that is not closed, and answers with its reply; else the first of 10 to 24 that

@@ -56,7 +56,8 @@ fn refuse(number: u64, applies: bool) -> Result<(), u64> {
     }
 }
 
-/// Refuses a send with the first number between that for the block and those for what is given.
+/// Refuses a send with the first of 3, 30 to 33 and 35 that applies. Only an OPEN can be refused as 34, which is told
+/// where its message is written.
 fn may_send(state: &State, send: &Send<&[u8]>) -> Result<(), u64> {
     refuse(IS_CLOSED, state.phase == Phase::Closed)?;
     refuse(NOT_ALLOWED, !allowed(state, send))?;
