@@ -94,6 +94,42 @@ pub fn read_value(bytes: &[u8]) -> Result<Value, Fault> {
     Reader { bytes }.value(0..bytes.len(), 0)
 }
 
+/// How many keys of a Struct are kept while it is read.
+const KEPT_KEYS: usize = 16;
+
+/// The keys of the entries of a Struct that were read: the first are kept, and the others read again when asked for, so
+/// that no Struct needs more memory than another.
+struct Keys<'a> {
+    bytes: &'a [u8],
+    kept: [&'a [u8]; KEPT_KEYS],
+    count: usize,
+    /// The place of the entries whose keys are not kept.
+    others: Range<usize>,
+}
+
+impl<'a> Keys<'a> {
+    /// Adds the key of the entry that this field is.
+    fn add(&mut self, key: &'a [u8], entry: &Field) {
+        if self.count < KEPT_KEYS {
+            self.kept[self.count] = key;
+            self.count += 1;
+        } else {
+            self.others = self.others.start.min(entry.at)..entry.payload.end;
+        }
+    }
+
+    fn have(&self, key: &[u8]) -> bool {
+        let mut others = wire::fields(self.bytes, self.others.clone()).flatten();
+        self.kept[..self.count].contains(&key) || others.any(|entry| self.key_of(entry.payload) == key)
+    }
+
+    /// The key of an entry that was read, which is the empty one where it says none.
+    fn key_of(&self, entry: Range<usize>) -> &'a [u8] {
+        let key = wire::fields(self.bytes, entry).flatten().find(|field| field.number == KEY);
+        key.map_or(&[], |key| &self.bytes[key.payload])
+    }
+}
+
 /// Reads messages out of the lent bytes. A place is that of a message, a level the number of Structs and lists that
 /// nest there, the message itself included.
 #[derive(Clone, Copy)]
@@ -103,16 +139,18 @@ struct Reader<'a> {
 
 impl<'a> Reader<'a> {
     fn entries(self, place: Range<usize>, level: usize) -> impl Iterator<Item = Result<Entry<'a>, Fault>> {
-        let start = place.start;
+        let mut keys = Keys { bytes: self.bytes, kept: [&[]; KEPT_KEYS], count: 0, others: place.end..place.end };
         wire::fields(self.bytes, place).map(move |field| {
             let field = field?;
             stands_in(IN_STRUCT, &field)?;
-            self.entry(field.payload, start..field.at, level)
+            let entry = self.entry(field.payload.clone(), &keys, level)?;
+            keys.add(entry.key, &field);
+            Ok(entry)
         })
     }
 
     /// An entry, whose key none of the entries before has.
-    fn entry(self, place: Range<usize>, before: Range<usize>, level: usize) -> Result<Entry<'a>, Fault> {
+    fn entry(self, place: Range<usize>, before: &Keys, level: usize) -> Result<Entry<'a>, Fault> {
         let end = place.end;
         let mut key = None;
         let mut value = None;
@@ -124,39 +162,28 @@ impl<'a> Reader<'a> {
                 return Err(field.fault(FaultKind::Repeated));
             }
             if field.number == KEY {
-                key = Some(self.key(&field, before.clone())?);
+                key = Some(self.key(&field, before)?);
             } else {
                 value = Some((self.value(field.payload.clone(), level)?, field.payload));
             }
         }
         let at_end = |kind| Fault { kind, at: end };
-        if key.is_none() && self.has_key(before, &[]) {
+        if key.is_none() && before.have(&[]) {
             return Err(at_end(FaultKind::Repeated));
         }
         let (value, place) = value.ok_or(at_end(FaultKind::Other))?;
         Ok(Entry { key: key.unwrap_or_default(), value, place })
     }
 
-    fn key(self, field: &Field, before: Range<usize>) -> Result<&'a [u8], Fault> {
+    fn key(self, field: &Field, before: &Keys) -> Result<&'a [u8], Fault> {
         let key = &self.bytes[field.payload.clone()];
-        if self.has_key(before, key) {
+        if before.have(key) {
             return Err(field.fault(FaultKind::Repeated));
         }
         if !text::well_formed(key) {
             return Err(field.fault(FaultKind::BadText));
         }
         Ok(key)
-    }
-
-    /// Whether one of the entries at this place has the key. They were all read before, so none is at fault.
-    fn has_key(self, entries: Range<usize>, key: &[u8]) -> bool {
-        wire::fields(self.bytes, entries).flatten().any(|entry| self.key_of(entry.payload) == key)
-    }
-
-    /// The key of an entry that was read before, which is the empty one where it says none.
-    fn key_of(self, entry: Range<usize>) -> &'a [u8] {
-        let key = wire::fields(self.bytes, entry).flatten().find(|field| field.number == KEY);
-        key.map_or(&[], |key| &self.bytes[key.payload])
     }
 
     /// What a Value holds; `level` is that of the Struct or list around it, 0 where there is none.
