@@ -38,6 +38,7 @@ pub extern "C" fn main() -> c_int {
 
 /// Prints the table and which aims are met; else where the two sides differ.
 fn run() -> Result<(), String> {
+    println!("archives with the sum {}", option_env!("BENCH_ARCHIVES").unwrap_or("unknown"));
     let mut table = Table::new();
     receive::add_rows(&mut table)?;
     send::add_rows(&mut table)?;

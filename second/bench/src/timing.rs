@@ -3,8 +3,8 @@
 use std::time::Instant;
 
 /// How many rounds are made, and the least that one side takes in a round.
-const ROUNDS: usize = 100;
-const ROUND_NANOSECONDS: u64 = 2_000_000;
+const ROUNDS: usize = 200;
+const ROUND_NANOSECONDS: u64 = 500_000;
 
 /// How often a round is tried before it counts as long enough: a machine that is busy elsewhere makes one look long.
 const TRIALS: usize = 3;
