@@ -28,10 +28,16 @@ impl Frames<'_> {
         self.clone().map(|frame| frame.length).sum()
     }
 
-    /// The bytes of the first frame of a good bundle, which is taken away.
-    pub fn take_first<'a>(&mut self, bundle: &'a [u8]) -> &'a [u8] {
-        let first = self.next().expect("a good bundle has a frame");
-        &bundle[first.at as usize..(first.at + first.length) as usize]
+    /// The place of the control frame, with which every good bundle begins.
+    fn control(&self) -> Place {
+        self.clone().next().expect("a good bundle has a frame")
+    }
+
+    /// Takes the control frame away from the others of its bundle, and answers its bytes.
+    pub fn take_control<'a>(&mut self, bundle: &'a [u8]) -> &'a [u8] {
+        let Place { at, length } = self.control();
+        self.next();
+        &bundle[at as usize..(at + length) as usize]
     }
 }
 
@@ -83,11 +89,11 @@ pub fn frame(bundle: &[u8], index: u32) -> (u64, [u64; 3]) {
 /// The number answered for a bundle, and its contents: frame count, place and length of the control frame, size of the
 /// message.
 pub fn contents(bundle: &[u8]) -> (u64, [u64; 4]) {
-    let first = frames(bundle).and_then(|frames| frames.clone().next().map(|first| (frames, first)));
-    match first {
-        Some((frames, control)) => (0, [frames.len() as u64, control.at, control.length, frames.size()]),
-        None => (BAD_BUNDLE, [0; 4]),
-    }
+    let Some(frames) = frames(bundle) else {
+        return (BAD_BUNDLE, [0; 4]);
+    };
+    let control = frames.control();
+    (0, [frames.len() as u64, control.at, control.length, frames.size()])
 }
 
 /// Stores these bytes at the start of `out`, and answers what stands behind them.
@@ -97,9 +103,14 @@ fn put<'a>(out: &'a mut [u8], bytes: &[u8]) -> &'a mut [u8] {
     behind
 }
 
+/// The bytes of the bundle of these frames.
+fn length_of(frames: &[&[u8]]) -> usize {
+    frames.iter().fold(2, |length, frame| length + 4 + frame.len())
+}
+
 /// Stores the bundle of these frames at the start of `out`, and says how many bytes it has; 0 where it does not fit.
 fn store(mut out: &mut [u8], frames: &[&[u8]]) -> usize {
-    let length = frames.iter().fold(2, |length, frame| length + 4 + frame.len());
+    let length = length_of(frames);
     if length > out.len() {
         return 0;
     }
@@ -115,7 +126,7 @@ fn store(mut out: &mut [u8], frames: &[&[u8]]) -> usize {
 
 /// The bundle of these frames.
 pub fn of_frames(frames: &[&[u8]]) -> Vec<u8> {
-    let mut bundle = vec![0; 2 + 4 * frames.len() + frames.concat().len()];
+    let mut bundle = vec![0; length_of(frames)];
     store(&mut bundle, frames);
     bundle
 }

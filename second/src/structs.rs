@@ -74,7 +74,7 @@ pub fn find<'a>(bytes: &'a [u8], place: Range<usize>, key: &[u8]) -> Result<Opti
     Ok(found)
 }
 
-/// The entries of the Struct at this place, in order; where one is at fault, that stands last.
+/// The entries of the Struct at this place, in order; nothing counts behind the first fault.
 pub fn entries(bytes: &[u8], place: Range<usize>) -> impl Iterator<Item = Result<Entry<'_>, Fault>> {
     Reader { bytes }.entries(place, 1)
 }
@@ -84,7 +84,7 @@ pub fn read_struct(bytes: &[u8]) -> Result<Vec<Entry<'_>>, Fault> {
     entries(bytes, 0..bytes.len()).collect()
 }
 
-/// The Values of the list at this place, in order; where one is at fault, that stands last.
+/// The Values of the list at this place, in order; nothing counts behind the first fault.
 pub fn items(bytes: &[u8], place: Range<usize>) -> impl Iterator<Item = Result<Value, Fault>> + '_ {
     Reader { bytes }.items(place, 1)
 }

@@ -108,7 +108,7 @@ fn hear(state: &mut State, bytes: &[u8], offer: Offer<&[u8]>, heard: &mut Heard)
 fn read(bytes: &[u8]) -> Result<Message<'_>, u64> {
     let mut frames = bundle::frames(bytes).ok_or(BAD_BUNDLE)?;
     let size = frames.size();
-    let control = control::read(frames.take_first(bytes))?;
+    let control = control::read(frames.take_control(bytes))?;
     Ok(Message { bytes, control, data_frames: frames, size })
 }
 
@@ -228,5 +228,5 @@ fn refusal_reply(number: u64, state: &State, bytes: &[u8]) -> Option<Control> {
 /// The type in the control byte of a message that passes 10 and 11, whatever version stands beside it.
 fn message_type(bytes: &[u8]) -> u8 {
     let mut frames = bundle::frames(bytes).expect("the bundle is good");
-    control::message_type(frames.take_first(bytes))
+    control::message_type(frames.take_control(bytes))
 }
