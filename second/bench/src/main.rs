@@ -19,7 +19,7 @@ use table::{Group, Table};
 /// How many times as long a receive of the largest body may take for its cost to count as independent of the body.
 const MOST_GROWTH: f64 = 1.2;
 
-/// The least that the issue aims at: of plain Rust for receives, and of memcpy for large sends.
+/// The least ratios that are aimed at: to plain Rust for receives, and to memcpy for large sends.
 const LEAST_OF_RUST: f64 = 1.0;
 const LEAST_OF_MEMCPY: f64 = 0.8;
 
