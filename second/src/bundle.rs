@@ -1,7 +1,9 @@
 //! The model of bundles: contents first, then bodies.
 
+use std::slice::ChunksExact;
+
 use crate::bytes;
-use crate::control;
+use crate::control::{self, Control};
 
 /// The number answered for a bad bundle.
 pub const BAD_BUNDLE: u64 = 10;
@@ -13,40 +15,72 @@ pub struct Place {
     pub length: u64,
 }
 
-/// The places of a bundle's frames in order; nothing for a bad bundle.
+/// The places of a bundle's frames, in order.
+#[derive(Clone)]
+pub struct Frames<'a> {
+    lengths: ChunksExact<'a, u8>,
+    at: u64,
+}
+
+impl Frames<'_> {
+    /// The lengths of all these frames together.
+    pub fn size(&self) -> u64 {
+        self.clone().map(|frame| frame.length).sum()
+    }
+
+    /// The place of the control frame, with which every good bundle begins.
+    fn control(&self) -> Place {
+        self.clone().next().expect("a good bundle has a frame")
+    }
+
+    /// Takes the control frame away from the others of its bundle, and answers its bytes.
+    pub fn take_control<'a>(&mut self, bundle: &'a [u8]) -> &'a [u8] {
+        let Place { at, length } = self.control();
+        self.next();
+        &bundle[at as usize..(at + length) as usize]
+    }
+}
+
+impl Iterator for Frames<'_> {
+    type Item = Place;
+
+    fn next(&mut self) -> Option<Place> {
+        let length = bytes::number(self.lengths.next()?);
+        let at = self.at;
+        self.at += length;
+        Some(Place { at, length })
+    }
+
+    fn size_hint(&self) -> (usize, Option<usize>) {
+        self.lengths.size_hint()
+    }
+}
+
+impl ExactSizeIterator for Frames<'_> {}
+
+/// The frames of a bundle; nothing for a bad bundle.
 ///
 /// A bundle is a 2-byte frame count F (1 to 16), then F 4-byte lengths, then the bodies in order without gaps, ending
 /// exactly at the end of the bytes.
-pub fn frames(bundle: &[u8]) -> Option<Vec<Place>> {
-    if bundle.len() < 2 {
-        return None;
-    }
-    let count = bytes::number(&bundle[..2]) as usize;
+pub fn frames(bundle: &[u8]) -> Option<Frames<'_>> {
+    let count = bytes::number(bundle.get(..2)?) as usize;
     if !(1..=16).contains(&count) {
         return None;
     }
     let bodies_at = 2 + 4 * count;
-    if bundle.len() < bodies_at {
-        return None;
-    }
-    let mut frames = Vec::new();
-    let mut at = bodies_at as u64;
-    for length in bundle[2..bodies_at].chunks(4) {
-        let length = bytes::number(length);
-        frames.push(Place { at, length });
-        at += length;
-    }
-    (at == bundle.len() as u64).then_some(frames)
+    let lengths = bundle.get(2..bodies_at)?.chunks_exact(4);
+    let frames = Frames { lengths, at: bodies_at as u64 };
+    (frames.at + frames.size() == bundle.len() as u64).then_some(frames)
 }
 
 /// The number answered for the frame at `index`, and its place: found, at, length.
 ///
 /// A bad bundle is refused with zeros; behind the last frame there is none, and zeros too.
 pub fn frame(bundle: &[u8], index: u32) -> (u64, [u64; 3]) {
-    let Some(frames) = frames(bundle) else {
+    let Some(mut frames) = frames(bundle) else {
         return (BAD_BUNDLE, [0, 0, 0]);
     };
-    match frames.get(index as usize) {
+    match frames.nth(index as usize) {
         Some(place) => (0, [1, place.at, place.length]),
         None => (0, [0, 0, 0]),
     }
@@ -58,42 +92,59 @@ pub fn contents(bundle: &[u8]) -> (u64, [u64; 4]) {
     let Some(frames) = frames(bundle) else {
         return (BAD_BUNDLE, [0; 4]);
     };
-    let control = &frames[0];
-    let size = frames.iter().map(|frame| frame.length).sum();
-    (0, [frames.len() as u64, control.at, control.length, size])
+    let control = frames.control();
+    (0, [frames.len() as u64, control.at, control.length, frames.size()])
+}
+
+/// Stores these bytes at the start of `out`, and answers what stands behind them.
+fn put<'a>(out: &'a mut [u8], bytes: &[u8]) -> &'a mut [u8] {
+    let (place, behind) = out.split_at_mut(bytes.len());
+    place.copy_from_slice(bytes);
+    behind
+}
+
+/// The bytes of the bundle of these frames.
+fn length_of(frames: &[&[u8]]) -> usize {
+    frames.iter().fold(2, |length, frame| length + 4 + frame.len())
+}
+
+/// Stores the bundle of these frames at the start of `out`, and says how many bytes it has; 0 where it does not fit.
+fn store(mut out: &mut [u8], frames: &[&[u8]]) -> usize {
+    let length = length_of(frames);
+    if length > out.len() {
+        return 0;
+    }
+    out = put(out, &(frames.len() as u16).to_be_bytes());
+    for frame in frames {
+        out = put(out, &(frame.len() as u32).to_be_bytes());
+    }
+    for frame in frames {
+        out = put(out, frame);
+    }
+    length
 }
 
 /// The bundle of these frames.
 pub fn of_frames(frames: &[&[u8]]) -> Vec<u8> {
-    let mut bundle = bytes::big_endian(2, frames.len() as u64);
-    for frame in frames {
-        bundle.extend(bytes::big_endian(4, frame.len() as u64));
-    }
-    bundle.extend(frames.concat());
+    let mut bundle = vec![0; length_of(frames)];
+    store(&mut bundle, frames);
     bundle
 }
 
-/// `out` after the bundle of a control frame and perhaps a body is written at its start, and the bytes written.
+/// Writes the bundle of a control frame and perhaps a body at the start of `out`, and says how many bytes it has.
 ///
 /// Where the type is none of 1 to 5 or the bundle does not fit, 0 bytes are written.
-pub fn write(out: &[u8], control: &control::Control, body: Option<&[u8]>) -> (u64, Vec<u8>) {
-    let Some(control) = control::frame(control) else {
-        return (0, out.to_vec());
-    };
-    let bundle = match body {
-        None => of_frames(&[&control]),
-        Some(body) => of_frames(&[&control, body]),
-    };
-    if bundle.len() > out.len() {
-        return (0, out.to_vec());
+pub fn write(out: &mut [u8], control: &Control, body: Option<&[u8]>) -> usize {
+    match (control::frame(control), body) {
+        (None, _) => 0,
+        (Some(control), None) => store(out, &[&control]),
+        (Some(control), Some(body)) => store(out, &[&control, body]),
     }
-    (bundle.len() as u64, [&bundle[..], &out[bundle.len()..]].concat())
 }
 
 #[cfg(test)]
 mod tests {
     use super::*;
-    use crate::control::Control;
 
     /// K2: the bundle of READY(8).
     const K2: [u8; 14] = [0x00, 0x01, 0x00, 0x00, 0x00, 0x08, 0x46, 0x42, 0x44, 0x50, 0x11, 0x00, 0x00, 0x08];
@@ -102,7 +153,7 @@ mod tests {
 
     #[test]
     fn k2_is_read() {
-        assert_eq!(frames(&K2), Some(vec![Place { at: 6, length: 8 }]));
+        assert!(frames(&K2).unwrap().eq([Place { at: 6, length: 8 }]));
         assert_eq!(frame(&K2, 0), (0, [1, 6, 8]));
         assert_eq!(frame(&K2, 1), (0, [0, 0, 0]));
         assert_eq!(contents(&K2), (0, [1, 6, 8, 8]));
@@ -110,9 +161,10 @@ mod tests {
 
     #[test]
     fn k2_is_written_and_nothing_behind_it() {
-        let (written, out) = write(&[7; 16], &READY_8, None);
-        assert_eq!((written, &out[..14], &out[14..]), (14, &K2[..], &[7, 7][..]));
-        assert_eq!(write(&[7; 13], &READY_8, None), (0, vec![7; 13]));
+        let mut out = [7; 16];
+        assert_eq!((write(&mut out, &READY_8, None), &out[..14], &out[14..]), (14, &K2[..], &[7, 7][..]));
+        let mut short = [7; 13];
+        assert_eq!((write(&mut short, &READY_8, None), short), (0, [7; 13]));
     }
 
     #[test]
@@ -126,11 +178,11 @@ mod tests {
 
     #[test]
     fn a_body_is_written_and_found_again() {
-        let (written, out) = write(&[7; 21], &READY_8, Some(&[1, 2]));
-        assert_eq!(written, 20);
-        assert_eq!(frames(&out), None);
+        let mut out = [7; 21];
+        assert_eq!(write(&mut out, &READY_8, Some(&[1, 2])), 20);
+        assert!(frames(&out).is_none());
         assert_eq!(frame(&out[..20], 1), (0, [1, 18, 2]));
-        assert_eq!(write(&[7; 18], &READY_8, Some(&[])).0, 18);
+        assert_eq!(write(&mut [7; 18], &READY_8, Some(&[])), 18);
     }
 
     #[test]

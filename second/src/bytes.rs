@@ -1,4 +1,43 @@
-//! The model of big-endian numbers, of any width up to 8 bytes, and of copies.
+//! The model of big-endian numbers, of any width up to 8 bytes, and of copies; and where bytes are put that are written.
+
+use std::ops::Deref;
+
+/// A place where bytes are put one behind the other.
+pub trait Sink {
+    fn put(&mut self, bytes: &[u8]);
+}
+
+impl Sink for Vec<u8> {
+    fn put(&mut self, bytes: &[u8]) {
+        self.extend_from_slice(bytes);
+    }
+}
+
+/// Up to so many bytes that need no heap. It is made for all that is ever put there.
+pub struct Buffer<const MOST: usize> {
+    bytes: [u8; MOST],
+    length: usize,
+}
+
+impl<const MOST: usize> Buffer<MOST> {
+    pub const EMPTY: Self = Buffer { bytes: [0; MOST], length: 0 };
+}
+
+impl<const MOST: usize> Sink for Buffer<MOST> {
+    fn put(&mut self, bytes: &[u8]) {
+        let end = self.length + bytes.len();
+        self.bytes[self.length..end].copy_from_slice(bytes);
+        self.length = end;
+    }
+}
+
+impl<const MOST: usize> Deref for Buffer<MOST> {
+    type Target = [u8];
+
+    fn deref(&self) -> &[u8] {
+        &self.bytes[..self.length]
+    }
+}
 
 /// The number that these bytes say, most significant first.
 pub fn number(bytes: &[u8]) -> u64 {

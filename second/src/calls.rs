@@ -340,7 +340,9 @@ impl Call for Write {
     }
 
     fn answer(&self, before: &[Vec<u8>]) -> Answer {
-        Answer::bytes(bundle::write(&before[0], &self.control, self.body.as_deref()))
+        let mut out = before[0].clone();
+        let written = bundle::write(&mut out, &self.control, self.body.as_deref());
+        Answer::bytes((written as u64, out))
     }
 }
 

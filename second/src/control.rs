@@ -1,6 +1,7 @@
 //! The model of the control frame, exactly 8 bytes: signature, control byte, flags, type-data.
 
-use crate::bytes;
+/// The bytes of a control frame.
+pub const CONTROL_FRAME: usize = 8;
 
 pub const SIGNATURE: [u8; 4] = [0x46, 0x42, 0x44, 0x50];
 pub const VERSION: u8 = 1;
@@ -32,19 +33,22 @@ pub fn type_name(message_type: u8) -> Option<&'static str> {
 
 /// What a control frame says, or the first of 11, 12, 13 that applies.
 pub fn read(frame: &[u8]) -> Result<Control, u64> {
-    if frame.len() != 8 || frame[..4] != SIGNATURE {
+    if frame.len() != CONTROL_FRAME || frame[..4] != SIGNATURE {
         return Err(NO_CONTROL_FRAME);
     }
-    let control_byte = frame[4];
-    let (message_type, version) = (control_byte / 8, control_byte % 8);
-    if version != VERSION {
+    if frame[4] % 8 != VERSION {
         return Err(WRONG_VERSION);
     }
+    let message_type = message_type(frame);
     if type_name(message_type).is_none() {
         return Err(WRONG_TYPE);
     }
-    let type_data = bytes::number(&frame[6..8]) as u16;
-    Ok(Control { message_type, flags: frame[5], type_data })
+    Ok(Control { message_type, flags: frame[5], type_data: u16::from_be_bytes([frame[6], frame[7]]) })
+}
+
+/// The type in the control byte of a frame that passes 11, whatever version stands beside it.
+pub fn message_type(frame: &[u8]) -> u8 {
+    frame[4] / 8
 }
 
 /// The number answered for a control frame, and its type, flags and type-data; zeros where it is refused.
@@ -56,11 +60,11 @@ pub fn heard(frame: &[u8]) -> (u64, [u64; 3]) {
 }
 
 /// The control frame that says this; nothing where the type is none of 1 to 5.
-pub fn frame(control: &Control) -> Option<Vec<u8>> {
+pub fn frame(control: &Control) -> Option<[u8; CONTROL_FRAME]> {
     type_name(control.message_type)?;
-    let control_byte = 8 * control.message_type + VERSION;
-    let type_data = bytes::big_endian(2, control.type_data.into());
-    Some([&SIGNATURE[..], &[control_byte, control.flags], &type_data].concat())
+    let [a, b, c, d] = SIGNATURE;
+    let [high, low] = control.type_data.to_be_bytes();
+    Some([a, b, c, d, 8 * control.message_type + VERSION, control.flags, high, low])
 }
 
 #[cfg(test)]
@@ -72,7 +76,7 @@ mod tests {
     #[test]
     fn k1_is_ready_8() {
         let ready = Control { message_type: 2, flags: 0, type_data: 8 };
-        assert_eq!(frame(&ready), Some(K1.to_vec()));
+        assert_eq!(frame(&ready), Some(K1));
         assert_eq!(read(&K1), Ok(ready));
     }
 
@@ -82,7 +86,7 @@ mod tests {
         let heard = read(&asked).unwrap();
         assert_eq!(heard, Control { message_type: 3, flags: 1, type_data: 0x1234 });
         let reply = Control { flags: 2, ..heard };
-        assert_eq!(frame(&reply), Some(vec![0x46, 0x42, 0x44, 0x50, 0x19, 0x02, 0x12, 0x34]));
+        assert_eq!(frame(&reply), Some([0x46, 0x42, 0x44, 0x50, 0x19, 0x02, 0x12, 0x34]));
     }
 
     #[test]

@@ -1,13 +1,15 @@
 //! The model of an endpoint: making one, what it sends and what it receives. The host lends its state as a block of 64
-//! bytes, and gets the whole answer: a number, the block afterwards, `out` afterwards.
+//! bytes, which is changed in place as `out` is, and gets a number.
 
+mod copies;
 mod receive;
 mod send;
 mod state;
 
-pub use receive::receive;
+pub use copies::{made, received, sent};
+pub use receive::{receive, Heard};
 pub use send::{send, Send};
-pub use state::{Entry, Flow, Phase, Role, State, BLOCK, LIMITS, MOST_AWAITED};
+pub use state::{Awaited, Entry, Flow, Phase, Role, State, BLOCK, LIMITS, MOST_AWAITED};
 
 use crate::open::BAD_GIVEN;
 
@@ -27,17 +29,18 @@ pub const CLOSE: u8 = 5;
 pub const ACK_REQUEST: u8 = 1;
 pub const ACK_REPLY: u8 = 2;
 
-/// The number answered where an endpoint of this role, flow and limit is made in a block, and the block afterwards.
+/// Makes an endpoint of this role, flow and limit in a block, and answers 0; else the number that applies.
 ///
 /// Of the block only the length is looked at. A server's limit is 50,000,000.
-pub fn make(block: &[u8], role: Role, flow: u8, limit: u32) -> (u64, Vec<u8>) {
+pub fn make(block: &mut [u8], role: Role, flow: u8, limit: u32) -> u64 {
     if block.len() != BLOCK {
-        return (BAD_BLOCK, block.to_vec());
+        return BAD_BLOCK;
     }
     match Flow::of(flow) {
-        Some(flow) if LIMITS.contains(&limit) => (0, State::fresh(role, flow, limit).block()),
-        _ => (BAD_GIVEN, block.to_vec()),
+        Some(flow) if LIMITS.contains(&limit) => State::fresh(role, flow, limit).store(block),
+        _ => return BAD_GIVEN,
     }
+    0
 }
 
 #[cfg(test)]

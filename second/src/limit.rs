@@ -1,7 +1,10 @@
 //! The model of the limit parameter: a number that is whole, 1,000,000 to 50,000,000.
 
-use crate::structs::{self, Entry, Value, NUMBER, UNREADABLE, VALUE};
-use crate::wire;
+use std::ops::Range;
+
+use crate::bytes::Buffer;
+use crate::structs::{self, Value, NUMBER, UNREADABLE, VALUE};
+use crate::wire::{self, Fault};
 
 /// The key of the limit among the outermost of the parameters.
 pub const KEY: &[u8] = b"max_message_bytes";
@@ -10,41 +13,41 @@ pub const KEY: &[u8] = b"max_message_bytes";
 pub const LEAST: f64 = 1_000_000.0;
 pub const MOST: f64 = 50_000_000.0;
 
+/// The bytes of parameters that announce a limit and nothing else.
+pub const PARAMETERS: usize = 32;
+
 /// How the parameters say a limit: not at all, well, or badly.
 pub enum Announced {
     Absent,
-    Good(u64),
+    Good(u32),
     Bad,
 }
 
-/// How the entries of the parameters say a limit.
-pub fn announced(parameters: &[Entry]) -> Announced {
-    match parameters.iter().find(|entry| entry.key == KEY) {
+/// How the parameters at this place say a limit, or their first fault.
+pub fn announced(bytes: &[u8], parameters: Range<usize>) -> Result<Announced, Fault> {
+    Ok(match structs::find(bytes, parameters, KEY)? {
         None => Announced::Absent,
         Some(entry) => good_limit(&entry.value).map_or(Announced::Bad, Announced::Good),
-    }
+    })
 }
 
 /// The number answered for parameters, and how they say a limit with the limit itself where it is good.
 pub fn limit(parameters: &[u8]) -> (u64, [u64; 2]) {
-    let Ok(entries) = structs::read_struct(parameters) else {
-        return (UNREADABLE, [0, 0]);
-    };
-    let answer = match announced(&entries) {
-        Announced::Absent => [0, 0],
-        Announced::Good(limit) => [1, limit],
-        Announced::Bad => [2, 0],
-    };
-    (0, answer)
+    match announced(parameters, 0..parameters.len()) {
+        Ok(Announced::Absent) => (0, [0, 0]),
+        Ok(Announced::Good(limit)) => (0, [1, limit.into()]),
+        Ok(Announced::Bad) => (0, [2, 0]),
+        Err(_) => (UNREADABLE, [0, 0]),
+    }
 }
 
 /// The limit that a Value says; nothing where that is not a good one.
-fn good_limit(value: &Value) -> Option<u64> {
+fn good_limit(value: &Value) -> Option<u32> {
     let Value::Number(bits) = value else {
         return None;
     };
     let number = f64::from_bits(*bits);
-    is_good(number).then_some(number as u64)
+    is_good(number).then_some(number as u32)
 }
 
 /// Whether this number is a good limit.
@@ -59,10 +62,13 @@ pub fn limit_bytes(number: u32) -> [u8; 8] {
 }
 
 /// The parameters that announce this number as the limit and nothing else, as a client writes them.
-pub fn parameters(number: u32) -> Vec<u8> {
-    let value = wire::eight_bytes_field(NUMBER, limit_bytes(number));
-    let entry = [wire::delimited_field(structs::KEY, KEY), wire::delimited_field(VALUE, &value)].concat();
-    wire::delimited_field(structs::ENTRY, &entry)
+pub fn parameters(number: u32) -> Buffer<PARAMETERS> {
+    let (mut value, mut entry, mut parameters) = (Buffer::<9>::EMPTY, Buffer::<30>::EMPTY, Buffer::EMPTY);
+    wire::put_eight_bytes_field(&mut value, NUMBER, limit_bytes(number));
+    wire::put_delimited_field(&mut entry, structs::KEY, KEY);
+    wire::put_delimited_field(&mut entry, VALUE, &value);
+    wire::put_delimited_field(&mut parameters, structs::ENTRY, &entry);
+    parameters
 }
 
 #[cfg(test)]
@@ -86,7 +92,7 @@ mod tests {
     #[test]
     fn written_parameters_announce_the_limit_alone() {
         for number in [0, 1_000_000, 33_554_433, u32::MAX] {
-            assert_eq!(parameters(number), with_limit(f64::from(number)));
+            assert_eq!(*parameters(number), with_limit(f64::from(number)));
         }
     }
 

@@ -19,11 +19,10 @@ pub fn line(input: &[u8]) -> String {
 
 /// The line for a bundle, or the first of 10, 11, 12, 13 that applies.
 fn line_of_bundle(input: &[u8]) -> Result<String, u64> {
-    let frames = bundle::frames(input).ok_or(bundle::BAD_BUNDLE)?;
-    let first = &frames[0];
-    let control = control::read(&input[first.at as usize..][..first.length as usize])?;
+    let mut frames = bundle::frames(input).ok_or(bundle::BAD_BUNDLE)?;
+    let control = control::read(frames.take_control(input))?;
     let name = control::type_name(control.message_type).expect("a type that was read has a name");
-    let (flags, type_data, data_frames) = (control.flags, control.type_data, frames.len() - 1);
+    let (flags, type_data, data_frames) = (control.flags, control.type_data, frames.len());
     Ok(format!("{name} v1 flags={flags} data={type_data} frames={data_frames}\n"))
 }
 

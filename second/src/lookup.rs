@@ -1,6 +1,6 @@
 //! The model of the lookup of a term: in the client's parameters, and failing that in the server's default Struct.
 
-use crate::structs::{self, Entry, UNREADABLE};
+use crate::structs::{self, UNREADABLE};
 
 /// The numbers answered for a refused lookup, besides that for unreadable parameters.
 pub const DEFAULTS_UNREADABLE: u64 = 36;
@@ -21,16 +21,15 @@ pub fn lookup(client: &[u8], defaults: &[u8], key: &[u8]) -> (u64, [u64; 3]) {
 }
 
 fn find(client: &[u8], defaults: &[u8], key: &[u8]) -> Result<[u64; 3], u64> {
-    let client = structs::read_struct(client).map_err(|_| UNREADABLE)?;
-    let defaults = structs::read_struct(defaults).map_err(|_| DEFAULTS_UNREADABLE)?;
-    let in_client = place_in(CLIENT, &client, key);
-    in_client.or(place_in(DEFAULTS, &defaults, key)).ok_or(NO_SUCH_TERM)
+    let in_client = place_in(CLIENT, client, key).ok_or(UNREADABLE)?;
+    let in_defaults = place_in(DEFAULTS, defaults, key).ok_or(DEFAULTS_UNREADABLE)?;
+    in_client.or(in_defaults).ok_or(NO_SUCH_TERM)
 }
 
-/// The place of the Value with this key among the entries of a slice.
-fn place_in(slice: u64, entries: &[Entry], key: &[u8]) -> Option<[u64; 3]> {
-    let entry = entries.iter().find(|entry| entry.key == key)?;
-    Some([slice, entry.place.start as u64, entry.place.len() as u64])
+/// The place of the Value with this key in a slice, perhaps none; nothing where the slice is unreadable.
+fn place_in(slice: u64, bytes: &[u8], key: &[u8]) -> Option<Option<[u64; 3]>> {
+    let found = structs::find(bytes, 0..bytes.len(), key).ok()?;
+    Some(found.map(|entry| [slice, entry.place.start as u64, entry.place.len() as u64]))
 }
 
 #[cfg(test)]

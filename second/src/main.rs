@@ -4,26 +4,17 @@
 //! second speed -- COMMAND..                        times what must not depend on the bodies
 #![forbid(unsafe_code)]
 
-mod bundle;
-mod bytes;
 mod calls;
 mod compare;
-mod control;
-mod endpoint;
 mod framing;
 mod generate;
 mod host;
-mod limit;
-mod line;
-mod lookup;
-mod open;
 mod random;
 mod report;
 mod speed;
-mod structs;
-mod text;
 mod vectors;
-mod wire;
+
+use second::{bundle, bytes, control, endpoint, limit, line, lookup, open, structs, text, wire};
 
 use std::env;
 use std::process::ExitCode;

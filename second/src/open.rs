@@ -2,9 +2,9 @@
 
 use std::ops::Range;
 
-use crate::bytes;
+use crate::bytes::{self, Buffer};
 use crate::limit::{self, Announced};
-use crate::structs::{self, Entry, Rules, UNREADABLE};
+use crate::structs::{self, Rules, UNREADABLE};
 use crate::text;
 use crate::wire::{self, Fault, FaultKind, Field, LENGTH_DELIMITED, VARINT};
 
@@ -38,13 +38,13 @@ pub const DEFAULT_LIMIT: u32 = 50_000_000;
 
 /// What a server offers, and whether its flow is that of a producer.
 #[derive(Clone)]
-pub struct Offer {
+pub struct Offer<Bytes = Vec<u8>> {
     pub producer: bool,
-    pub name: Vec<u8>,
-    pub format: Vec<u8>,
+    pub name: Bytes,
+    pub format: Bytes,
 }
 
-impl Offer {
+impl<Bytes> Offer<Bytes> {
     /// The socket that is offered.
     pub fn socket(&self) -> u64 {
         if self.producer {
@@ -55,16 +55,23 @@ impl Offer {
     }
 }
 
+impl Offer {
+    /// The same offer with its bytes lent.
+    pub fn lent(&self) -> Offer<&[u8]> {
+        Offer { producer: self.producer, name: &self.name, format: &self.format }
+    }
+}
+
 /// What a client opens a pipe with, and whether its flow is that of a producer.
 #[derive(Clone)]
-pub struct Opening {
+pub struct Opening<Bytes = Vec<u8>> {
     pub producer: bool,
-    pub name: Vec<u8>,
-    pub format: Vec<u8>,
+    pub name: Bytes,
+    pub format: Bytes,
     pub limit: u32,
 }
 
-impl Opening {
+impl<Bytes> Opening<Bytes> {
     /// The socket that is opened.
     pub fn socket(&self) -> u64 {
         if self.producer {
@@ -75,17 +82,22 @@ impl Opening {
     }
 }
 
-/// The fields of an OPEN frame that can be read, in order and without those that are skipped, and the entries of its
-/// parameters.
-#[derive(Default)]
+impl Opening {
+    /// The same opening with its bytes lent.
+    pub fn lent(&self) -> Opening<&[u8]> {
+        Opening { producer: self.producer, name: &self.name, format: &self.format, limit: self.limit }
+    }
+}
+
+/// The fields of an OPEN frame that can be read, by their numbers from 1 on, and how its parameters say a limit.
 struct Frame {
-    fields: Vec<Field>,
-    parameters: Vec<Entry>,
+    fields: [Option<Field>; PARAMETERS as usize],
+    announced: Announced,
 }
 
 impl Frame {
     fn field(&self, number: u64) -> Option<&Field> {
-        self.fields.iter().find(|field| field.number == number)
+        self.fields[number as usize - 1].as_ref()
     }
 
     /// The place of a field's payload; the empty place at 0 where there is no such field.
@@ -101,7 +113,7 @@ impl Frame {
 
 /// The frame at this place of the message, or its first fault.
 fn read(message: &[u8], place: Range<usize>) -> Result<Frame, Fault> {
-    let mut frame = Frame::default();
+    let mut frame = Frame { fields: [None, None, None, None], announced: Announced::Absent };
     for field in wire::fields(message, place) {
         let field = field?;
         if field.number > PARAMETERS {
@@ -109,9 +121,10 @@ fn read(message: &[u8], place: Range<usize>) -> Result<Frame, Fault> {
         }
         allowed(message, &field, &frame)?;
         if field.number == PARAMETERS {
-            frame.parameters = structs::read_struct_at(message, field.payload.clone())?;
+            frame.announced = limit::announced(message, field.payload.clone())?;
         }
-        frame.fields.push(field);
+        let place = field.number as usize - 1;
+        frame.fields[place] = Some(field);
     }
     Ok(frame)
 }
@@ -134,11 +147,11 @@ fn allowed(message: &[u8], field: &Field, before: &Frame) -> Result<(), Fault> {
 }
 
 /// The limit that holds for a frame which the offer meets; else the first of 19 to 22 that applies.
-fn met(message: &[u8], frame: &Frame, offer: &Offer) -> Result<u64, u64> {
+fn met(message: &[u8], frame: &Frame, offer: Offer<&[u8]>) -> Result<u32, u64> {
     let (name, format) = (&message[frame.place(NAME)], &message[frame.place(FORMAT)]);
     let socket = frame.socket();
-    let limit = match limit::announced(&frame.parameters) {
-        Announced::Absent => DEFAULT_LIMIT.into(),
+    let limit = match frame.announced {
+        Announced::Absent => DEFAULT_LIMIT,
         Announced::Good(limit) => limit,
         Announced::Bad => return Err(OUT_OF_RANGE),
     };
@@ -169,44 +182,87 @@ fn frame_place(message: &[u8], at: u64, end: u64) -> Result<Range<usize>, Fault>
     Ok(at as usize..end as usize)
 }
 
+/// What is heard of an OPEN frame: socket, places of name, format and parameters, and the limit that holds.
+pub struct Heard {
+    pub socket: u64,
+    pub places: [Range<usize>; 3],
+    pub limit: u32,
+}
+
+impl Heard {
+    /// Socket, places and lengths in a row.
+    pub fn numbers(&self) -> [u64; 7] {
+        let [name, format, parameters] = self.places.clone().map(|place| (place.start as u64, place.len() as u64));
+        [self.socket, name.0, name.1, format.0, format.1, parameters.0, parameters.1]
+    }
+}
+
+/// Why an OPEN frame is refused: it cannot be read, or another number applies.
+pub enum Refusal {
+    Unreadable(Fault),
+    Number(u64),
+}
+
+impl Refusal {
+    pub fn number(&self) -> u64 {
+        match self {
+            Refusal::Unreadable(_) => UNREADABLE,
+            Refusal::Number(number) => *number,
+        }
+    }
+}
+
+/// What a server with this offer hears of the OPEN frame from `at` up to `end`.
+pub fn hear(message: &[u8], at: u64, end: u64, offer: Offer<&[u8]>) -> Result<Heard, Refusal> {
+    let frame = frame_place(message, at, end).and_then(|place| read(message, place)).map_err(Refusal::Unreadable)?;
+    let limit = met(message, &frame, offer).map_err(Refusal::Number)?;
+    Ok(Heard { socket: frame.socket(), places: [NAME, FORMAT, PARAMETERS].map(|number| frame.place(number)), limit })
+}
+
 /// The number answered for the OPEN frame from `at` up to `end`, and what is heard: socket, places of name, format and
 /// parameters, limit, or zeros where it is refused; behind them the kind and place of the fault of an unreadable one.
 pub fn heard(message: &[u8], at: u64, end: u64, offer: &Offer) -> (u64, [u64; 10]) {
-    let frame = match frame_place(message, at, end).and_then(|place| read(message, place)) {
-        Ok(frame) => frame,
-        Err(fault) => return (UNREADABLE, [0, 0, 0, 0, 0, 0, 0, 0, fault.kind as u64, fault.at as u64]),
-    };
-    let limit = match met(message, &frame, offer) {
-        Ok(limit) => limit,
-        Err(refusal) => return (refusal, [0; 10]),
-    };
-    let place = |number| {
-        let place = frame.place(number);
-        [place.start as u64, place.len() as u64]
-    };
-    let places = [NAME, FORMAT, PARAMETERS].map(place).concat();
-    let mut heard = [0; 10];
-    heard[0] = frame.socket();
-    heard[1..7].copy_from_slice(&places);
-    heard[7] = limit;
-    (0, heard)
+    let mut answer = [0; 10];
+    match hear(message, at, end, offer.lent()) {
+        Ok(heard) => {
+            answer[..7].copy_from_slice(&heard.numbers());
+            answer[7] = heard.limit.into();
+            (0, answer)
+        }
+        Err(refusal) => {
+            if let Refusal::Unreadable(fault) = refusal {
+                answer[8..].copy_from_slice(&[fault.kind as u64, fault.at as u64]);
+            }
+            (refusal.number(), answer)
+        }
+    }
 }
 
+/// The most bytes of a client's OPEN frame: name and format behind a tag and two bytes of length, the socket, and the
+/// parameters behind a tag and one byte of length.
+const MOST_WRITTEN: usize = 2 * (3 + MOST_TEXT) + 2 + 2 + limit::PARAMETERS;
+
 /// The OPEN frame of a client; nothing where its name or format is bad.
-pub fn frame(opening: &Opening) -> Option<Vec<u8>> {
+pub fn written(opening: Opening<&[u8]>) -> Option<Buffer<MOST_WRITTEN>> {
     let good = |text: &[u8]| text.len() <= MOST_TEXT && text::well_formed(text);
-    if opening.name.is_empty() || !good(&opening.name) || !good(&opening.format) {
+    if opening.name.is_empty() || !good(opening.name) || !good(opening.format) {
         return None;
     }
-    let mut frame = wire::delimited_field(NAME, &opening.name);
-    frame.extend(wire::varint_field(SOCKET, opening.socket()));
+    let mut frame = Buffer::EMPTY;
+    wire::put_delimited_field(&mut frame, NAME, opening.name);
+    wire::put_varint_field(&mut frame, SOCKET, opening.socket());
     if !opening.format.is_empty() {
-        frame.extend(wire::delimited_field(FORMAT, &opening.format));
+        wire::put_delimited_field(&mut frame, FORMAT, opening.format);
     }
     if opening.limit != DEFAULT_LIMIT {
-        frame.extend(wire::delimited_field(PARAMETERS, &limit::parameters(opening.limit)));
+        wire::put_delimited_field(&mut frame, PARAMETERS, &limit::parameters(opening.limit));
     }
     Some(frame)
+}
+
+/// The same as bytes of their own.
+pub fn frame(opening: &Opening) -> Option<Vec<u8>> {
+    written(opening.lent()).map(|frame| frame.to_vec())
 }
 
 /// The number answered for a client's OPEN frame, its length, and `out` after it is stored from `at` on; `out` is as it

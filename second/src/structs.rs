@@ -11,23 +11,22 @@ pub const UNREADABLE: u64 = 18;
 /// The most Structs and lists that may nest.
 pub const MOST_LEVELS: usize = 8;
 
-/// What a Value holds.
+/// What a Value holds; of a text, a Struct and a list the place.
 #[derive(Debug, PartialEq)]
 pub enum Value {
     Null,
     /// The double's 64 bits.
     Number(u64),
-    /// The place of the text.
     Text(Range<usize>),
     Bool(bool),
-    Struct(Vec<Entry>),
-    List(Vec<Value>),
+    Struct(Range<usize>),
+    List(Range<usize>),
 }
 
 /// An entry of a Struct: its key, its Value, and the place of that Value's bytes without tag and length.
 #[derive(Debug, PartialEq)]
-pub struct Entry {
-    pub key: Vec<u8>,
+pub struct Entry<'a> {
+    pub key: &'a [u8],
     pub value: Value,
     pub place: Range<usize>,
 }
@@ -62,14 +61,32 @@ const IN_VALUE: &Rules = &[
     (LIST, LENGTH_DELIMITED),
 ];
 
-/// The entries of a lent Struct, in order.
-pub fn read_struct(bytes: &[u8]) -> Result<Vec<Entry>, Fault> {
-    read_struct_at(bytes, 0..bytes.len())
+/// The entry with this key in the Struct at this place, all of which is read; its place and that of a fault are offsets
+/// into the bytes.
+pub fn find<'a>(bytes: &'a [u8], place: Range<usize>, key: &[u8]) -> Result<Option<Entry<'a>>, Fault> {
+    let mut found = None;
+    for entry in entries(bytes, place) {
+        let entry = entry?;
+        if entry.key == key {
+            found = Some(entry);
+        }
+    }
+    Ok(found)
 }
 
-/// The entries of the Struct at this place, in order; all their places and that of a fault are offsets into the bytes.
-pub fn read_struct_at(bytes: &[u8], place: Range<usize>) -> Result<Vec<Entry>, Fault> {
+/// The entries of the Struct at this place, in order; nothing counts behind the first fault.
+pub fn entries(bytes: &[u8], place: Range<usize>) -> impl Iterator<Item = Result<Entry<'_>, Fault>> {
     Reader { bytes }.entries(place, 1)
+}
+
+/// All entries of a lent Struct, in order.
+pub fn read_struct(bytes: &[u8]) -> Result<Vec<Entry<'_>>, Fault> {
+    entries(bytes, 0..bytes.len()).collect()
+}
+
+/// The Values of the list at this place, in order; nothing counts behind the first fault.
+pub fn items(bytes: &[u8], place: Range<usize>) -> impl Iterator<Item = Result<Value, Fault>> + '_ {
+    Reader { bytes }.items(place, 1)
 }
 
 /// What a lent Value holds; its own Struct or list is level 1.
@@ -77,26 +94,63 @@ pub fn read_value(bytes: &[u8]) -> Result<Value, Fault> {
     Reader { bytes }.value(0..bytes.len(), 0)
 }
 
+/// How many keys of a Struct are kept while it is read.
+const KEPT_KEYS: usize = 16;
+
+/// The keys of the entries of a Struct that were read: the first are kept, and the others read again when asked for, so
+/// that no Struct needs more memory than another.
+struct Keys<'a> {
+    bytes: &'a [u8],
+    kept: [&'a [u8]; KEPT_KEYS],
+    count: usize,
+    /// The place of the entries whose keys are not kept.
+    others: Range<usize>,
+}
+
+impl<'a> Keys<'a> {
+    /// Adds the key of the entry that this field is.
+    fn add(&mut self, key: &'a [u8], entry: &Field) {
+        if self.count < KEPT_KEYS {
+            self.kept[self.count] = key;
+            self.count += 1;
+        } else {
+            self.others = self.others.start.min(entry.at)..entry.payload.end;
+        }
+    }
+
+    fn have(&self, key: &[u8]) -> bool {
+        let mut others = wire::fields(self.bytes, self.others.clone()).flatten();
+        self.kept[..self.count].contains(&key) || others.any(|entry| self.key_of(entry.payload) == key)
+    }
+
+    /// The key of an entry that was read, which is the empty one where it says none.
+    fn key_of(&self, entry: Range<usize>) -> &'a [u8] {
+        let key = wire::fields(self.bytes, entry).flatten().find(|field| field.number == KEY);
+        key.map_or(&[], |key| &self.bytes[key.payload])
+    }
+}
+
 /// Reads messages out of the lent bytes. A place is that of a message, a level the number of Structs and lists that
 /// nest there, the message itself included.
+#[derive(Clone, Copy)]
 struct Reader<'a> {
     bytes: &'a [u8],
 }
 
-impl Reader<'_> {
-    fn entries(&self, place: Range<usize>, level: usize) -> Result<Vec<Entry>, Fault> {
-        let mut entries = Vec::new();
-        for field in wire::fields(self.bytes, place) {
+impl<'a> Reader<'a> {
+    fn entries(self, place: Range<usize>, level: usize) -> impl Iterator<Item = Result<Entry<'a>, Fault>> {
+        let mut keys = Keys { bytes: self.bytes, kept: [&[]; KEPT_KEYS], count: 0, others: place.end..place.end };
+        wire::fields(self.bytes, place).map(move |field| {
             let field = field?;
             stands_in(IN_STRUCT, &field)?;
-            let entry = self.entry(field.payload, &entries, level)?;
-            entries.push(entry);
-        }
-        Ok(entries)
+            let entry = self.entry(field.payload.clone(), &keys, level)?;
+            keys.add(entry.key, &field);
+            Ok(entry)
+        })
     }
 
     /// An entry, whose key none of the entries before has.
-    fn entry(&self, place: Range<usize>, before: &[Entry], level: usize) -> Result<Entry, Fault> {
+    fn entry(self, place: Range<usize>, before: &Keys, level: usize) -> Result<Entry<'a>, Fault> {
         let end = place.end;
         let mut key = None;
         let mut value = None;
@@ -114,26 +168,26 @@ impl Reader<'_> {
             }
         }
         let at_end = |kind| Fault { kind, at: end };
-        if key.is_none() && has_key(before, &[]) {
+        if key.is_none() && before.have(&[]) {
             return Err(at_end(FaultKind::Repeated));
         }
         let (value, place) = value.ok_or(at_end(FaultKind::Other))?;
         Ok(Entry { key: key.unwrap_or_default(), value, place })
     }
 
-    fn key(&self, field: &Field, before: &[Entry]) -> Result<Vec<u8>, Fault> {
+    fn key(self, field: &Field, before: &Keys) -> Result<&'a [u8], Fault> {
         let key = &self.bytes[field.payload.clone()];
-        if has_key(before, key) {
+        if before.have(key) {
             return Err(field.fault(FaultKind::Repeated));
         }
         if !text::well_formed(key) {
             return Err(field.fault(FaultKind::BadText));
         }
-        Ok(key.to_vec())
+        Ok(key)
     }
 
     /// What a Value holds; `level` is that of the Struct or list around it, 0 where there is none.
-    fn value(&self, place: Range<usize>, level: usize) -> Result<Value, Fault> {
+    fn value(self, place: Range<usize>, level: usize) -> Result<Value, Fault> {
         let end = place.end;
         let mut held = None;
         for field in wire::fields(self.bytes, place) {
@@ -150,7 +204,7 @@ impl Reader<'_> {
     }
 
     /// Refuses a field that may not stand in its Value, given the number of the field that stood there before.
-    fn allowed_in_value(&self, field: &Field, held_before: Option<u64>) -> Result<(), Fault> {
+    fn allowed_in_value(self, field: &Field, held_before: Option<u64>) -> Result<(), Fault> {
         if held_before == Some(field.number) {
             return Err(field.fault(FaultKind::Repeated));
         }
@@ -169,7 +223,7 @@ impl Reader<'_> {
     }
 
     /// What a field of a Value holds.
-    fn held(&self, field: &Field, level: usize) -> Result<Value, Fault> {
+    fn held(self, field: &Field, level: usize) -> Result<Value, Fault> {
         let payload = field.payload.clone();
         if matches!(field.number, STRUCT | LIST) && level == MOST_LEVELS {
             return Err(field.fault(FaultKind::TooDeep));
@@ -179,19 +233,23 @@ impl Reader<'_> {
             NUMBER => Value::Number(little_endian(&self.bytes[payload])),
             TEXT => Value::Text(payload),
             BOOL => Value::Bool(field.value == 1),
-            STRUCT => Value::Struct(self.entries(payload, level + 1)?),
-            _ => Value::List(self.list(payload, level + 1)?),
+            STRUCT => {
+                self.entries(payload.clone(), level + 1).try_for_each(|entry| entry.map(drop))?;
+                Value::Struct(payload)
+            }
+            _ => {
+                self.items(payload.clone(), level + 1).try_for_each(|item| item.map(drop))?;
+                Value::List(payload)
+            }
         })
     }
 
-    fn list(&self, place: Range<usize>, level: usize) -> Result<Vec<Value>, Fault> {
-        let mut values = Vec::new();
-        for field in wire::fields(self.bytes, place) {
+    fn items(self, place: Range<usize>, level: usize) -> impl Iterator<Item = Result<Value, Fault>> + 'a {
+        wire::fields(self.bytes, place).map(move |field| {
             let field = field?;
             stands_in(IN_LIST, &field)?;
-            values.push(self.value(field.payload, level)?);
-        }
-        Ok(values)
+            self.value(field.payload, level)
+        })
     }
 }
 
@@ -202,10 +260,6 @@ pub fn stands_in(rules: &Rules, field: &Field) -> Result<(), Fault> {
         Some((_, wire_type)) if *wire_type != field.wire_type => Err(field.fault(FaultKind::WireType)),
         Some(_) => Ok(()),
     }
-}
-
-fn has_key(entries: &[Entry], key: &[u8]) -> bool {
-    entries.iter().any(|entry| entry.key == key)
 }
 
 fn little_endian(bytes: &[u8]) -> u64 {

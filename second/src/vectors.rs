@@ -104,19 +104,19 @@ mod tests {
             Value::Number(bits) => format!("d{bits:016x}"),
             Value::Text(place) => format!("t{}", to_hex(&bytes[place.clone()])),
             Value::Bool(truth) => format!("b{}", u8::from(*truth)),
-            Value::Struct(entries) => struct_contents(bytes, entries),
-            Value::List(values) => {
-                let values: Vec<String> = values.iter().map(|value| contents(bytes, value)).collect();
+            Value::Struct(place) => struct_contents(bytes, structs::entries(bytes, place.clone()).flatten().collect()),
+            Value::List(place) => {
+                let values = structs::items(bytes, place.clone()).flatten();
+                let values: Vec<String> = values.map(|value| contents(bytes, &value)).collect();
                 format!("[{}]", values.join(","))
             }
         }
     }
 
-    fn struct_contents(bytes: &[u8], entries: &[Entry]) -> String {
-        let mut sorted: Vec<&Entry> = entries.iter().collect();
-        sorted.sort_by_key(|entry| &entry.key);
-        let pair = |entry: &&Entry| format!("{}:{}", to_hex(&entry.key), contents(bytes, &entry.value));
-        let pairs: Vec<String> = sorted.iter().map(pair).collect();
+    fn struct_contents(bytes: &[u8], mut entries: Vec<Entry>) -> String {
+        entries.sort_by_key(|entry| entry.key);
+        let pair = |entry: &Entry| format!("{}:{}", to_hex(entry.key), contents(bytes, &entry.value));
+        let pairs: Vec<String> = entries.iter().map(pair).collect();
         format!("{{{}}}", pairs.join(","))
     }
 
@@ -126,7 +126,7 @@ mod tests {
         if vector.is_value() {
             return contents(bytes, &structs::read_value(bytes).expect("a readable Value"));
         }
-        struct_contents(bytes, &structs::read_struct(bytes).expect("a readable Struct"))
+        struct_contents(bytes, structs::read_struct(bytes).expect("a readable Struct"))
     }
 
     fn vectors_of(forms: [&str; 2]) -> Vec<Vector> {
@@ -178,8 +178,8 @@ mod tests {
                 continue;
             }
             let place = heard[5] as usize..(heard[5] + heard[6]) as usize;
-            let contents = match structs::read_struct_at(bytes, place.clone()) {
-                Ok(entries) if place != (0..0) => struct_contents(bytes, &entries),
+            let contents = match structs::entries(bytes, place.clone()).collect() {
+                Ok(entries) if place != (0..0) => struct_contents(bytes, entries),
                 _ => "-".to_string(),
             };
             assert_eq!((number, contents.as_str()), (0, vector.words[4]));

@@ -2,7 +2,7 @@
 
 use std::ops::Range;
 
-use crate::bytes;
+use crate::bytes::{self, Sink};
 
 /// The wire types that a field may have.
 pub const VARINT: u64 = 0;
@@ -42,27 +42,35 @@ pub struct Varint {
     pub length: usize,
 }
 
-/// The varint that the bytes begin with; at most ten bytes are looked at.
+/// The varint that the bytes begin with; at most ten bytes are looked at, and the tenth has one digit left, 0 or 1.
 pub fn read_varint(bytes: &[u8]) -> Result<Varint, FaultKind> {
-    let first_ten = &bytes[..bytes.len().min(MOST_VARINT)];
-    let Some(last) = first_ten.iter().position(|byte| *byte < 128) else {
-        let ten_are_there = first_ten.len() == MOST_VARINT;
-        return Err(if ten_are_there { FaultKind::BadVarint } else { FaultKind::CutShort });
-    };
-    let low_first = first_ten[..=last].iter().map(|byte| u128::from(byte % 128));
-    let value = low_first.rev().fold(0, |value, digit| 128 * value + digit);
-    match u64::try_from(value) {
-        Ok(value) => Ok(Varint { value, length: last + 1 }),
-        Err(_) => Err(FaultKind::BadVarint),
+    let mut value = 0;
+    for (place, byte) in bytes.iter().take(MOST_VARINT).enumerate() {
+        if place == MOST_VARINT - 1 && *byte > 1 {
+            return Err(FaultKind::BadVarint);
+        }
+        value |= u64::from(byte % 128) << (7 * place);
+        if *byte < 128 {
+            return Ok(Varint { value, length: place + 1 });
+        }
     }
+    Err(FaultKind::CutShort)
+}
+
+/// Puts the shortest varint of this number.
+pub fn put_varint(out: &mut impl Sink, mut number: u64) {
+    while number >= 128 {
+        out.put(&[(number % 128) as u8 + 128]);
+        number /= 128;
+    }
+    out.put(&[number as u8]);
 }
 
 /// The shortest varint of this number.
 pub fn varint(number: u64) -> Vec<u8> {
-    if number < 128 {
-        return vec![number as u8];
-    }
-    [&[(number % 128) as u8 + 128], &varint(number / 128)[..]].concat()
+    let mut bytes = Vec::new();
+    put_varint(&mut bytes, number);
+    bytes
 }
 
 /// `out` after the shortest varint of the number is stored in it from `at` on, and that varint's length; `out` is as
@@ -72,24 +80,42 @@ pub fn store_varint(out: &[u8], at: u64, number: u64) -> (u64, Vec<u8>) {
     (varint.len() as u64, bytes::copy(out, at, &varint))
 }
 
-/// The tag of a field, as the shortest varint.
-fn tag(number: u64, wire_type: u64) -> Vec<u8> {
-    varint(8 * number + wire_type)
+/// Puts the tag of a field, as the shortest varint.
+fn put_tag(out: &mut impl Sink, number: u64, wire_type: u64) {
+    put_varint(out, 8 * number + wire_type);
+}
+
+/// Puts a field that holds a varint.
+pub fn put_varint_field(out: &mut impl Sink, number: u64, value: u64) {
+    put_tag(out, number, VARINT);
+    put_varint(out, value);
+}
+
+/// Puts a field that holds eight bytes.
+pub fn put_eight_bytes_field(out: &mut impl Sink, number: u64, bytes: [u8; 8]) {
+    put_tag(out, number, EIGHT_BYTES);
+    out.put(&bytes);
+}
+
+/// Puts a field that holds these bytes behind their length.
+pub fn put_delimited_field(out: &mut impl Sink, number: u64, bytes: &[u8]) {
+    put_tag(out, number, LENGTH_DELIMITED);
+    put_varint(out, bytes.len() as u64);
+    out.put(bytes);
 }
 
 /// A field that holds a varint, as it is written.
 pub fn varint_field(number: u64, value: u64) -> Vec<u8> {
-    [tag(number, VARINT), varint(value)].concat()
-}
-
-/// A field that holds eight bytes, as it is written.
-pub fn eight_bytes_field(number: u64, bytes: [u8; 8]) -> Vec<u8> {
-    [&tag(number, EIGHT_BYTES)[..], &bytes].concat()
+    let mut field = Vec::new();
+    put_varint_field(&mut field, number, value);
+    field
 }
 
 /// A field that holds these bytes behind their length, as it is written.
 pub fn delimited_field(number: u64, bytes: &[u8]) -> Vec<u8> {
-    [&tag(number, LENGTH_DELIMITED)[..], &varint(bytes.len() as u64), bytes].concat()
+    let mut field = Vec::new();
+    put_delimited_field(&mut field, number, bytes);
+    field
 }
 
 /// A field that was read.
@@ -138,17 +164,30 @@ pub fn read_field(message: &[u8], at: usize) -> Result<Field, FaultKind> {
     Ok(Field { at, number, wire_type, value, payload: start..start + length as usize })
 }
 
-/// The fields of the message at this place, in order; where one cannot be read, its fault stands last.
-pub fn fields(bytes: &[u8], place: Range<usize>) -> Vec<Result<Field, Fault>> {
-    let message = &bytes[..place.end];
-    let mut fields = Vec::new();
-    let mut at = place.start;
-    while at < place.end {
-        let field = read_field(message, at).map_err(|kind| Fault { kind, at });
-        at = field.as_ref().map_or(place.end, |field| field.payload.end);
-        fields.push(field);
+/// The fields of a message, in order; where one cannot be read, its fault stands last.
+pub struct Fields<'a> {
+    /// The bytes up to the end of the message.
+    message: &'a [u8],
+    at: usize,
+}
+
+impl Iterator for Fields<'_> {
+    type Item = Result<Field, Fault>;
+
+    fn next(&mut self) -> Option<Result<Field, Fault>> {
+        let at = self.at;
+        if at >= self.message.len() {
+            return None;
+        }
+        let field = read_field(self.message, at).map_err(|kind| Fault { kind, at });
+        self.at = field.as_ref().map_or(self.message.len(), |field| field.payload.end);
+        Some(field)
     }
-    fields
+}
+
+/// The fields of the message at this place.
+pub fn fields(bytes: &[u8], place: Range<usize>) -> Fields<'_> {
+    Fields { message: &bytes[..place.end], at: place.start }
 }
 
 /// The number answered for the field at `at` in a message that ends at `end`: 0 or the kind of its fault; and its

@@ -34,7 +34,7 @@ impl Call for Make {
             Role::Client => self.limit,
             Role::Server => DEFAULT_LIMIT,
         };
-        Answer::bytes(endpoint::make(&self.block, self.role, self.flow, limit))
+        Answer::bytes(endpoint::made(&self.block, self.role, self.flow, limit))
     }
 }
 
@@ -77,7 +77,7 @@ impl Call for SendMessage {
     }
 
     fn answer(&self, before: &[Vec<u8>]) -> Answer {
-        let sent = endpoint::send(&self.block, &self.send, &before[0]);
+        let sent = endpoint::sent(&self.block, &self.send, &before[0]);
         let written = vec![Written::Bytes(sent.block), Written::Bytes(sent.out), Written::Numbers(vec![sent.written])];
         Answer { returned: sent.number, written }
     }
@@ -109,7 +109,7 @@ impl Call for Receive {
     }
 
     fn answer(&self, before: &[Vec<u8>]) -> Answer {
-        let received = endpoint::receive(&self.block, &self.message, &self.name, &self.format, &before[0]);
+        let received = endpoint::received(&self.block, &self.message, &self.name, &self.format, &before[0]);
         let heard = Written::Numbers(received.heard.to_vec());
         let written = vec![Written::Bytes(received.block), Written::Bytes(received.out), heard];
         Answer { returned: received.number, written }

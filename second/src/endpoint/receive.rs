@@ -1,6 +1,6 @@
 //! What an endpoint receives: the tests in their order, what is heard, the reply, and the state after it.
 
-use crate::bundle::{self, Place, BAD_BUNDLE};
+use crate::bundle::{self, Frames, Place, BAD_BUNDLE};
 use crate::control::{self, Control};
 use crate::control::{NO_CONTROL_FRAME, WRONG_TYPE, WRONG_VERSION};
 use crate::endpoint::{Entry, Phase, Role, State};
@@ -29,20 +29,11 @@ const REPLY_SLOT: usize = 3;
 const OPEN_SLOTS: usize = 5;
 const BODY_SLOTS: usize = 12;
 
-/// The whole answer to a receive: number, block and `out` afterwards, and what is heard.
-#[derive(Debug, PartialEq)]
-pub struct Received {
-    pub number: u64,
-    pub block: Vec<u8>,
-    pub out: Vec<u8>,
-    pub heard: Heard,
-}
-
 /// A message that passes 10 to 13.
 struct Message<'a> {
     bytes: &'a [u8],
     control: Control,
-    data_frames: Vec<Place>,
+    data_frames: Frames<'a>,
     size: u64,
 }
 
@@ -50,71 +41,74 @@ impl Message<'_> {
     fn is_confirmation(&self) -> bool {
         self.control.flags & ACK_REPLY != 0
     }
+
+    /// The place of its first data frame; the empty place at 0 where it has none.
+    fn data(&self) -> Place {
+        self.data_frames.clone().next().unwrap_or(Place { at: 0, length: 0 })
+    }
 }
 
-/// What comes of a message: it is heard, or refused with the first number that applies.
+/// Hears a message, or refuses it with the first number that applies; all of `heard` is written.
 ///
-/// The pipe name and format are those that a server offers. The first three refusals leave every byte as it was.
-pub fn receive(block: &[u8], bytes: &[u8], name: &[u8], format: &[u8], out: &[u8]) -> Received {
-    let unchanged = |number| Received { number, block: block.to_vec(), out: out.to_vec(), heard: [0; 16] };
-    let Some(state) = State::read(block) else {
-        return unchanged(BAD_BLOCK);
+/// The pipe name and format are those that a server offers. The first three refusals leave block and `out` as they were.
+pub fn receive(block: &mut [u8], bytes: &[u8], name: &[u8], format: &[u8], out: &mut [u8], heard: &mut Heard) -> u64 {
+    *heard = [0; 16];
+    let Some(mut state) = State::read(block) else {
+        return BAD_BLOCK;
     };
     if out.len() < REPLY {
-        return unchanged(SHORT_OUTPUT);
+        return SHORT_OUTPUT;
     }
     if state.phase == Phase::Closed {
-        return unchanged(IS_CLOSED);
+        return IS_CLOSED;
     }
-    let offer = Offer { producer: state.is_producer(), name: name.to_vec(), format: format.to_vec() };
-    let (number, after, mut heard, reply) = match hear(&state, bytes, &offer) {
-        Ok(Hearing { after, heard, reply }) => (0, after, heard, reply),
-        Err(number) => (number, state.closed(), [0; 16], refusal_reply(number, &state, bytes)),
+    let offer = Offer { producer: state.is_producer(), name, format };
+    let (number, reply) = match hear(&mut state, bytes, offer, heard) {
+        Ok(reply) => (0, reply),
+        Err(number) => {
+            let reply = refusal_reply(number, &state, bytes);
+            state.close();
+            *heard = [0; 16];
+            (number, reply)
+        }
     };
-    let reply = reply.and_then(|control| control::frame(&control));
-    let reply = reply.map_or(Vec::new(), |frame| bundle::of_frames(&[&frame]));
-    heard[REPLY_SLOT] = reply.len() as u64;
-    let out = [&reply[..], &out[reply.len()..]].concat();
-    Received { number, block: after.block(), out, heard }
+    if let Some(reply) = reply {
+        heard[REPLY_SLOT] = bundle::write(out, &reply, None) as u64;
+    }
+    state.store(block);
+    number
 }
 
-/// A message that is heard: the state after it, what is heard without the length of the reply, and the reply.
-struct Hearing {
-    after: State,
-    heard: Heard,
-    reply: Option<Control>,
-}
-
-/// What comes of a message to an endpoint that is not closed; else the first of 10 to 24 that applies.
-fn hear(state: &State, bytes: &[u8], offer: &Offer) -> Result<Hearing, u64> {
+/// Hears a message at an endpoint that is not closed, and answers with its reply; else the first of 10 to 24 that
+/// applies, with the state as it was.
+fn hear(state: &mut State, bytes: &[u8], offer: Offer<&[u8]>, heard: &mut Heard) -> Result<Option<Control>, u64> {
     let message = read(bytes)?;
     if message.control.message_type != CLOSE {
         may_come(state, &message)?;
     } else if state.phase == Phase::Fresh {
         return Err(NOT_ALLOWED);
     }
-    let mut heard = heard_of_any(&message);
-    let after = match message.control.message_type {
-        CLOSE => state.closed(),
-        OPEN => opened(state, &message, offer, &mut heard)?,
+    hear_any(&message, heard);
+    match message.control.message_type {
+        CLOSE => state.close(),
+        OPEN => opened(state, &message, offer, heard)?,
         READY => ready(state, message.control.type_data)?,
         _ if message.is_confirmation() => confirmed(state, &message.control)?,
         DATA => {
-            let body = &message.data_frames[0];
+            let body = message.data();
             heard[BODY_SLOTS..BODY_SLOTS + 2].copy_from_slice(&[body.at, body.length]);
-            state.one_less()
+            state.one_less();
         }
-        _ => state.clone(),
-    };
-    Ok(Hearing { after, heard, reply: confirmation(&message.control) })
+        _ => {}
+    }
+    Ok(confirmation(&message.control))
 }
 
 /// The message, or the first of 10 to 13 that applies.
 fn read(bytes: &[u8]) -> Result<Message<'_>, u64> {
     let mut frames = bundle::frames(bytes).ok_or(BAD_BUNDLE)?;
-    let size = frames.iter().map(|frame| frame.length).sum();
-    let first = frames.remove(0);
-    let control = control::read(&bytes[first.at as usize..(first.at + first.length) as usize])?;
+    let size = frames.size();
+    let control = control::read(frames.take_control(bytes))?;
     Ok(Message { bytes, control, data_frames: frames, size })
 }
 
@@ -126,7 +120,7 @@ fn may_come(state: &State, message: &Message) -> Result<(), u64> {
     if message.data_frames.len() != frames_needed(message) {
         return Err(WRONG_FRAMES);
     }
-    let long_open = message.control.message_type == OPEN && message.data_frames[0].length > MOST_OPEN;
+    let long_open = message.control.message_type == OPEN && message.data().length > MOST_OPEN;
     if message.size > state.limit.into() || long_open {
         return Err(TOO_LARGE);
     }
@@ -167,41 +161,40 @@ fn allowed(state: &State, message: &Message) -> bool {
     }
 }
 
-/// What is heard of any message: its type, flags and type-data, and how many data frames it has.
-fn heard_of_any(message: &Message) -> Heard {
+/// Hears what any message says: its type, flags and type-data, and how many data frames it has.
+fn hear_any(message: &Message, heard: &mut Heard) {
     let control = &message.control;
-    let mut heard = [0; 16];
     heard[..3].copy_from_slice(&[control.message_type.into(), control.flags.into(), control.type_data.into()]);
     heard[4] = message.data_frames.len() as u64;
-    heard
 }
 
-/// The state after an OPEN, of which socket and places are heard too; else the first of 18 to 22 that applies.
-fn opened(state: &State, message: &Message, offer: &Offer, heard: &mut Heard) -> Result<State, u64> {
-    let frame = &message.data_frames[0];
-    let (number, said) = open::heard(message.bytes, frame.at, frame.at + frame.length, offer);
-    if number != 0 {
-        return Err(number);
-    }
-    heard[OPEN_SLOTS..BODY_SLOTS].copy_from_slice(&said[..7]);
-    Ok(State { phase: Phase::Opening, limit: said[7] as u32, ..state.clone() })
+/// Hears an OPEN, of which socket and places are heard too; else the first of 18 to 22 that applies.
+fn opened(state: &mut State, message: &Message, offer: Offer<&[u8]>, heard: &mut Heard) -> Result<(), u64> {
+    let frame = message.data();
+    let said =
+        open::hear(message.bytes, frame.at, frame.at + frame.length, offer).map_err(|refusal| refusal.number())?;
+    heard[OPEN_SLOTS..BODY_SLOTS].copy_from_slice(&said.numbers());
+    (state.phase, state.limit) = (Phase::Opening, said.limit);
+    Ok(())
 }
 
-/// The state after a READY, which a server hears only up to what it offered.
-fn ready(state: &State, count: u16) -> Result<State, u64> {
+/// Hears a READY, a server only up to what it offered.
+fn ready(state: &mut State, count: u16) -> Result<(), u64> {
     match state.role {
-        Role::Client => Ok(state.ready(count, Phase::Offer)),
-        Role::Server if count > state.n => Err(ABOVE_OFFER),
-        Role::Server => Ok(state.ready(count, Phase::Batch)),
+        Role::Client => state.ready(count, Phase::Offer),
+        Role::Server if count > state.n => return Err(ABOVE_OFFER),
+        Role::Server => state.ready(count, Phase::Batch),
     }
+    Ok(())
 }
 
-/// The state after a confirmation of the oldest message that asked for one.
-fn confirmed(state: &State, control: &Control) -> Result<State, u64> {
+/// Hears a confirmation of the oldest message that asked for one.
+fn confirmed(state: &mut State, control: &Control) -> Result<(), u64> {
     let confirmed = Entry { message_type: control.message_type, type_data: control.type_data };
-    match state.awaited.split_first() {
-        Some((oldest, others)) if *oldest == confirmed => Ok(State { awaited: others.to_vec(), ..state.clone() }),
-        _ => Err(UNMATCHED),
+    if state.confirm(confirmed) {
+        Ok(())
+    } else {
+        Err(UNMATCHED)
     }
 }
 
@@ -234,6 +227,6 @@ fn refusal_reply(number: u64, state: &State, bytes: &[u8]) -> Option<Control> {
 
 /// The type in the control byte of a message that passes 10 and 11, whatever version stands beside it.
 fn message_type(bytes: &[u8]) -> u8 {
-    let frames = bundle::frames(bytes).expect("the bundle is good");
-    bytes[frames[0].at as usize + 4] / 8
+    let mut frames = bundle::frames(bytes).expect("the bundle is good");
+    control::message_type(frames.take_control(bytes))
 }

@@ -26,7 +26,7 @@ struct Session {
 
 impl Session {
     fn new(flow: Flow) -> Session {
-        let make = |role, flow: Flow| make(&[9; 64], role, flow as u8, 50_000_000).1;
+        let make = |role, flow: Flow| made(&[9; 64], role, flow as u8, 50_000_000).1;
         Session {
             blocks: [make(Role::Client, flow), make(Role::Server, flow.other())],
             inboxes: [Vec::new(), Vec::new()],
@@ -51,7 +51,7 @@ impl Session {
 
     /// The session after a send; nothing where that is refused.
     fn after_send(&self, end: usize, send: &Send) -> Option<Session> {
-        let sent = super::send(&self.blocks[end], send, &[0; 60]);
+        let sent = super::sent(&self.blocks[end], send, &[0; 60]);
         if sent.number != 0 {
             return None;
         }
@@ -74,7 +74,7 @@ impl Session {
             return None;
         }
         let message = after.inboxes[end].remove(0);
-        let received = receive(&self.blocks[end], &message, b"pipe", b"", &[0; 14]);
+        let received = received(&self.blocks[end], &message, b"pipe", b"", &[0; 14]);
         assert_eq!(received.number, if self.has_closed[end] { IS_CLOSED } else { 0 }, "{message:?}");
         after.blocks[end] = received.block;
         if received.heard[3] != 0 {

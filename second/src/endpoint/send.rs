@@ -1,7 +1,7 @@
 //! What an endpoint sends: whether it may, the message, and the state after it.
 
 use crate::bundle;
-use crate::control::{self, Control};
+use crate::control::{Control, CONTROL_FRAME};
 use crate::endpoint::{Entry, Phase, Role, State, MOST_AWAITED};
 use crate::endpoint::{ACK_REQUEST, BAD_BLOCK, CLOSE, DATA, IS_CLOSED, NOOP, OPEN, READY, SHORT_OUTPUT};
 use crate::open::{self, Opening, BAD_GIVEN};
@@ -13,84 +13,72 @@ pub const TOO_MANY_ASKS: u64 = 32;
 pub const TOO_LARGE: u64 = 33;
 pub const BAD_CODE: u64 = 35;
 
-/// The bytes of a control frame, which count in a message's size.
-const CONTROL: u64 = 8;
-
 /// A send with what the host gives for it. An ask is any number but 0.
 #[derive(Clone, Debug)]
-pub enum Send {
-    Open { name: Vec<u8>, format: Vec<u8> },
+pub enum Send<Bytes = Vec<u8>> {
+    Open { name: Bytes, format: Bytes },
     Ready { count: u16 },
-    Data { type_data: u16, ask: u8, body: Vec<u8> },
+    Data { type_data: u16, ask: u8, body: Bytes },
     Noop { type_data: u16, ask: u8 },
     Close { code: u16 },
 }
 
-/// The whole answer to a send: number, block and `out` afterwards, and the bytes of `out` that are the message.
-#[derive(Debug, PartialEq)]
-pub struct Sent {
-    pub number: u64,
-    pub block: Vec<u8>,
-    pub out: Vec<u8>,
-    pub written: u64,
-}
-
-/// What comes of a send: its message at the start of `out` and the state after it, or the first number that applies and
-/// every byte as it was.
-pub fn send(block: &[u8], send: &Send, out: &[u8]) -> Sent {
-    match message(block, send, out.len()) {
-        Ok((state, message)) => {
-            let out = [&message[..], &out[message.len()..]].concat();
-            Sent { number: 0, block: state.block(), out, written: message.len() as u64 }
+impl Send {
+    /// The same send with its bytes lent.
+    pub fn lent(&self) -> Send<&[u8]> {
+        match self {
+            Send::Open { name, format } => Send::Open { name, format },
+            Send::Ready { count } => Send::Ready { count: *count },
+            Send::Data { type_data, ask, body } => Send::Data { type_data: *type_data, ask: *ask, body },
+            Send::Noop { type_data, ask } => Send::Noop { type_data: *type_data, ask: *ask },
+            Send::Close { code } => Send::Close { code: *code },
         }
-        Err(number) => Sent { number, block: block.to_vec(), out: out.to_vec(), written: 0 },
     }
 }
 
-/// The state after a send and its message, which fits into so many bytes; else the first number that applies.
-fn message(block: &[u8], send: &Send, room: usize) -> Result<(State, Vec<u8>), u64> {
-    let state = State::read(block).ok_or(BAD_BLOCK)?;
-    let refusal = TESTS.iter().find(|(_, applies)| applies(&state, send));
-    if let Some((number, _)) = refusal {
-        return Err(*number);
-    }
-    let message = bytes(&state, send);
-    if message.len() > room {
-        return Err(SHORT_OUTPUT);
-    }
-    Ok((after(&state, send), message))
+/// Sends: writes the message at the start of `out` and says how many bytes it has; else the first number that applies,
+/// with every byte as it was.
+pub fn send(block: &mut [u8], send: Send<&[u8]>, out: &mut [u8]) -> Result<usize, u64> {
+    let mut state = State::read(block).ok_or(BAD_BLOCK)?;
+    may_send(&state, &send)?;
+    let written = write(&state, &send, out)?;
+    apply(&mut state, &send);
+    state.store(block);
+    Ok(written)
 }
 
-/// Whether a send is refused.
-type Test = fn(&State, &Send) -> bool;
+/// Refuses with this number where it applies.
+fn refuse(number: u64, applies: bool) -> Result<(), u64> {
+    if applies {
+        Err(number)
+    } else {
+        Ok(())
+    }
+}
 
-/// The tests between the block and the output, in their order.
-const TESTS: [(u64, Test); 7] = [
-    (IS_CLOSED, |state, _| state.phase == Phase::Closed),
-    (NOT_ALLOWED, |state, send| !allowed(state, send)),
-    (ABOVE_OFFER, above_offer),
-    (TOO_MANY_ASKS, |state, send| entry(send).is_some() && state.awaited.len() == MOST_AWAITED),
-    (TOO_LARGE, too_large),
-    (BAD_GIVEN, bad_given),
-    (BAD_CODE, |state, send| matches!(send, Send::Close { code } if !is_code(state, *code))),
-];
+/// Refuses a send with the first of 3, 30 to 33 and 35 that applies. Only an OPEN can be refused as 34, which is told
+/// where its message is written.
+fn may_send(state: &State, send: &Send<&[u8]>) -> Result<(), u64> {
+    refuse(IS_CLOSED, state.phase == Phase::Closed)?;
+    refuse(NOT_ALLOWED, !allowed(state, send))?;
+    refuse(ABOVE_OFFER, above_offer(state, send))?;
+    refuse(TOO_MANY_ASKS, entry(send).is_some() && state.awaited.len() == MOST_AWAITED)?;
+    refuse(TOO_LARGE, too_large(state, send))?;
+    refuse(BAD_CODE, matches!(send, Send::Close { code } if !is_code(state, *code)))
+}
 
 /// A client says READY up to what the server offered; a server offers what it likes.
-fn above_offer(state: &State, send: &Send) -> bool {
+fn above_offer(state: &State, send: &Send<&[u8]>) -> bool {
     matches!(send, Send::Ready { count } if state.role == Role::Client && *count > state.n)
 }
 
 /// Only DATA is measured: the OPEN frame that an endpoint writes is always short enough.
-fn too_large(state: &State, send: &Send) -> bool {
-    matches!(send, Send::Data { body, .. } if CONTROL + body.len() as u64 > state.limit.into())
-}
-
-fn bad_given(state: &State, send: &Send) -> bool {
-    matches!(send, Send::Open { name, format } if open_frame(state, name, format).is_none())
+fn too_large(state: &State, send: &Send<&[u8]>) -> bool {
+    matches!(send, Send::Data { body, .. } if CONTROL_FRAME + body.len() > state.limit as usize)
 }
 
 /// Whether role, flow and phase allow a send.
-fn allowed(state: &State, send: &Send) -> bool {
+fn allowed(state: &State, send: &Send<&[u8]>) -> bool {
     match send {
         Send::Open { .. } => state.role == Role::Client && state.phase == Phase::Fresh,
         Send::Ready { .. } => match state.role {
@@ -110,7 +98,7 @@ fn is_code(state: &State, code: u16) -> bool {
 }
 
 /// The entry that a send adds: that of a DATA or NOOP with an ask.
-fn entry(send: &Send) -> Option<Entry> {
+fn entry(send: &Send<&[u8]>) -> Option<Entry> {
     let (message_type, type_data, ask) = match send {
         Send::Data { type_data, ask, .. } => (DATA, *type_data, *ask),
         Send::Noop { type_data, ask } => (NOOP, *type_data, *ask),
@@ -119,42 +107,40 @@ fn entry(send: &Send) -> Option<Entry> {
     (ask != 0).then_some(Entry { message_type, type_data })
 }
 
-/// The state after a send that is accepted.
-fn after(state: &State, send: &Send) -> State {
-    let mut after = match send {
-        Send::Open { .. } => State { phase: Phase::Opening, ..state.clone() },
+/// What an accepted send makes of the state.
+fn apply(state: &mut State, send: &Send<&[u8]>) {
+    match send {
+        Send::Open { .. } => state.phase = Phase::Opening,
         Send::Ready { count } => match state.role {
             Role::Client => state.ready(*count, Phase::Batch),
             Role::Server => state.ready(*count, Phase::Offer),
         },
         Send::Data { .. } => state.one_less(),
-        Send::Noop { .. } => state.clone(),
-        Send::Close { .. } => state.closed(),
-    };
-    after.awaited.extend(entry(send));
-    after
+        Send::Noop { .. } => {}
+        Send::Close { .. } => state.close(),
+    }
+    if let Some(entry) = entry(send) {
+        state.awaited.push(entry);
+    }
 }
 
-/// The OPEN frame of this endpoint; nothing where the name or format is bad.
-fn open_frame(state: &State, name: &[u8], format: &[u8]) -> Option<Vec<u8>> {
-    let (name, format) = (name.to_vec(), format.to_vec());
-    open::frame(&Opening { producer: state.is_producer(), name, format, limit: state.limit })
-}
-
-/// The message of a send that is accepted.
-fn bytes(state: &State, send: &Send) -> Vec<u8> {
+/// Writes the message of a send, and says how many bytes it has; else that name or format is bad, or `out` too short.
+fn write(state: &State, send: &Send<&[u8]>, out: &mut [u8]) -> Result<usize, u64> {
     let flags = if entry(send).is_some() { ACK_REQUEST } else { 0 };
-    let control = |message_type, type_data| {
-        control::frame(&Control { message_type, flags, type_data }).expect("the types are 1 to 5")
-    };
-    match send {
+    let control = |message_type, type_data| Control { message_type, flags, type_data };
+    let written = match *send {
         Send::Open { name, format } => {
-            let frame = open_frame(state, name, format).expect("a bad name or format is refused before");
-            bundle::of_frames(&[&control(OPEN, 0), &frame])
+            let opening = Opening { producer: state.is_producer(), name, format, limit: state.limit };
+            let frame = open::written(opening).ok_or(BAD_GIVEN)?;
+            bundle::write(out, &control(OPEN, 0), Some(&frame))
         }
-        Send::Ready { count } => bundle::of_frames(&[&control(READY, *count)]),
-        Send::Data { type_data, body, .. } => bundle::of_frames(&[&control(DATA, *type_data), body]),
-        Send::Noop { type_data, .. } => bundle::of_frames(&[&control(NOOP, *type_data)]),
-        Send::Close { code } => bundle::of_frames(&[&control(CLOSE, *code)]),
+        Send::Ready { count } => bundle::write(out, &control(READY, count), None),
+        Send::Data { type_data, body, .. } => bundle::write(out, &control(DATA, type_data), Some(body)),
+        Send::Noop { type_data, .. } => bundle::write(out, &control(NOOP, type_data), None),
+        Send::Close { code } => bundle::write(out, &control(CLOSE, code), None),
+    };
+    match written {
+        0 => Err(SHORT_OUTPUT),
+        written => Ok(written),
     }
 }

@@ -1,8 +1,8 @@
 //! The state of an endpoint, and the block of 64 bytes that says it.
 
+use std::fmt;
 use std::ops::RangeInclusive;
 
-use crate::bytes;
 use crate::endpoint::{DATA, NOOP};
 
 /// The bytes of a block, of an entry, and where the entries begin.
@@ -10,8 +10,9 @@ pub const BLOCK: usize = 64;
 const ENTRY: usize = 3;
 const ENTRIES_AT: usize = 16;
 
-/// The most confirmations that are awaited at a time.
+/// The most confirmations that are awaited at a time, and the bytes of so many entries.
 pub const MOST_AWAITED: usize = 16;
+const ENTRIES: usize = ENTRY * MOST_AWAITED;
 
 /// The limits that an endpoint may have.
 pub const LIMITS: RangeInclusive<u32> = 1_000_000..=50_000_000;
@@ -87,7 +88,86 @@ pub struct Entry {
     pub type_data: u16,
 }
 
-/// What a good block says. The number of entries is W; the oldest stands first.
+impl Entry {
+    fn of(bytes: &[u8]) -> Entry {
+        Entry { message_type: bytes[0], type_data: u16::from_be_bytes([bytes[1], bytes[2]]) }
+    }
+
+    fn bytes(self) -> [u8; ENTRY] {
+        let [high, low] = self.type_data.to_be_bytes();
+        [self.message_type, high, low]
+    }
+}
+
+/// The confirmations that are awaited, the oldest first, in the bytes that a block has for them: those behind the last
+/// entry are zero.
+#[derive(Clone, PartialEq)]
+pub struct Awaited {
+    count: usize,
+    bytes: [u8; ENTRIES],
+}
+
+impl Awaited {
+    pub const NONE: Awaited = Awaited { count: 0, bytes: [0; ENTRIES] };
+
+    /// The first so many entries; nothing where they are too many or the others are not zero.
+    fn read(bytes: &[u8; ENTRIES], count: usize) -> Option<Awaited> {
+        let others = bytes.get(ENTRY * count..)?;
+        (*others == [0; ENTRIES][..others.len()]).then_some(Awaited { count, bytes: *bytes })
+    }
+
+    pub fn len(&self) -> usize {
+        self.count
+    }
+
+    pub fn is_empty(&self) -> bool {
+        self.count == 0
+    }
+
+    pub fn iter(&self) -> impl ExactSizeIterator<Item = Entry> + '_ {
+        self.bytes[..ENTRY * self.count].chunks_exact(ENTRY).map(Entry::of)
+    }
+
+    pub fn oldest(&self) -> Option<Entry> {
+        self.iter().next()
+    }
+
+    /// These and one more, for which there must be room.
+    pub fn push(&mut self, entry: Entry) {
+        let at = ENTRY * self.count;
+        self.bytes[at..at + ENTRY].copy_from_slice(&entry.bytes());
+        self.count += 1;
+    }
+
+    /// These without the oldest.
+    fn drop_oldest(&mut self) {
+        self.bytes.copy_within(ENTRY.., 0);
+        self.bytes[ENTRIES - ENTRY..].fill(0);
+        self.count -= 1;
+    }
+
+    /// Only the oldest so many of these.
+    pub fn truncate(&mut self, most: usize) {
+        self.count = self.count.min(most);
+        self.bytes[ENTRY * self.count..].fill(0);
+    }
+}
+
+impl FromIterator<Entry> for Awaited {
+    fn from_iter<T: IntoIterator<Item = Entry>>(entries: T) -> Awaited {
+        let mut awaited = Awaited::NONE;
+        entries.into_iter().for_each(|entry| awaited.push(entry));
+        awaited
+    }
+}
+
+impl fmt::Debug for Awaited {
+    fn fmt(&self, f: &mut fmt::Formatter) -> fmt::Result {
+        f.debug_list().entries(self.iter()).finish()
+    }
+}
+
+/// What a good block says. The number of confirmations awaited is W.
 #[derive(Clone, Debug, PartialEq)]
 pub struct State {
     pub role: Role,
@@ -95,63 +175,66 @@ pub struct State {
     pub phase: Phase,
     pub n: u16,
     pub limit: u32,
-    pub awaited: Vec<Entry>,
+    pub awaited: Awaited,
 }
 
 impl State {
     /// An endpoint that has sent and received nothing.
     pub fn fresh(role: Role, flow: Flow, limit: u32) -> State {
-        State { role, flow, phase: Phase::Fresh, n: 0, limit, awaited: Vec::new() }
+        State { role, flow, phase: Phase::Fresh, n: 0, limit, awaited: Awaited::NONE }
     }
 
     pub fn is_producer(&self) -> bool {
         self.flow == Flow::Producer
     }
 
-    /// The state after a CLOSE either way, or after a refusal that closes.
-    pub fn closed(&self) -> State {
-        State { phase: Phase::Closed, n: 0, awaited: Vec::new(), ..self.clone() }
+    /// A CLOSE either way, or a refusal that closes.
+    pub fn close(&mut self) {
+        (self.phase, self.n, self.awaited) = (Phase::Closed, 0, Awaited::NONE);
     }
 
-    /// The state after a READY: idle where its count is 0, else in this phase with so many messages.
-    pub fn ready(&self, count: u16, phase: Phase) -> State {
-        State { phase: if count == 0 { Phase::Idle } else { phase }, n: count, ..self.clone() }
+    /// A READY either way: idle where its count is 0, else in this phase with so many messages.
+    pub fn ready(&mut self, count: u16, phase: Phase) {
+        (self.phase, self.n) = (if count == 0 { Phase::Idle } else { phase }, count);
     }
 
-    /// The state after a DATA either way: one message less, and idle behind the last.
-    pub fn one_less(&self) -> State {
-        self.ready(self.n - 1, Phase::Batch)
+    /// A DATA either way: one message less, and idle behind the last.
+    pub fn one_less(&mut self) {
+        self.ready(self.n - 1, Phase::Batch);
     }
 
-    /// The block that says this state.
-    pub fn block(&self) -> Vec<u8> {
-        let mut block = vec![self.role as u8, self.flow as u8, self.phase as u8, self.awaited.len() as u8];
-        block.extend(bytes::big_endian(2, self.n.into()));
-        block.extend([0; 2]);
-        block.extend(bytes::big_endian(4, self.limit.into()));
-        block.extend([0; 4]);
-        for entry in &self.awaited {
-            block.push(entry.message_type);
-            block.extend(bytes::big_endian(2, entry.type_data.into()));
+    /// A confirmation of the oldest message that asked for one; whether it is one.
+    pub fn confirm(&mut self, confirmed: Entry) -> bool {
+        let matches = self.awaited.oldest() == Some(confirmed);
+        if matches {
+            self.awaited.drop_oldest();
         }
-        block.resize(BLOCK, 0);
-        block
+        matches
+    }
+
+    /// Stores the state in its block.
+    pub fn store(&self, block: &mut [u8]) {
+        block[..4].copy_from_slice(&[self.role as u8, self.flow as u8, self.phase as u8, self.awaited.len() as u8]);
+        block[4..6].copy_from_slice(&self.n.to_be_bytes());
+        block[6..8].fill(0);
+        block[8..12].copy_from_slice(&self.limit.to_be_bytes());
+        block[12..ENTRIES_AT].fill(0);
+        block[ENTRIES_AT..].copy_from_slice(&self.awaited.bytes);
     }
 
     /// The state that a block says; nothing where it is not 64 bytes or not good.
     pub fn read(block: &[u8]) -> Option<State> {
-        if block.len() != BLOCK {
-            return None;
-        }
+        let block: &[u8; BLOCK] = block.try_into().ok()?;
+        let (head, entries) = block.split_at(ENTRIES_AT);
         let state = State {
-            role: Role::of(block[0])?,
-            flow: Flow::of(block[1])?,
-            phase: Phase::of(block[2])?,
-            n: bytes::number(&block[4..6]) as u16,
-            limit: bytes::number(&block[8..12]) as u32,
-            awaited: read_entries(&block[ENTRIES_AT..], block[3].into())?,
+            role: Role::of(head[0])?,
+            flow: Flow::of(head[1])?,
+            phase: Phase::of(head[2])?,
+            n: u16::from_be_bytes([head[4], head[5]]),
+            limit: u32::from_be_bytes([head[8], head[9], head[10], head[11]]),
+            awaited: Awaited::read(entries.try_into().ok()?, head[3].into())?,
         };
-        let zeros = is_zero(&block[6..8]) && is_zero(&block[12..16]);
+        let zeros = head[6..8] == [0; 2] && head[12..] == [0; 4];
         (zeros && state.is_good()).then_some(state)
     }
 
@@ -159,25 +242,11 @@ impl State {
     fn is_good(&self) -> bool {
         let counted = self.phase.counts() == (self.n != 0);
         let may_await = self.phase.is_running() || self.awaited.is_empty();
-        let awaits = |entry: &Entry| match entry.message_type {
+        let awaits = |entry: Entry| match entry.message_type {
             NOOP => true,
             DATA => self.is_producer(),
             _ => false,
         };
         counted && may_await && self.awaited.iter().all(awaits) && LIMITS.contains(&self.limit)
     }
-}
-
-/// The first so many entries; nothing where they are too many or the others are not zero.
-fn read_entries(entries: &[u8], count: usize) -> Option<Vec<Entry>> {
-    if count > MOST_AWAITED {
-        return None;
-    }
-    let (awaited, others) = entries.split_at(ENTRY * count);
-    let entry = |bytes: &[u8]| Entry { message_type: bytes[0], type_data: bytes::number(&bytes[1..]) as u16 };
-    is_zero(others).then(|| awaited.chunks(ENTRY).map(entry).collect())
-}
-
-fn is_zero(bytes: &[u8]) -> bool {
-    bytes.iter().all(|byte| *byte == 0)
 }

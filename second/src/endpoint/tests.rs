@@ -16,8 +16,8 @@ const RUNNING: &[Phase] = &[Idle, Offer, Batch];
 /// A state with 4 messages where they are counted, and with one NOOP awaited where that may be.
 fn state(role: Role, flow: Flow, phase: Phase) -> State {
     let n = if phase.counts() { 4 } else { 0 };
-    let awaited = if phase.is_running() { vec![Entry { message_type: NOOP, type_data: 0x0102 }] } else { Vec::new() };
-    State { role, flow, phase, n, limit: 2_000_000, awaited }
+    let awaited = phase.is_running().then_some(Entry { message_type: NOOP, type_data: 0x0102 });
+    State { role, flow, phase, n, limit: 2_000_000, awaited: awaited.into_iter().collect() }
 }
 
 fn every_state() -> Vec<State> {
@@ -50,16 +50,16 @@ fn opening(flow: Flow, name: &[u8], format: &[u8]) -> Vec<u8> {
     message(OPEN, 0, 0, &[&open::frame(&opening).unwrap()])
 }
 
-fn receive_at(state: &State, message: &[u8]) -> receive::Received {
-    receive(&state.block(), message, b"pipe", b"text", &[7; 20])
+fn receive_at(state: &State, message: &[u8]) -> copies::Received {
+    received(&state.block(), message, b"pipe", b"text", &[7; 20])
 }
 
 fn number_at(state: &State, message: &[u8]) -> u64 {
     receive_at(state, message).number
 }
 
-fn send_from(state: &State, send: &Send) -> send::Sent {
-    super::send(&state.block(), send, &[7; 600])
+fn send_from(state: &State, send: &Send) -> copies::Sent {
+    sent(&state.block(), send, &[7; 600])
 }
 
 #[test]
@@ -68,8 +68,8 @@ fn a_block_says_its_state_byte_by_byte() {
     expected.extend([4, 0xAB, 0xCD, 3, 0, 1]);
     expected.resize(64, 0);
     let awaited = [(DATA, 0xABCD), (NOOP, 1)].map(|(message_type, type_data)| Entry { message_type, type_data });
-    let state =
-        State { role: Server, flow: Producer, phase: Batch, n: 0x1234, limit: 1_000_000, awaited: awaited.to_vec() };
+    let awaited = awaited.into_iter().collect();
+    let state = State { role: Server, flow: Producer, phase: Batch, n: 0x1234, limit: 1_000_000, awaited };
     assert_eq!(state.block(), expected);
     assert_eq!(State::read(&expected), Some(state));
 }
@@ -133,24 +133,24 @@ fn the_ends_of_the_ranges_are_good() {
         state.limit = limit;
         assert!(State::read(&state.block()).is_none());
     }
-    state =
-        State { n: 65_535, limit: 1_000_000, awaited: vec![Entry { message_type: DATA, type_data: 9 }; 16], ..state };
+    let awaited = [Entry { message_type: DATA, type_data: 9 }; 16].into_iter().collect();
+    state = State { n: 65_535, limit: 1_000_000, awaited, ..state };
     assert!(State::read(&state.block()).is_some());
 }
 
 #[test]
 fn endpoints_are_made_whatever_the_block_was() {
-    let (number, block) = make(&[9; 64], Client, 2, 1_000_000);
+    let (number, block) = made(&[9; 64], Client, 2, 1_000_000);
     assert_eq!((number, block[..12].to_vec()), (0, vec![1, 2, 0, 0, 0, 0, 0, 0, 0x00, 0x0F, 0x42, 0x40]));
     assert_eq!(block[12..], [0; 52]);
-    let (number, block) = make(&[9; 64], Server, 1, 50_000_000);
+    let (number, block) = made(&[9; 64], Server, 1, 50_000_000);
     assert_eq!((number, block[..12].to_vec()), (0, vec![2, 1, 0, 0, 0, 0, 0, 0, 0x02, 0xFA, 0xF0, 0x80]));
     for (length, flow, limit, number) in
         [(63, 0, 0, 1), (65, 1, 1_000_000, 1), (64, 0, 1_000_000, 34), (64, 3, 1_000_000, 34), (64, 1, 999_999, 34)]
     {
-        assert_eq!(make(&vec![9; length], Client, flow, limit), (number, vec![9; length]));
+        assert_eq!(made(&vec![9; length], Client, flow, limit), (number, vec![9; length]));
     }
-    assert_eq!(make(&[9; 64], Client, 1, 50_000_001).0, 34);
+    assert_eq!(made(&[9; 64], Client, 1, 50_000_001).0, 34);
 }
 
 /// A row of the table of sends: the send, who may send it, in which phases, what it writes, and the state after it.
@@ -171,8 +171,8 @@ fn ready_rows<'a>() -> Vec<SendRow<'a>> {
     ]
 }
 
-fn awaiting(before: &State, message_type: u8, type_data: u16) -> Vec<Entry> {
-    [&before.awaited[..], &[Entry { message_type, type_data }]].concat()
+fn awaiting(before: &State, message_type: u8, type_data: u16) -> Awaited {
+    before.awaited.iter().chain([Entry { message_type, type_data }]).collect()
 }
 
 fn other_rows<'a>() -> Vec<SendRow<'a>> {
@@ -263,13 +263,13 @@ fn codes_of_a_close() {
 #[test]
 fn sends_test_3_30_31_32_33_34_35_2_in_this_order() {
     let refused = |state: &State, send: &Send, room: usize| {
-        let sent = super::send(&state.block(), send, &vec![7; room]);
+        let sent = super::sent(&state.block(), send, &vec![7; room]);
         assert_eq!((sent.block, sent.out, sent.written), (state.block(), vec![7; room], 0));
         sent.number
     };
-    let full = vec![Entry { message_type: NOOP, type_data: 1 }; 16];
+    let full = [Entry { message_type: NOOP, type_data: 1 }; 16].into_iter().collect();
     let over = Send::Data { type_data: 0, ask: 1, body: vec![0; 1_999_993] };
-    let batch = State { awaited: full.clone(), ..state(Client, Producer, Batch) };
+    let batch = State { awaited: full, ..state(Client, Producer, Batch) };
     assert_eq!(refused(&State { flow: Consumer, ..batch.clone() }, &over, 0), 30);
     assert_eq!(refused(&batch, &over, 0), 32);
     assert_eq!(refused(&state(Client, Producer, Batch), &over, 0), 33);
@@ -288,7 +288,7 @@ fn sends_test_3_30_31_32_33_34_35_2_in_this_order() {
     let name = Send::Open { name: b"n".to_vec(), format: Vec::new() };
     assert_eq!(refused(&state(Client, Producer, Fresh), &name, 18), 2);
     assert_eq!(refused(&state(Client, Producer, Closed), &bad_name, 0), 3);
-    assert_eq!(super::send(&[0; 64], &bad_name, &[]).number, 1);
+    assert_eq!(super::sent(&[0; 64], &bad_name, &[]).number, 1);
 }
 
 /// A row of the table of messages: the message, who hears it, in which phases, and the state after it.
@@ -297,7 +297,7 @@ type ReceiveRow<'a> = (Vec<u8>, &'a [Role], &'a [Flow], &'a [Phase], Box<dyn Fn(
 fn receive_rows<'a>() -> Vec<ReceiveRow<'a>> {
     let ready = |count| message(READY, 0, count, &[]);
     let same: fn(&State) -> State = State::clone;
-    let confirmed = |before: &State| State { awaited: Vec::new(), ..before.clone() };
+    let confirmed = |before: &State| State { awaited: Awaited::NONE, ..before.clone() };
     let any = &[Opened, Idle, Offer, Batch];
     vec![
         (ready(0), &[Client], FLOWS, &[Opened, Idle], Box::new(after(Idle, 0))),
@@ -469,13 +469,13 @@ fn receives_test_1_2_3_10_in_this_order() {
     let mut bad = closed.clone();
     bad[6] = 1;
     for (block, room, number) in [(&bad, 0, 1), (&closed, 13, 2), (&closed, 14, 3)] {
-        let received = receive(block, &[], b"", b"", &vec![7; room]);
+        let received = received(block, &[], b"", b"", &vec![7; room]);
         assert_eq!((received.number, &received.block), (number, block));
         assert_eq!((received.out, received.heard), (vec![7; room], [0; 16]));
     }
     let fresh = state(Server, Producer, Fresh).block();
-    assert_eq!(receive(&fresh, &[], b"", b"", &[7; 13]).number, 2);
-    assert_eq!(receive(&fresh, &[], b"", b"", &[7; 14]).number, 10);
+    assert_eq!(received(&fresh, &[], b"", b"", &[7; 13]).number, 2);
+    assert_eq!(received(&fresh, &[], b"", b"", &[7; 14]).number, 10);
 }
 
 /// Each message is refused for all that is wrong with it, one number after the other.
@@ -494,10 +494,10 @@ fn receives_test_14_to_17_in_this_order() {
 #[test]
 fn confirmations_go_to_the_oldest_entry_and_leave_n() {
     let entry = |message_type, type_data| Entry { message_type, type_data };
-    let awaited = vec![entry(DATA, 7), entry(NOOP, 7), entry(DATA, 8)];
+    let awaited = [entry(DATA, 7), entry(NOOP, 7), entry(DATA, 8)];
     for (phase, n) in [(Idle, 0), (Offer, 4), (Batch, 1)] {
-        let before = State { n, awaited: awaited.clone(), ..state(Server, Producer, phase) };
-        let left = State { awaited: awaited[1..].to_vec(), ..before.clone() };
+        let before = State { n, awaited: awaited.into_iter().collect(), ..state(Server, Producer, phase) };
+        let left = State { awaited: awaited[1..].iter().copied().collect(), ..before.clone() };
         let received = receive_at(&before, &message(DATA, 2, 7, &[]));
         assert_eq!((received.number, received.block), (0, left.block()));
         assert_eq!(number_at(&before, &message(NOOP, 2, 7, &[])), 24);

@@ -223,7 +223,8 @@ mod tests {
         let mut random = Random::new(3);
         for _ in 0..500 {
             let structure = any_struct(&mut random);
-            let entries = structs::read_struct(&structure.bytes()).unwrap();
+            let bytes = structure.bytes();
+            let entries = structs::read_struct(&bytes).unwrap();
             assert_eq!(keys(&structure), entries.into_iter().map(|entry| entry.key).collect::<Vec<_>>());
         }
     }

@@ -1,7 +1,7 @@
 //! Blocks: good ones of every kind, and bad ones for every cause.
 
 use super::{drafts, reply_room, sends};
-use crate::endpoint::{Entry, Flow, Phase, Role, State, BLOCK, DATA, LIMITS, MOST_AWAITED, NOOP};
+use crate::endpoint::{Awaited, Entry, Flow, Phase, Role, State, BLOCK, DATA, LIMITS, MOST_AWAITED, NOOP};
 use crate::generate::{add, control, Calls};
 use crate::random::Random;
 
@@ -36,7 +36,7 @@ pub fn limit(random: &mut Random) -> u32 {
 }
 
 /// So many entries of an endpoint of this flow, some alike in type or type-data.
-pub fn entries(random: &mut Random, flow: Flow, count: usize) -> Vec<Entry> {
+pub fn entries(random: &mut Random, flow: Flow, count: usize) -> Awaited {
     let mut entries: Vec<Entry> = Vec::new();
     for _ in 0..count {
         let message_type = if flow == Flow::Producer && random.one_in(2) { DATA } else { NOOP };
@@ -46,7 +46,7 @@ pub fn entries(random: &mut Random, flow: Flow, count: usize) -> Vec<Entry> {
         };
         entries.push(Entry { message_type, type_data });
     }
-    entries
+    entries.into_iter().collect()
 }
 
 /// A good state of this role, flow and phase.

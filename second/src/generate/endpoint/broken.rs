@@ -229,15 +229,15 @@ fn nothing_awaited(draft: &mut Draft, random: &mut Random) -> bool {
     if random.one_in(2) {
         *draft = Draft::new(running(random), NOOP, ACK_REPLY, 0, random);
     }
-    draft.state.awaited.clear();
+    draft.state.awaited.truncate(0);
     is_confirmation(draft)
 }
 
 fn other_type_data(draft: &mut Draft, random: &mut Random) -> bool {
-    if !is_confirmation(draft) || draft.state.awaited.is_empty() {
+    let (true, Some(oldest)) = (is_confirmation(draft), draft.state.awaited.oldest()) else {
         return false;
-    }
-    let right = draft.state.awaited[0].type_data;
+    };
+    let right = oldest.type_data;
     let wrong = random.choose(&[right.wrapping_add(1), right ^ 1 << 15, right ^ 1, right.swap_bytes(), !right]);
     set_type_data(draft, wrong);
     wrong != right
@@ -257,16 +257,16 @@ fn not_the_oldest(draft: &mut Draft, random: &mut Random) -> bool {
     if !is_confirmation(draft) || draft.state.awaited.len() < 2 {
         return false;
     }
-    let later = random.between(1, draft.state.awaited.len() - 1);
-    let Entry { message_type, type_data } = draft.state.awaited[later];
-    draft.parts.bodies[0][4] = 8 * message_type + 1;
-    set_type_data(draft, type_data);
-    draft.state.awaited[later] != draft.state.awaited[0]
+    let entries: Vec<Entry> = draft.state.awaited.iter().collect();
+    let later = random.choose(&entries[1..]);
+    draft.parts.bodies[0][4] = 8 * later.message_type + 1;
+    set_type_data(draft, later.type_data);
+    later != entries[0]
 }
 
 fn data_confirmed_to_consumer(draft: &mut Draft, random: &mut Random) -> bool {
     let state = endpoint(random, &Role::ALL, &[Flow::Consumer], &[Phase::Idle, Phase::Offer, Phase::Batch]);
-    let oldest = state.awaited.first().map_or(0, |entry| entry.type_data);
+    let oldest = state.awaited.oldest().map_or(0, |entry| entry.type_data);
     let type_data = if random.one_in(2) { oldest } else { type_data(random) };
     *draft = Draft::new(state, DATA, ACK_REPLY, type_data, random);
     true

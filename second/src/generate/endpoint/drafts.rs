@@ -85,7 +85,7 @@ impl Draft {
     /// The number that the model answers.
     pub fn number(&self) -> u64 {
         let (block, message) = (self.state.block(), self.parts.bytes());
-        endpoint::receive(&block, &message, &self.name, &self.format, &[0; REPLY]).number
+        endpoint::received(&block, &message, &self.name, &self.format, &[0; REPLY]).number
     }
 }
 
@@ -162,7 +162,7 @@ fn noop(random: &mut Random) -> Draft {
 pub fn confirmation(random: &mut Random) -> Draft {
     loop {
         let state = running(random);
-        if let Some(oldest) = state.awaited.first().copied() {
+        if let Some(oldest) = state.awaited.oldest() {
             return Draft::new(state, oldest.message_type, ACK_REPLY, oldest.type_data, random);
         }
     }

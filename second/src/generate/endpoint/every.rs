@@ -64,7 +64,7 @@ fn message(state: &State, control: (u8, u8, u16), frames: usize, random: &mut Ra
 pub fn messages(random: &mut Random) -> Calls {
     let mut calls = Calls::new();
     for state in every_state(random) {
-        let oldest = state.awaited.first().map_or(7, |entry| entry.type_data);
+        let oldest = state.awaited.oldest().map_or(7, |entry| entry.type_data);
         let mut every_type_data = vec![0, 1, state.n, state.n.saturating_add(1), oldest];
         every_type_data.sort_unstable();
         every_type_data.dedup();

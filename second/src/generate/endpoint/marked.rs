@@ -1,7 +1,7 @@
 //! The marked cases and the slips of document 01, as calls; the model must answer each of them as it is told there.
 
 use crate::calls::{Receive, SendMessage};
-use crate::endpoint::{self, Entry, Flow, Phase, Role, Send, State, DATA, NOOP};
+use crate::endpoint::{self, Awaited, Entry, Flow, Phase, Role, Send, State, DATA, NOOP};
 use crate::generate::{add, Calls};
 use crate::random::Random;
 
@@ -34,7 +34,7 @@ fn close(code: u8) -> Vec<u8> {
 }
 
 fn state(role: Role, flow: Flow, phase: Phase, n: u16) -> State {
-    State { role, flow, phase, n, limit: 1_000_000, awaited: Vec::new() }
+    State { role, flow, phase, n, limit: 1_000_000, awaited: Awaited::NONE }
 }
 
 fn awaiting(state: &State, entries: &[(u8, u16)]) -> State {
@@ -45,7 +45,7 @@ fn awaiting(state: &State, entries: &[(u8, u16)]) -> State {
 /// What comes of a send: the number, the state after it, and the message.
 fn sent(calls: &mut Calls, from: &State, send: Send, number: u64, after: &State, message: &[u8]) {
     let room = message.len().max(14) + 2;
-    let answer = endpoint::send(&from.block(), &send, &vec![7; room]);
+    let answer = endpoint::sent(&from.block(), &send, &vec![7; room]);
     assert_eq!((answer.number, answer.block), (number, after.block()));
     assert_eq!(answer.written, message.len() as u64);
     assert_eq!(answer.out, [message, &vec![7; room - message.len()]].concat());
@@ -55,7 +55,7 @@ fn sent(calls: &mut Calls, from: &State, send: Send, number: u64, after: &State,
 /// What comes of a message: the number, the state after it, and the reply.
 fn received(calls: &mut Calls, to: &State, message: &[u8], number: u64, after: &State, reply: &[u8]) {
     let (name, format) = (b"press7".to_vec(), b"text".to_vec());
-    let answer = endpoint::receive(&to.block(), message, &name, &format, &[7; 16]);
+    let answer = endpoint::received(&to.block(), message, &name, &format, &[7; 16]);
     assert_eq!((answer.number, answer.block), (number, after.block()));
     assert_eq!(answer.heard[3], reply.len() as u64);
     assert_eq!(answer.out, [reply, &vec![7; 16 - reply.len()]].concat());
@@ -67,9 +67,9 @@ fn ready_and_noop(calls: &mut Calls) {
     let k2 = [&ALONE[..], &READY_8].concat();
     for flow in Flow::ALL {
         let server = state(Role::Server, flow, Phase::Opening, 0);
-        sent(calls, &server, Send::Ready { count: 8 }, 0, &server.ready(8, Phase::Offer), &k2);
+        sent(calls, &server, Send::Ready { count: 8 }, 0, &server.after_ready(8, Phase::Offer), &k2);
         let client = state(Role::Client, flow.other(), Phase::Opening, 0);
-        received(calls, &client, &k2, 0, &client.ready(8, Phase::Offer), &[]);
+        received(calls, &client, &k2, 0, &client.after_ready(8, Phase::Offer), &[]);
         for (phase, n) in [(Phase::Idle, 0), (Phase::Offer, 3), (Phase::Batch, 3)] {
             let (asked, confirmed) = (alone(0x19, 1, [0x12, 0x34]), alone(0x19, 2, [0x12, 0x34]));
             let any = state(Role::Client, flow, phase, n);
@@ -90,7 +90,7 @@ fn opens(calls: &mut Calls) {
         sent(calls, &client, opening, 0, &State { phase: Phase::Opening, ..client.clone() }, &message);
         let server = State::fresh(Role::Server, Flow::Consumer, 50_000_000);
         received(calls, &server, &message, 0, &State { phase: Phase::Opening, limit, ..server.clone() }, &[]);
-        let heard = endpoint::receive(&server.block(), &message, b"press7", b"", &[0; 14]).heard;
+        let heard = endpoint::received(&server.block(), &message, b"press7", b"", &[0; 14]).heard;
         let parameters = if limit == 1_000_000 { [30, 32] } else { [0, 0] };
         assert_eq!(heard[..6], [1, 0, 0, 0, 1, 1]);
         assert_eq!(heard[6..], [20, 6, 0, 0, parameters[0], parameters[1], 0, 0, 0, 0]);
@@ -106,8 +106,8 @@ fn offers(calls: &mut Calls) {
         for count in [5, 0] {
             let ready = alone(0x11, 0, [0, count]);
             let count = count.into();
-            received(calls, &server, &ready, 0, &server.ready(count, Phase::Batch), &[]);
-            sent(calls, &client, Send::Ready { count }, 0, &client.ready(count, Phase::Batch), &ready);
+            received(calls, &server, &ready, 0, &server.after_ready(count, Phase::Batch), &[]);
+            sent(calls, &client, Send::Ready { count }, 0, &client.after_ready(count, Phase::Batch), &ready);
         }
         received(calls, &server, &alone(0x11, 0, [0, 6]), 23, &server.closed(), &close(2));
         sent(calls, &client, Send::Ready { count: 6 }, 31, &client, &[]);
@@ -182,11 +182,18 @@ fn limits(calls: &mut Calls) {
 /// The high byte of type-data stands first, in messages and in entries.
 fn byte_order(calls: &mut Calls) {
     let client = state(Role::Client, Flow::Producer, Phase::Idle, 0);
-    received(calls, &client, &alone(0x11, 0, [1, 0]), 0, &client.ready(256, Phase::Offer), &[]);
+    received(calls, &client, &alone(0x11, 0, [1, 0]), 0, &client.after_ready(256, Phase::Offer), &[]);
     let server = state(Role::Server, Flow::Producer, Phase::Idle, 0);
-    sent(calls, &server, Send::Ready { count: 256 }, 0, &server.ready(256, Phase::Offer), &alone(0x11, 0, [1, 0]));
+    sent(
+        calls,
+        &server,
+        Send::Ready { count: 256 },
+        0,
+        &server.after_ready(256, Phase::Offer),
+        &alone(0x11, 0, [1, 0]),
+    );
     let offer = State { phase: Phase::Offer, n: 256, ..client.clone() };
-    sent(calls, &offer, Send::Ready { count: 1 }, 0, &offer.ready(1, Phase::Batch), &alone(0x11, 0, [0, 1]));
+    sent(calls, &offer, Send::Ready { count: 1 }, 0, &offer.after_ready(1, Phase::Batch), &alone(0x11, 0, [0, 1]));
     let awaits = awaiting(&client, &[(NOOP, 0x0100)]);
     assert_eq!(awaits.block()[16..19], [3, 1, 0]);
     sent(calls, &client, Send::Noop { type_data: 0x0100, ask: 255 }, 0, &awaits, &alone(0x19, 1, [1, 0]));

@@ -22,13 +22,13 @@ fn add_opened(calls: &mut Calls, random: &mut Random, opening: &Opening, offer: 
     let client = client(opening);
     let send = Send::Open { name: opening.name.clone(), format: opening.format.clone() };
     let needed = sends::needed(&client, &send);
-    let sent = endpoint::send(&client.block(), &send, &vec![0; needed]);
+    let sent = endpoint::sent(&client.block(), &send, &vec![0; needed]);
     assert_eq!((sent.number, sent.written), (0, needed as u64));
     let call = sends::to_block(random, client.block(), send.clone(), &client);
     add(calls, call);
     add(calls, SendMessage { block: client.block(), send, room: needed });
     let draft = Draft::open(random, Vec::new(), offer);
-    let heard = endpoint::receive(&draft.state.block(), &sent.out, &offer.name, &offer.format, &[0; REPLY]);
+    let heard = endpoint::received(&draft.state.block(), &sent.out, &offer.name, &offer.format, &[0; REPLY]);
     let opened = State { phase: Phase::Opening, limit: opening.limit, ..draft.state.clone() };
     assert_eq!((heard.number, heard.block), (0, opened.block()));
     let room = reply_room(random);

@@ -95,7 +95,7 @@ pub fn needed(state: &State, send: &Send) -> usize {
         Send::Data { body, .. } => body.len() + 18,
         _ => 700,
     };
-    match endpoint::send(&state.block(), send, &vec![0; most]).written {
+    match endpoint::sent(&state.block(), send, &vec![0; most]).written {
         0 => REPLY,
         written => written as usize,
     }
@@ -118,7 +118,7 @@ pub fn fitting_sends(random: &mut Random) -> Calls {
     for _ in 0..600 {
         let (state, send) = fitting(random);
         let needed = needed(&state, &send);
-        assert_eq!(endpoint::send(&state.block(), &send, &vec![0; needed]).number, 0);
+        assert_eq!(endpoint::sent(&state.block(), &send, &vec![0; needed]).number, 0);
         add_send(&mut calls, random, &state, send);
     }
     calls

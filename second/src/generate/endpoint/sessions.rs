@@ -100,7 +100,7 @@ impl<'a> Session<'a> {
         let ends = [(Role::Client, flow), (Role::Server, server_flow)].map(|(role, flow)| {
             let make = Make { role, block: random.bytes(BLOCK), flow: flow as u8, limit };
             let limit = if role == Role::Client { limit } else { 50_000_000 };
-            let (number, block) = endpoint::make(&make.block, role, flow as u8, limit);
+            let (number, block) = endpoint::made(&make.block, role, flow as u8, limit);
             assert_eq!(number, 0);
             add(calls, make);
             End { block, inbox: VecDeque::new(), has_closed: false }
@@ -117,7 +117,7 @@ impl<'a> Session<'a> {
     /// Sends from an end into a room of so many bytes.
     fn send_into(&mut self, end: usize, send: &Send, room: usize) {
         let block = self.ends[end].block.clone();
-        let sent = endpoint::send(&block, send, &vec![0; room]);
+        let sent = endpoint::sent(&block, send, &vec![0; room]);
         add(self.calls, SendMessage { block, send: send.clone(), room });
         if sent.number == 0 {
             self.ends[end].block = sent.block;
@@ -155,7 +155,7 @@ impl<'a> Session<'a> {
         let room = reply_room(self.random);
         let (name, format) = self.offered.clone();
         let block = self.ends[end].block.clone();
-        let received = endpoint::receive(&block, &message, &name, &format, &vec![0; room]);
+        let received = endpoint::received(&block, &message, &name, &format, &vec![0; room]);
         add(self.calls, Receive { block, message: message.clone(), name, format, room });
         if received.number == endpoint::SHORT_OUTPUT {
             return;
@@ -210,7 +210,7 @@ impl<'a> Session<'a> {
         let told = self.random.one_in(3);
         for (end, send) in ENDS.iter().flat_map(|end| sends.iter().map(move |send| (*end, send))) {
             let block = self.ends[end].block.clone();
-            let number = endpoint::send(&block, send, &[0; ENOUGH]).number;
+            let number = endpoint::sent(&block, send, &[0; ENOUGH]).number;
             if told {
                 add(self.calls, SendMessage { block, send: send.clone(), room: ENOUGH });
             }

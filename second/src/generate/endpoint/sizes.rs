@@ -72,7 +72,7 @@ pub fn with_other_causes(random: &mut Random) -> Calls {
     for phase in [Phase::Opening, Phase::Idle, Phase::Batch, Phase::Closed] {
         for flow in Flow::ALL {
             let role = random.choose(&Role::ALL);
-            let awaited = if phase.is_running() { blocks::entries(random, flow, MOST_AWAITED) } else { Vec::new() };
+            let awaited = blocks::entries(random, flow, if phase.is_running() { MOST_AWAITED } else { 0 });
             let state = State { limit: 1_000_000, awaited, ..good_in(random, role, flow, phase) };
             for (ask, room) in [(1, 0), (1, TWO + body.len()), (0, 0)] {
                 let send = Send::Data { type_data: 0, ask, body: body.clone() };

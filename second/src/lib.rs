@@ -1,0 +1,14 @@
+//! The model: document 01 read on its own, as plain Rust that works in place on what it is lent.
+#![forbid(unsafe_code)]
+
+pub mod bundle;
+pub mod bytes;
+pub mod control;
+pub mod endpoint;
+pub mod limit;
+pub mod line;
+pub mod lookup;
+pub mod open;
+pub mod structs;
+pub mod text;
+pub mod wire;
