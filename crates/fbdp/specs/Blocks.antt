@@ -1,5 +1,5 @@
 -- What each entry on a state block answers and leaves: making, the five sends and receive, each with an equation for the number, for every
--- output of numbers, for the block and for the output: what the record in the block answers, 1 if the block is not good.
+-- output of numbers, for the block and for the output. A call or a message is answered by the record in the block: 1 where it is not good.
 use Prim.Native.Nat.{ℕ}
 use mathlib.Core.Path.{_≡_}
 use mathlib.Core.List.{List, [], _∷_, _++_}
@@ -119,7 +119,7 @@ pub record ReceiveAnswer (s name format block out : List ℕ) (number : ℕ) (sl
   pub kept : block′ ≡ keptBy (receivedOn block s name format (length out)) block
   pub left : out′ ≡ replied (receivedOn block s name format (length out) .reply) out
 
--- 1 again: a receive on such a block changes no byte, and tells nothing
+-- and a receive on such a block changes none either, and tells nothing
 abbrev pub BadBlockReceives : Type 0
 BadBlockReceives =
     (s name format block out : List ℕ) (number : ℕ) (slots block′ out′ : List ℕ) → isGood block ≡ false → ReceiveAnswer s name format block out number slots block′ out′

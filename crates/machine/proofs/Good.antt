@@ -6,7 +6,7 @@ use mathlib.Core.Bool.{Bool, cond, false, true}
 use lib.Dec.{eqb}
 use borrow.Author.Tests.{eq-eqb, eqb-true}
 use Rattle.bytes_be.proofs.Numbers.{Bytes}
-use Rattle.control.specs.declared.MessageType.the-variants.{Open, Ready, Noop, Data, Close}
+use Rattle.control.specs.declared.MessageType.the-variants.{Open, Ready, Close}
 use Rattle.terms.specs.Announced.{announcedLimit}
 use Rattle.message.specs.declared.Message.{Message}
 use Rattle.message.proofs.Inside.{read-small}

@@ -1,8 +1,6 @@
 -- `fbdp::fbdp_receive` meets its contract: the answer is what the record in the block makes of the message. Assumes nothing.
 use mathlib.Core.Path.{_∙_, _≡_, ap, sym}
-use Prim.Native.Nat.{ℕ}
-use mathlib.Core.List.{List}
-use mathlib.Core.Bool.{Bool, cond, false, true}
+use mathlib.Core.Bool.{Bool, cond}
 use borrow.Author.Needs.{needs}
 use Rattle.bytes_be.specs.Part.{putAt}
 use Rattle.endpoint.specs.Block.{bytesOf}
