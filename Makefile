@@ -8,6 +8,7 @@ second := target/second/release/second
 
 .PHONY: all run install compare speed bench check clean
 .NOTPARALLEL:
+.DELETE_ON_ERROR:
 
 all: build/libfbdp.a build/fbdp.h build/host
 
@@ -29,10 +30,10 @@ run: all
 	@tools/x86 run build/host
 
 install: build/libfbdp.a build/fbdp.h
-	install -d $(DESTDIR)$(PREFIX)/lib/pkgconfig $(DESTDIR)$(PREFIX)/include
-	install -m 644 build/libfbdp.a $(DESTDIR)$(PREFIX)/lib/
-	install -m 644 build/fbdp.h $(DESTDIR)$(PREFIX)/include/
-	sed 's|@PREFIX@|$(PREFIX)|' fbdp.pc.in >$(DESTDIR)$(PREFIX)/lib/pkgconfig/fbdp.pc
+	install -d "$(DESTDIR)$(PREFIX)/lib/pkgconfig" "$(DESTDIR)$(PREFIX)/include"
+	install -m 644 build/libfbdp.a "$(DESTDIR)$(PREFIX)/lib/"
+	install -m 644 build/fbdp.h "$(DESTDIR)$(PREFIX)/include/"
+	sed 's|@PREFIX@|$(abspath $(PREFIX))|' fbdp.pc.in >"$(DESTDIR)$(PREFIX)/lib/pkgconfig/fbdp.pc"
 
 # The second program, and the C program that makes its calls.
 $(second): $(shell find second -name '*.rs' -o -name 'Cargo.*')

@@ -44,7 +44,8 @@ static void say(const struct end *end, const struct message *message, const stru
     if (heard->type == FBDP_OPEN) printf(": pipe %.*s", (int)heard->name_length, text + heard->name_at);
     if (heard->type == FBDP_CLOSE) printf(": %s", fbdp_close_meaning(heard->type_data));
     if (heard->body_length > 0) printf(": %.*s", (int)heard->body_length, text + heard->body_at);
-    printf("%s\n", heard->flags & FBDP_ACK_REPLY ? " confirmed" : "");
+    if (heard->type != FBDP_CLOSE && (heard->flags & FBDP_ACK_REPLY)) printf(" confirmed");
+    printf("\n");
 }
 
 /* Hears the oldest message on its way to this end; a reply goes to the other. */
@@ -110,6 +111,9 @@ int main(void) {
         if (number == FBDP_ACCEPTED) number = desk_sends(&desk);
         while (number == FBDP_ACCEPTED && press.count > 0) number = hear(&press);
     }
+    /* A refusal has closed one end, and its CLOSE is on the way to the other. */
+    while (desk.count > 0) hear(&desk);
+    while (press.count > 0) hear(&press);
     printf("%zu reports sent: %s\n", press.sent, fbdp_meaning(number));
     return number == FBDP_ACCEPTED ? 0 : 1;
 }

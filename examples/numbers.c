@@ -1,4 +1,5 @@
-/* Every number that the library answers, every code of CLOSE and every type of message, in words. */
+/* Every number that the library answers, every code of CLOSE and every type of message, in words; and what a block
+ * says. */
 #include <fbdp.h>
 #include <inttypes.h>
 #include <stdio.h>
@@ -14,10 +15,17 @@ static void list(const char *title, words *of) {
     }
 }
 
+/* A client and producer in a batch, with 258 messages left and three confirmations awaited. */
+static const uint8_t block[FBDP_BLOCK_BYTES] = {
+    FBDP_CLIENT, FBDP_PRODUCER, FBDP_PHASE_BATCH, 3, 1, 2, 0, 0, 0x01, 0x02, 0x03, 0x04,
+};
+
 int main(void) {
     list("Numbers answered", fbdp_meaning);
     list("Codes of CLOSE", fbdp_close_meaning);
     list("Types of messages", fbdp_type_name);
     printf("Any other: %s; %s; %s\n", fbdp_meaning(4), fbdp_close_meaning(7), fbdp_type_name(0));
+    printf("A block: phase %u, awaited %u, count %u, limit %" PRIu32 "\n", fbdp_phase(block), fbdp_awaited(block),
+           fbdp_count(block), fbdp_limit(block));
     return 0;
 }

@@ -4,13 +4,13 @@
  * writes on the transport, lend each message that arrives to fbdp_receive, and send the reply that this may leave. The
  * block moves with the call, so whatever was written has to reach the other end, once and in order.
  *
- * Every function takes any bytes, any block and any order of calls, and returns a number: FBDP_ACCEPTED, or the refusal
- * that applies first; fbdp_meaning says it in words. No function keeps a pointer, allocates, or calls anything but
- * memcpy, so calls on different blocks may run at the same time.
+ * Every function of the archive takes any bytes, any block and any order of calls, and returns a number: FBDP_ACCEPTED,
+ * or the refusal that applies first; fbdp_meaning says it in words. None keeps a pointer, allocates, or calls anything
+ * but memcpy, so calls on different blocks may run at the same time.
  *
- * A slice is a pointer and a length; an empty one may come with a null pointer. The slices of one call must lie apart,
- * and a struct or number to be filled must not be null. It is filled by every call: a refusal writes the zeros, or for
- * fbdp_lookup the place, that stand beside the function. */
+ * A slice is a pointer and a length; an empty one may come with a null pointer. The slices of one call, and the struct
+ * or number to be filled, must lie apart; the latter must not be null. It is filled by every call: a refusal writes the
+ * zeros, or for fbdp_lookup the place, that stand beside the function. */
 #ifndef FBDP_H
 #define FBDP_H
 
@@ -25,7 +25,7 @@ extern "C" {
 #define FBDP_NUMBERS(ROW)                                                                                              \
     ROW(FBDP_ACCEPTED, 0, "accepted")                                                                                  \
     ROW(FBDP_BAD_BLOCK, 1, "the block does not have 64 bytes, or is not good")                                         \
-    ROW(FBDP_NO_ROOM, 2, "the output is too short for what is to be written")                                          \
+    ROW(FBDP_NO_ROOM, 2, "the output is too short for the message, or under 14 bytes at a receive")                    \
     ROW(FBDP_CLOSED, 3, "the endpoint is closed")                                                                      \
     ROW(FBDP_BAD_BUNDLE, 10, "not a frame count of 1 to 16, its lengths and its bodies, ending exactly")               \
     ROW(FBDP_BAD_CONTROL, 11, "a control frame that does not have 8 bytes, or a wrong signature")                      \
@@ -51,7 +51,9 @@ extern "C" {
     ROW(FBDP_DEFAULTS_UNREADABLE, 36, "a default Struct that cannot be read")                                          \
     ROW(FBDP_NO_SUCH_TERM, 37, "neither the parameters nor the default Struct has the key")
 
-/* The codes of CLOSE: name, code, meaning. Those from 100 on refuse an OPEN. */
+/* The codes of CLOSE: name, code, meaning. Those from 100 on refuse an OPEN. A receive that closes says code 1 for 10,
+ * 11, 13, 14, 15 and 18; code 2 for 16, 17, 19, 23 and 24; code 102 for 20, 100 for 21, 103 for 22; and for 12 code 101
+ * where a fresh server is sent an OPEN, else 1. */
 #define FBDP_CLOSE_CODES(ROW)                                                                                          \
     ROW(FBDP_CLOSE_OK, 0, "closed normally")                                                                           \
     ROW(FBDP_CLOSE_INVALID_MESSAGE, 1, "what was received is not a valid message")                                     \
@@ -107,18 +109,23 @@ enum { FBDP_PRODUCER = 1, FBDP_CONSUMER = 2 };
 /* The socket that an OPEN asks for: a producer's is the server's input, a consumer's its output. */
 enum { FBDP_INPUT = 1, FBDP_OUTPUT = 2 };
 
-/* The phases of an endpoint. */
+/* The phases of an endpoint, and what may be sent in them; either end may also send NOOP from FBDP_PHASE_IDLE on, and
+ * CLOSE from FBDP_PHASE_OPENING on, up to its end. */
 enum {
-    FBDP_PHASE_FRESH = 0,   /* nothing was sent or heard */
-    FBDP_PHASE_OPENING = 1, /* OPEN was: the server's READY or CLOSE is next */
-    FBDP_PHASE_IDLE = 2,    /* the server may offer a batch */
-    FBDP_PHASE_OFFER = 3,   /* a batch is offered: the client's READY is next */
-    FBDP_PHASE_BATCH = 4,   /* a batch is agreed on: the producer's DATA is next */
-    FBDP_PHASE_CLOSED = 5   /* for good */
+    FBDP_PHASE_FRESH = 0,   /* nothing was sent or heard: the client's OPEN */
+    FBDP_PHASE_OPENING = 1, /* OPEN was sent or heard: the server's READY */
+    FBDP_PHASE_IDLE = 2,    /* no batch is under way: the server's READY, which offers one */
+    FBDP_PHASE_OFFER = 3,   /* a batch is offered: the client's READY, which agrees to it */
+    FBDP_PHASE_BATCH = 4,   /* a batch is agreed on: the producer's DATA */
+    FBDP_PHASE_CLOSED = 5   /* nothing, for good */
 };
 
-/* The most and the fewest bytes that may be agreed on for a message, all its frames taken together. */
+/* The least and the most that a limit may be: the bytes of a message, which are its control frame of 8 and its data
+ * frame, without count and lengths of the bundle. So a body has at most 8 less than the limit. */
 enum { FBDP_LEAST_LIMIT = 1000000, FBDP_MOST_LIMIT = 50000000 };
+
+/* The term by which a client announces its limit, a number; it is left out where that is FBDP_MOST_LIMIT. */
+#define FBDP_LIMIT_KEY "max_message_bytes"
 
 /* Sizes that always suffice. */
 enum {
@@ -130,7 +137,7 @@ enum {
     FBDP_MESSAGE_BYTES = 10 + FBDP_MOST_LIMIT /* every message that is accepted, but for a CLOSE that has data frames */
 };
 
-/* What the block of an endpoint says; the functions below are to write it, and nobody else. */
+/* What a made block says; the functions below are to write it, and nobody else. */
 static inline uint8_t fbdp_phase(const uint8_t *block) { return block[2]; }
 
 /* How many confirmations are awaited, at most 16. */
@@ -139,7 +146,7 @@ static inline uint8_t fbdp_awaited(const uint8_t *block) { return block[3]; }
 /* The count that is offered in FBDP_PHASE_OFFER, and that is left in FBDP_PHASE_BATCH; else 0. */
 static inline uint16_t fbdp_count(const uint8_t *block) { return (uint16_t)(block[4] << 8 | block[5]); }
 
-/* The most bytes of a message, all its frames taken together. */
+/* The limit that was announced, or FBDP_MOST_LIMIT. */
 static inline uint32_t fbdp_limit(const uint8_t *block) {
     return (uint32_t)block[8] << 24 | (uint32_t)block[9] << 16 | (uint32_t)block[10] << 8 | block[11];
 }
@@ -156,31 +163,34 @@ uint32_t fbdp_make_server(uint8_t *block, size_t block_length, uint8_t flow);
 
 /* The sends. Each writes one message from the start of `out` and nothing behind it, and says in `written` how many
  * bytes it has. Each tests FBDP_BAD_BLOCK, FBDP_CLOSED and FBDP_SEND_NOT_ALLOWED first, then what stands beside it, and
- * FBDP_NO_ROOM last. A refusal leaves every byte of `block` and `out` as it was, and says that 0 were written. */
+ * FBDP_NO_ROOM last; what is allowed when stands beside the phases. A refusal leaves every byte of `block` and `out` as
+ * it was, and says that 0 were written. An `ask` is 0, or any other number to ask for a confirmation. */
 
-/* Sends OPEN, a client's first message, for the pipe of this name (1 to 255 bytes of UTF-8) and format (at most 255).
+/* Sends OPEN, a client's first message, for the pipe of this name (1 to 255 bytes of UTF-8) and format (at most 255, or
+ * none for any), with the client's limit as its one parameter.
  * Refuses what every send does, and FBDP_BADLY_GIVEN.
  * Leaves the endpoint in FBDP_PHASE_OPENING, and at most FBDP_OPEN_BYTES in `out`. */
 uint32_t fbdp_send_open(uint8_t *block, size_t block_length, const uint8_t *name, size_t name_length,
                         const uint8_t *format, size_t format_length, uint8_t *out, size_t out_length,
                         uint64_t *written);
 
-/* Sends READY: a server offers a batch of `count` messages, and a client agrees to as many of them; 0 is for none now.
+/* Sends READY: a server offers a batch of `count` messages, and a client agrees to `count` of those; 0 is for none now.
  * Refuses what every send does, and at a client FBDP_SEND_ABOVE_OFFER.
  * Leaves a server in FBDP_PHASE_OFFER and a client in FBDP_PHASE_BATCH, either in FBDP_PHASE_IDLE where the count is 0,
  * and FBDP_CONTROL_BYTES in `out`. */
 uint32_t fbdp_send_ready(uint8_t *block, size_t block_length, uint16_t count, uint8_t *out, size_t out_length,
                          uint64_t *written);
 
-/* Sends DATA, by a producer in a batch: a number of the host's, a body that may be empty, an ask for confirmation or 0.
+/* Sends DATA, by a producer in a batch: a number of the host's, a body that may be empty, and an ask.
  * Refuses what every send does, FBDP_TOO_MANY_ASKS and FBDP_SEND_TOO_LARGE.
- * Leaves one message less to send, behind the last FBDP_PHASE_IDLE, and body_length + FBDP_DATA_OVERHEAD in `out`. */
+ * Leaves one message less to send, after the last one FBDP_PHASE_IDLE; with an ask one more awaited; and in `out`
+ * body_length + FBDP_DATA_OVERHEAD bytes. */
 uint32_t fbdp_send_data(uint8_t *block, size_t block_length, uint16_t type_data, uint8_t ask, const uint8_t *body,
                         size_t body_length, uint8_t *out, size_t out_length, uint64_t *written);
 
-/* Sends NOOP, to keep a connection alive or to see that it is: a number of the host's, an ask for confirmation or 0.
+/* Sends NOOP, to keep a connection alive or to see that it is: a number of the host's, and an ask.
  * Refuses what every send does, and FBDP_TOO_MANY_ASKS.
- * Leaves phase and count as they were, and FBDP_CONTROL_BYTES in `out`. */
+ * Leaves phase and count as they were, with an ask one more awaited, and FBDP_CONTROL_BYTES in `out`. */
 uint32_t fbdp_send_noop(uint8_t *block, size_t block_length, uint16_t type_data, uint8_t ask, uint8_t *out,
                         size_t out_length, uint64_t *written);
 
@@ -190,13 +200,14 @@ uint32_t fbdp_send_noop(uint8_t *block, size_t block_length, uint16_t type_data,
 uint32_t fbdp_send_close(uint8_t *block, size_t block_length, uint16_t code, uint8_t *out, size_t out_length,
                          uint64_t *written);
 
-/* What was heard. Places are offsets into the message; what a message does not have is 0. */
+/* What was heard. Places are offsets into the message; what a message does not have is 0, and what it has and is empty
+ * has its place. */
 struct fbdp_heard {
     uint64_t type;                             /* FBDP_OPEN to FBDP_CLOSE */
     uint64_t flags;                            /* as they came */
-    uint64_t type_data;                        /* a count, a code, or a number of the other host's */
-    uint64_t reply;                            /* bytes of the reply in `out`: 0 or FBDP_REPLY_BYTES, of refusals too */
-    uint64_t frames;                           /* data frames of the message */
+    uint64_t type_data;                        /* a count, a code, the other host's number; confirmed: one's own */
+    uint64_t reply;                            /* bytes of the reply in `out`, of a refusal too: 0 or 14 */
+    uint64_t frames;                           /* data frames; a CLOSE may have some, which fbdp_frame places */
     uint64_t socket;                           /* OPEN: FBDP_INPUT or FBDP_OUTPUT */
     uint64_t name_at, name_length;             /* OPEN: the pipe name */
     uint64_t format_at, format_length;         /* OPEN: the format */
@@ -206,9 +217,13 @@ struct fbdp_heard {
 };
 
 /* Receives one message, a whole bundle, at an endpoint that offers this pipe name and format; a client lends two empty
- * slices. No byte of a body is read. What `heard` counts as a reply, a confirmation or a CLOSE, is to be sent.
+ * slices. They are only compared, at an OPEN: one without a format fits every offer, and an offer that no OPEN may ask
+ * for fits none. No byte of a body is read. Where heard->reply is not 0, so many bytes of `out` are a confirmation or a
+ * CLOSE: send them, after a refusal too. A CLOSE that is heard is accepted, and not to be answered.
  * Refuses FBDP_BAD_BLOCK, FBDP_NO_ROOM (`out` under FBDP_REPLY_BYTES, always tested) and FBDP_CLOSED, which leave every
- * byte as it was, and FBDP_BAD_BUNDLE to FBDP_UNMATCHED, which close the endpoint.
+ * byte of `block` and `out` as it was, so that what comes behind a close is dropped; and FBDP_BAD_BUNDLE to
+ * FBDP_UNMATCHED, which close the endpoint and reply with a CLOSE, but not as a client in FBDP_PHASE_FRESH, nor to a
+ * CLOSE that is refused as FBDP_NOT_ALLOWED.
  * Leaves the block moved or closed, the reply at the start of `out` and nothing behind it, and in `heard` what was
  * heard, or for a refusal zeros in all but `reply`. */
 uint32_t fbdp_receive(uint8_t *block, size_t block_length, const uint8_t *message, size_t message_length,
@@ -233,7 +248,7 @@ enum { FBDP_NULL = 1, FBDP_NUMBER = 2, FBDP_TEXT = 3, FBDP_BOOL = 4, FBDP_STRUCT
 /* What a Value holds. */
 struct fbdp_value_held {
     uint64_t kind;   /* FBDP_NULL to FBDP_LIST */
-    uint64_t held;   /* a number's double bit by bit, a NaN's too; a text's offset; a bool's 0 or 1; else 0 */
+    uint64_t held;   /* a number's double bit by bit; a text's offset in `bytes`; a bool's 0 or 1; else 0 */
     uint64_t length; /* of a text: well-formed UTF-8, not ended by a zero; else 0 */
 };
 

@@ -1,5 +1,5 @@
-/* What the header names is what the documents give by number: each field of its structs, its constants, and what it
- * reads out of a block. Compiled, and never run. */
+/* What the header names is what the documents give by number: each field of its structs, and its constants. Compiled,
+ * and never run. */
 #include <fbdp.h>
 
 #define SLOT(type, field, slot) _Static_assert(offsetof(struct type, field) == 8 * (slot), #type "." #field)
