@@ -85,11 +85,8 @@ awaitable flow entry = eqb (entry .message) 3 || (eqb (entry .message) 4 && eqb 
 unfoldable pub isNone : Entry → Bool
 isNone entry = eqb (entry .message) 0 && eqb (entry .«type_data») 0
 
-abbrev pub fitsAt : ℕ → ℕ → ℕ → Entry → Bool
-fitsAt flow w i entry = cond (ltb i w) (awaitable flow entry) (isNone entry)
-
 unfoldable pub entryFits : Endpoint → ℕ → Bool
-entryFits e i = fitsAt (e .flow) (e .w) i (getD (e .entries) i none)
+entryFits e i = cond (ltb i (e .w)) (awaitable (e .flow) (getD (e .entries) i none)) (isNone (getD (e .entries) i none))
 
 -- whether a test holds of every number below this one
 abbrev pub every : ℕ → (ℕ → Bool) → Bool

@@ -7,7 +7,7 @@ ghost use lib.ListN.{length};
 ghost use lib.Dec.{leb};
 ghost use Rattle.bytes_be.specs.Part.{putAt};
 ghost use Rattle.double.specs.Limit.{inLimits};
-ghost use Rattle.endpoint.specs.Record.{noEntries, inRanges, countFits, waitFits, isNone, awaitable, fitsAt, entriesFit, good as Record·good, givenOf, givenNumber, freshOf, closed as Record·closed, atPhase, asked as Record·asked, withoutOldest, confirmed as Record·confirmed, limited as Record·limited};
+ghost use Rattle.endpoint.specs.Record.{noEntries, inRanges, countFits, waitFits, isNone, awaitable, entryFits, entriesFit, good as Record·good, givenOf, givenNumber, freshOf, closed as Record·closed, atPhase, asked as Record·asked, withoutOldest, confirmed as Record·confirmed, limited as Record·limited};
 ghost use Rattle.endpoint.specs.Block.{entryBytes, headBytes, bytesOf, entryIn, entriesIn, recordIn, spareIsZero, loadOf};
 
 // A confirmation that is awaited.
@@ -77,11 +77,14 @@ fn is_none(entry: Entry) -> bool
 }
 
 // Whether entry i is one that may be awaited, or behind the first W and zero.
-fn entry_fits(flow: u8, w: u8, i: usize, entry: Entry) -> bool
-    ensures { λ r. ⌜ r ≡ fitsAt flow w i entry ⌝ }
+fn entry_fits(e: Endpoint, i: usize) -> bool
+    requires { ⌜ i < 16 ⌝ }
+    ensures { λ r. ⌜ r ≡ entryFits e i ⌝ }
 {
-    if i < w as usize {
-        return is_awaitable(flow, entry);
+    let entries = e.entries;
+    let entry = entries[i];
+    if i < e.w as usize {
+        return is_awaitable(e.flow, entry);
     }
     is_none(entry)
 }
@@ -89,11 +92,10 @@ fn entry_fits(flow: u8, w: u8, i: usize, entry: Entry) -> bool
 fn entries_fit(e: Endpoint) -> bool
     ensures { λ r. ⌜ r ≡ entriesFit e ⌝ }
 {
-    let entries = e.entries;
     let mut fit = true;
     let mut i = 0;
     while i < 16 {
-        fit = fit & entry_fits(e.flow, e.w, i, entries[i]);
+        fit = fit & entry_fits(e, i);
         i += 1;
     }
     fit

@@ -11,19 +11,13 @@ use Rattle.endpoint.proofs.entries_fit.Statement.{statement}
 use Rattle.endpoint.proofs.entries_fit.Tie as tie
 
 abbrev Inv-loop : tie.InvT-loop
-Inv-loop e entries fit₀ i₀ fit i = (i ≤ 16) × (fit ≡ every i (entryFits e))
+Inv-loop e fit₀ i₀ fit i = (i ≤ 16) × (fit ≡ every i (entryFits e))
 
 abbrev μ-loop : tie.MeasureT-loop
-μ-loop e entries fit₀ i₀ fit i = 16 - i
+μ-loop e fit₀ i₀ fit i = 16 - i
 
 loop-holds : tie.Need-loop-holds Inv-loop μ-loop
 loop-holds c = (search needs, refl)
-
-mul-entry-fits : tie.Need-mul-entry-fits Inv-loop μ-loop
-mul-entry-fits c = search needs
-
-array-copy-out-entry-fits : tie.Need-array-copy-out-entry-fits Inv-loop μ-loop
-array-copy-out-entry-fits c = search needs
 
 entry-fits-requires : tie.Need-entry-fits-requires Inv-loop μ-loop
 entry-fits-requires c κs = search needs
@@ -35,9 +29,8 @@ loop-less : tie.Need-loop-less Inv-loop μ-loop
 loop-less c = search needs
 
 loop-again : tie.Need-loop-again Inv-loop μ-loop
-unfolding entryFits
 loop-again c =
-    let loop = c .before .before .before .loop in
+    let loop = c .before .before .loop in
     (search needs, rw add-one (ap₂ _&&_ (loop .inv .1) (c .entry-fits .ensures)))
 
 returns : tie.Need-returns Inv-loop μ-loop
@@ -45,19 +38,9 @@ unfolding entriesFit
 returns c =
     let loop = c .before .loop in
     let all : loop .i ≡ 16 = omega arith in
-    loop .inv .1 ∙ ap (λ (n : ℕ). every n (entryFits (c .before .before .before .args .e))) all
+    loop .inv .1 ∙ ap (λ (n : ℕ). every n (entryFits (c .before .before .args .e))) all
 
 pub entries-fit-spec : {M : Type 1} → statement M
 entries-fit-spec =
     tie.close
-    (tie.spec
-    Inv-loop
-    μ-loop
-    loop-holds
-    mul-entry-fits
-    array-copy-out-entry-fits
-    entry-fits-requires
-    add-i
-    loop-less
-    loop-again
-    returns)
+    (tie.spec Inv-loop μ-loop loop-holds entry-fits-requires add-i loop-less loop-again returns)
