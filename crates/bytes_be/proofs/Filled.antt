@@ -1,30 +1,23 @@
--- A list that a loop fills, one element a turn, with f of the index; and a list's end, element by element. Assumes nothing.
-use mathlib.Core.Path.{_≡_, sym, ap, _∙_}
+-- A list that a loop copies another to, one element a turn; and a list's end, element by element. Assumes nothing.
+use mathlib.Core.Path.{_≡_, sym, ap, ap₂, _∙_}
 use Prim.Native.Nat.{ℕ, zero, suc, _+_, _<_}
-use mathlib.Core.List.{List, _∷_}
-use native.Mathlib.Nat.{zero-add, lt-irrefl}
+use mathlib.Core.List.{List, _∷_, _++_}
 use native.Mathlib.Omega.{arith}
 use lib.ListN.{length, getD, drop, set, drop-of-length-le}
-use lib.Seq.{ext-getD, getD-set-same, getD-set-other, drop-cons}
-use borrow.Author.Count.{below-more}
-use Rattle.bytes_be.specs.Part.{tabulate}
-use Rattle.bytes_be.proofs.Parts.{length-tabulate, getD-tabulate}
+use lib.Seq.{drop-cons, set-at, append-snoc}
+use Rattle.bytes_be.specs.Part.{tabulate, part}
+use Rattle.bytes_be.proofs.Parts.{length-part, part-more}
 
-module _ {A : Type 0} (f : ℕ → A) (d : A) where
-  -- a list whose elements are those of f
-  pub filled : (xs : List A) (n : ℕ) → length xs ≡ n → ((k : ℕ) → k < n → getD xs k d ≡ f k) → xs ≡ tabulate 0 n f
-  filled xs n long all =
-      ext-getD d xs (tabulate 0 n f) (long ∙ sym (length-tabulate f 0 n))
-      (λ i h. let inside : i < n = omega arith in
-      all i inside ∙ sym (getD-tabulate f 0 n i d inside ∙ ap f (zero-add i)))
-
-  -- one element more
-  pub fill : (xs : List A) (i : ℕ) (x : A) → i < length xs → x ≡ f i → ((k : ℕ) → k < i → getD xs k d ≡ f k)
-      → (k : ℕ) → k < i + 1 → getD (set xs i x) k d ≡ f k
-  fill xs i x inside same all =
-      below-more (λ k. getD (set xs i x) k d ≡ f k) i
-      (λ k below. getD-set-other xs i k x d (λ e. lt-irrefl i (omega arith)) ∙ all k below)
-      (getD-set-same xs i x d inside ∙ same)
+-- where the first i elements are those of s from place `at` on, so are the first i + 1 after the next is copied
+pub copy-more : {A : Type 0} (out s : List A) (at i : ℕ) (d : A) → i < length out → at + i < length s →
+    set (part s at i ++ drop i out) i (getD s (at + i) d) ≡ part s at (i + 1) ++ drop (i + 1) out
+copy-more {A} out s at i d room inside =
+    let x : A = getD s (at + i) d in
+    let next : suc i ≡ i + 1 = omega arith in
+    ap (λ (l : List A). set (part s at i ++ l) i x) (drop-cons out i d room)
+    ∙ set-at (part s at i) (getD out i d) (drop (suc i) out) x i (length-part s at i (omega arith))
+    ∙ sym (append-snoc (part s at i) x (drop (suc i) out))
+    ∙ ap₂ (λ (l : List A) (k : ℕ). l ++ drop k out) (sym (part-more s at i d inside)) next
 
 -- the last k elements of a list
 pub last-elements : {A : Type 0} (d : A) (xs : List A) (i k : ℕ) → i + k ≡ length xs → drop i xs ≡ tabulate i k (λ j. getD xs j d)

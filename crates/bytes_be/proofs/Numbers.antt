@@ -9,7 +9,7 @@ use lib.Dec.{lit<, ltb}
 use lib.ListN.{length, getD, drop, length-append, length-take, List·getD-eq-default, take, drop-of-length-le}
 use lib.Seq.{getD-take, getD-drop, drop-append-le, take-all}
 use mathlib.Core.Bool.{Bool, true, false, cond}
-use borrow.Author.Tests.{le-leb, leb-true, ltb-true, ltb-false}
+use borrow.Author.Tests.{le-leb, lt-leb, leb-true, ltb-true, ltb-false}
 use Rattle.bytes_be.specs.Part.{holds, part, putAt}
 use Rattle.bytes_be.specs.Number.{fromBytesBehind, fromBytes, toBytes, numberAt}
 use Rattle.bytes_be.proofs.Parts.{length-part, length-put, part-put, part-more}
@@ -80,6 +80,11 @@ pub number-is : (width : ℕ) (s : List ℕ) (at n : ℕ) → at + width ≤ len
 unfolding numberAt
 number-is width s at n inside small same = simp (le-leb (at + width) (length s) inside, same) (from-to width n small)
 
+-- where not all of its bytes lie in the list, a number is 0
+pub number-past : (width : ℕ) (s : List ℕ) (at : ℕ) → length s < at + width → numberAt width s at ≡ 0
+unfolding numberAt
+number-past width s at outside = simp (lt-leb (at + width) (length s) outside)
+
 -- what was stored at a place is the number there
 pub number-put : (width : ℕ) (out : List ℕ) (at n : ℕ) → at + width ≤ length out → n < 256 ^ width → numberAt width (putAt out at (toBytes width n)) at ≡ n
 number-put width out at n room small =
@@ -111,6 +116,24 @@ bytes-part s at size h i = go (ltb i size) refl
     go true e = rw (getD-take size (drop at s) i 0 (ltb-true i size e), getD-drop at s i 0) (h (at + i))
     go false e = rw (List·getD-eq-default (part s at size) 0 {n = i} (simp length-take (omega (arith, ltb-false i size e)))) (lit< tt)
 
+-- and so are those of two lists of bytes, one behind the other
+
+pub bytes-append : (xs ys : List ℕ) → Bytes xs → Bytes ys → Bytes (xs ++ ys)
+bytes-append [] ys front back i = back i
+bytes-append (x ∷ xs) ys front back zero = front 0
+bytes-append (x ∷ xs) ys front back (suc i) = bytes-append xs ys (λ k. front (suc k)) back i
+
+-- and of a list that bytes were written to
+pub bytes-put : (out : List ℕ) (at : ℕ) (ys : List ℕ) → Bytes out → Bytes ys → Bytes (putAt out at ys)
+unfolding putAt
+bytes-put out at ys around inside = go (holds (length out) at (length ys))
+  where
+    go : (t : Bool) → Bytes (cond t (take at out ++ ys ++ drop (at + length ys) out) out)
+    go true =
+        bytes-append (take at out ++ ys) (drop (at + length ys) out) (bytes-append (take at out) ys (bytes-part out 0 at around) inside)
+        (λ i. rw (getD-drop (at + length ys) out i 0) (around (at + length ys + i)))
+    go false = around
+
 pub number-below : (width : ℕ) (s : List ℕ) (at : ℕ) → Bytes s → numberAt width s at < 256 ^ width
 unfolding numberAt
 number-below width s at h = go (holds (length s) at width) refl
@@ -131,6 +154,21 @@ pub number-more : (s : List ℕ) (at i n : ℕ) → at + i < length s → n ≡ 
 number-more s at i n inside e =
     let more = ap fromBytes (part-more s at i 0 inside) ∙ from-more (part s at i) (getD s (at + i) 0) in
     rw (← e) at (sym more)
+
+-- a number of one byte is that byte, and one of two bytes counts the first 256 times
+
+pub byte-there : (s : List ℕ) (at : ℕ) → at < length s → numberAt 1 s at ≡ getD s at 0
+unfolding numberAt fromBytes fromBytesBehind
+byte-there s at inside =
+    let here : getD s (at + 0) 0 ≡ getD s at 0 = ap (λ (k : ℕ). getD s k 0) (add-zero at) in
+    simp (le-leb (at + 1) (length s) (omega arith)) (sym (number-more s at 0 0 (omega arith) refl) ∙ omega (arith, here))
+
+pub two-there : (s : List ℕ) (at : ℕ) → at + 1 < length s → numberAt 2 s at ≡ getD s at 0 * 256 + getD s (at + 1) 0
+unfolding numberAt
+two-there s at inside =
+    let one : at < length s = omega arith in
+    let first : getD s at 0 ≡ fromBytes (part s at 1) = sym (byte-there s at one) ∙ simp (le-leb (at + 1) (length s) (omega arith)) in
+    simp (le-leb (at + 2) (length s) (omega arith)) (sym (number-more s at 1 (getD s at 0) inside first))
 
 -- seven bytes leave room for one more in 64 bits
 pub room-for-one : {i n : ℕ} → i < 8 → n < 256 ^ i → n < 2 ^ 56

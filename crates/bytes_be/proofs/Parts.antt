@@ -6,8 +6,8 @@ use Prim.Native.Nat.{ℕ, zero, suc, _+_, _-_, _≤_, _<_}
 use native.Mathlib.Nat.{add-zero}
 use native.Mathlib.Numerals.{add-one}
 use native.Mathlib.Omega.{arith}
-use lib.ListN.{length, getD, take, drop, length-append, length-drop, take-append-drop}
-use lib.Seq.{take-add, take-append-le, drop-append-le, take-suc, take-take, take-at, drop-at, getD-take, getD-drop, length-take-le, drop-drop, take-length, paste, length-paste}
+use lib.ListN.{length, getD, set, take, drop, length-append, length-drop, take-append-drop}
+use lib.Seq.{take-add, take-append-le, drop-append-le, take-suc, take-take, take-at, drop-at, getD-set-other, getD-take, getD-drop, length-take-le, drop-drop, take-length, paste, length-paste, sets, sets-eq}
 use lib.Dec.{leb}
 use borrow.Author.Tests.{le-leb, lt-leb, leb-true, leb-false}
 use Rattle.bytes_be.specs.Part.{tabulate, holds, part, putAt}
@@ -29,6 +29,26 @@ module _ {A : Type 0} (f : ℕ → A) where
   getD-tabulate first zero i d h = absurd (omega arith)
   getD-tabulate first (suc count) zero d h = ap f (sym (add-zero first))
   getD-tabulate first (suc count) (suc i) d h = getD-tabulate (suc first) count i d (omega arith) ∙ ap f (omega arith)
+
+  pub tabulate-more : (first count : ℕ) → tabulate first (count + 1) f ≡ tabulate first count f ++ (f (first + count) ∷ [])
+  tabulate-more first zero = ap (λ (k : ℕ). f k ∷ []) (sym (add-zero first))
+  tabulate-more first (suc count) =
+      let more : suc count + 1 ≡ suc (count + 1) = omega arith in
+      let last : suc first + count ≡ first + suc count = omega arith in
+      ap (λ (k : ℕ). tabulate first k f) more
+      ∙ ap (λ (rest : List A). f first ∷ rest) (tabulate-more (suc first) count ∙ ap (λ (k : ℕ). tabulate (suc first) count f ++ (f k ∷ [])) last)
+
+-- two functions with the same values, each from its own number on
+pub tabulate-same : {A : Type 0} (f g : ℕ → A) (first other count : ℕ) → ((i : ℕ) → i < count → f (first + i) ≡ g (other + i)) →
+    tabulate first count f ≡ tabulate other count g
+tabulate-same f g first other zero all = refl
+tabulate-same f g first other (suc count) all =
+    let here = ap f (sym (add-zero first)) ∙ all 0 (omega arith) ∙ ap g (add-zero other) in
+    let next : (i : ℕ) → i < count → f (suc first + i) ≡ g (suc other + i) = λ i h.
+    let from : suc first + i ≡ first + suc i = omega arith in
+    let to : other + suc i ≡ suc other + i = omega arith in
+    ap f from ∙ all (suc i) (omega arith) ∙ ap g to in
+    ap₂ _∷_ here (tabulate-same f g (suc first) (suc other) count next)
 
 module _ {A : Type 0} where
   pub length-part : (xs : List A) (at size : ℕ) → at + size ≤ length xs → length (part xs at size) ≡ size
@@ -98,6 +118,10 @@ module _ {A : Type 0} where
     pub put-paste : at + length ys ≤ length out → paste out at ys (length ys) ≡ putAt out at ys
     put-paste h = simp (take-length ys) (sym (put-fits h))
 
+    -- and so are stores one by one
+    pub put-sets : at + length ys ≤ length out → sets out at ys ≡ putAt out at ys
+    put-sets h = sets-eq ys out at h ∙ sym (put-fits h)
+
     -- a write keeps the length
     pub length-put : length (putAt out at ys) ≡ length out
     length-put = go (holds (length out) at (length ys)) refl
@@ -113,6 +137,28 @@ module _ {A : Type 0} where
         let rest : List A = drop (at + length ys) out in
         let there = part-behind (take at out) (ys ++ rest) at 0 (length ys) front ∙ part-front ys rest (length ys) refl in
         simp (put-fits h, append-assoc) (rw add-zero at there)
+
+  -- a write changes no place in front of it and none behind it
+
+  sets-before : (ys out : List A) (at k : ℕ) (d : A) → k < at → getD (sets out at ys) k d ≡ getD out k d
+  sets-before [] out at k d h = refl
+  sets-before (y ∷ ys) out at k d h = sets-before ys (set out at y) (suc at) k d (omega arith) ∙ getD-set-other out at k y d (λ same. omega arith)
+
+  sets-behind : (ys out : List A) (at k : ℕ) (d : A) → at + length ys ≤ k → getD (sets out at ys) k d ≡ getD out k d
+  sets-behind [] out at k d h = refl
+  sets-behind (y ∷ ys) out at k d h = sets-behind ys (set out at y) (suc at) k d (omega arith) ∙ getD-set-other out at k y d (λ same. omega arith)
+
+  module _ (out : List A) (at : ℕ) (ys : List A) (room : at + length ys ≤ length out) (d : A) where
+    pub put-before : (k : ℕ) → k < at → getD (putAt out at ys) k d ≡ getD out k d
+    put-before k h = ap (λ (l : List A). getD l k d) (sym (put-sets out at ys room)) ∙ sets-before ys out at k d h
+
+    pub put-behind : (k : ℕ) → at + length ys ≤ k → getD (putAt out at ys) k d ≡ getD out k d
+    put-behind k h = ap (λ (l : List A). getD l k d) (sym (put-sets out at ys room)) ∙ sets-behind ys out at k d h
+
+    -- and has its own elements between them
+    pub put-inside : (j : ℕ) → j < length ys → getD (putAt out at ys) (at + j) d ≡ getD ys j d
+    put-inside j h =
+        sym (getD-part (putAt out at ys) at (length ys) j d h) ∙ ap (λ (l : List A). getD l j d) (part-put out at ys room)
 
   -- writing nothing changes nothing
   pub put-nothing : (out : List A) (at : ℕ) → putAt out at [] ≡ out

@@ -1,34 +1,32 @@
 -- The confirmations awaited are a queue: an ask adds one at its end, and the oldest is the first to go. Assumes nothing.
-use mathlib.Core.Path.{_∙_, _≡_, ap, refl, sym}
-use Prim.Native.Nat.{_-_, _<_, _≤_, suc, zero, ℕ}
+use mathlib.Core.Path.{_∙_, _≡_, ap, ap₂, refl}
+use Prim.Native.Nat.{_*_, _+_, _-_, _<_, _^_, suc, zero, ℕ}
 use mathlib.Core.List.{List, [], _++_, _∷_}
-use native.Mathlib.Numerals.{add-one}
 use native.Mathlib.Omega.{arith}
-use lib.ListN.{drop, getD, length, length-drop, take}
-use lib.Seq.{take-append-le, take-nil, take-suc-set}
+use lib.ListN.{drop, length}
 use borrow.Author.Tests.{lt-ltb}
+use Rattle.bytes_be.specs.Part.{putAt, tabulate}
+use Rattle.bytes_be.proofs.Parts.{tabulate-more, tabulate-same}
 use Rattle.endpoint.specs.declared.Endpoint.{Endpoint}
 use Rattle.endpoint.specs.declared.Entry.{Entry}
-use Rattle.endpoint.specs.Record.{asked, atPhase, awaited, capacity, closed, confirmed, freshOf, limited, none, oldest, withoutOldest}
+use Rattle.endpoint.specs.Record.{asked, atPhase, awaited, capacity, closed, confirmed, entryAt, entryBytes, freshOf, limited, oldest, withoutOldest}
+use Rattle.endpoint.proofs.Entries.{entry-put, kept-before, moved-up}
 
--- all but the first of the first k + 1 are the first k of the rest
-drop-take : (k : ℕ) (entries : List Entry) → drop 1 (take (suc k) entries) ≡ take k (drop 1 entries)
-drop-take k [] = sym (take-nil k)
-drop-take k (entry ∷ rest) = refl
-
-take-without : (w : ℕ) (entries : List Entry) → length entries ≡ 16 → w ≤ 16 → take (w - 1) (withoutOldest entries) ≡ drop 1 (take w entries)
-take-without zero entries sixteen few = refl
-take-without (suc k) entries sixteen few =
+-- without the oldest, the first W - 1 are all but the first of the first W
+without-first : (w : ℕ) (entries : List ℕ) → length entries ≡ 48 →
+    tabulate 0 (w - 1) (entryAt (withoutOldest entries)) ≡ drop 1 (tabulate 0 w (entryAt entries))
+without-first zero entries full = refl
+without-first (suc k) entries full =
     let one-less : suc k - 1 ≡ k = omega arith in
-    let inside : k ≤ length (drop 1 entries) = simp length-drop (omega arith) in
-    ap (λ (j : ℕ). take j (withoutOldest entries)) one-less
-    ∙ take-append-le k (drop 1 entries) (none ∷ []) inside
-    ∙ sym (drop-take k entries)
+    ap (λ (w : ℕ). tabulate 0 w (entryAt (withoutOldest entries))) one-less
+    ∙ tabulate-same (entryAt (withoutOldest entries)) (entryAt entries) 0 1 k
+    (λ i h. let here : 0 + i ≡ i = omega arith in
+    let next : suc i ≡ 1 + i = omega arith in
+    ap (entryAt (withoutOldest entries)) here ∙ moved-up entries full i ∙ ap (entryAt entries) next)
 
-take-first : (w : ℕ) (entries : List Entry) → 0 < w → 0 < length entries → take w entries ≡ getD entries 0 none ∷ drop 1 (take w entries)
-take-first zero entries any long = absurd (omega arith)
-take-first (suc k) [] any long = absurd (omega arith)
-take-first (suc k) (entry ∷ rest) any long = refl
+first-awaited : (w : ℕ) (entries : List ℕ) → 0 < w → tabulate 0 w (entryAt entries) ≡ entryAt entries 0 ∷ drop 1 (tabulate 0 w (entryAt entries))
+first-awaited zero entries any = absurd (omega arith)
+first-awaited (suc k) entries any = refl
 
 -- a fresh endpoint awaits nothing
 pub fresh-awaited : (role flow limit : ℕ) → awaited (freshOf role flow limit) ≡ []
@@ -51,17 +49,24 @@ module _ (e : Endpoint) where
   unfolding limited
   limited-awaited limit = refl
 
-  module _ (sixteen : length (e .entries) ≡ 16) where
-    -- an ask adds its entry behind those awaited
-    pub asked-awaited : (entry : Entry) → e .w < 16 → awaited (asked e entry) ≡ awaited e ++ (entry ∷ [])
-    unfolding asked
-    asked-awaited entry room = simp (lt-ltb (e .w) capacity room, add-one) (take-suc-set (e .entries) (e .w) entry (omega arith))
+  -- an ask adds its entry behind those awaited, where its type-data has two bytes
+  pub asked-awaited : length (e .entries) ≡ 48 → (entry : Entry) → entry .«type_data» < 256 ^ 2 → e .w < 16 →
+      awaited (asked e entry) ≡ awaited e ++ (entry ∷ [])
+  unfolding asked
+  asked-awaited full entry two room =
+      let put : List ℕ = putAt (e .entries) (3 * e .w) (entryBytes entry) in
+      let last : 0 + e .w ≡ e .w = omega arith in
+      simp (lt-ltb (e .w) capacity room)
+      (tabulate-more (entryAt put) 0 (e .w)
+      ∙ ap₂ (λ (front : List Entry) (added : Entry). front ++ (added ∷ []))
+      (tabulate-same (entryAt put) (entryAt (e .entries)) 0 0 (e .w) (λ i h. kept-before (e .entries) full (e .w) room entry (0 + i) (omega arith)))
+      (ap (entryAt put) last ∙ entry-put (e .entries) full (e .w) room entry two))
 
-    -- what is confirmed is the oldest, and the others are left
-    pub confirmed-awaited : e .w ≤ 16 → awaited (confirmed e) ≡ drop 1 (awaited e)
-    unfolding confirmed
-    confirmed-awaited few = take-without (e .w) (e .entries) sixteen few
+  -- what is confirmed is the oldest, and the others are left
+  pub confirmed-awaited : length (e .entries) ≡ 48 → awaited (confirmed e) ≡ drop 1 (awaited e)
+  unfolding confirmed
+  confirmed-awaited full = without-first (e .w) (e .entries) full
 
-    -- the oldest is the first of those awaited
-    pub oldest-awaited : 0 < e .w → awaited e ≡ oldest e ∷ drop 1 (awaited e)
-    oldest-awaited any = take-first (e .w) (e .entries) any (omega arith)
+  -- the oldest is the first of those awaited
+  pub oldest-awaited : 0 < e .w → awaited e ≡ oldest e ∷ drop 1 (awaited e)
+  oldest-awaited any = first-awaited (e .w) (e .entries) any

@@ -1,28 +1,26 @@
 -- Loading and storing undo each other, and what is loaded is good where the block is. Assumes nothing.
-use mathlib.Core.Path.{_∙_, _≡_, ap, refl, sym, ap₂}
-use Prim.Native.Nat.{_%_, _*_, _+_, _<_, _^_, _≤_, suc, zero, ℕ}
-use mathlib.Core.List.{List, [], _++_, _∷_, flatMap}
+use mathlib.Core.Path.{_∙_, _≡_, ap, refl, sym}
+use Prim.Native.Nat.{_%_, _+_, _<_, _^_, _≤_, ℕ}
+use mathlib.Core.List.{List, [], _++_, _∷_}
 use mathlib.Core.Bool.{Bool, _&&_, _||_, cond, false, true}
 use native.Mathlib.Omega.{arith}
-use lib.Dec.{eqb, leb, ltb}
-use lib.ListN.{getD, length, List·getD-eq-default}
+use lib.Dec.{eqb, leb}
+use lib.ListN.{length}
 use lib.Seq.{take-all}
-use borrow.Author.Tests.{eqb-true, leb-true, ltb-false, ltb-true, eq-eqb}
+use borrow.Author.Tests.{eqb-true, leb-true, eq-eqb}
 use Rattle.bytes_be.specs.Number.{numberAt, toBytes}
-use Rattle.bytes_be.specs.Part.{part, tabulate}
-use Rattle.bytes_be.proofs.Numbers.{number-is, Bytes, bytes-there, number-below}
-use Rattle.bytes_be.proofs.Parts.{part-behind, part-front, part-inside, part-part, getD-tabulate, length-tabulate, part-then}
+use Rattle.bytes_be.specs.Part.{part}
+use Rattle.bytes_be.proofs.Numbers.{number-is, Bytes, bytes-part, bytes-there, number-below}
+use Rattle.bytes_be.proofs.Parts.{length-part, part-behind, part-inside, part-then}
 use Rattle.bytes_be.proofs.Tests.{both-true}
 use Rattle.double.specs.Limit.{leastLimit, mostLimit}
 use Rattle.endpoint.specs.declared.Endpoint.{Endpoint}
-use Rattle.endpoint.specs.declared.Entry.{Entry}
-use Rattle.endpoint.specs.Block.{bytesOf, entryBytes, entryIn, headBytes, entriesIn, holdsEndpoint, isGood, loadOf, noEndpoint, recordIn, spareIsZero}
-use Rattle.endpoint.specs.Record.{awaitable, entryFits, freshOf, good, inRanges, isNone, none, producer, batch, capacity, client, consumer, countFits, offer, server}
+use Rattle.endpoint.specs.Block.{bytesOf, headBytes, holdsEndpoint, isGood, loadOf, noEndpoint, recordIn, spareIsZero}
+use Rattle.endpoint.specs.Record.{freshOf, good, inRanges, producer, batch, client, consumer, countFits, offer, server}
 use Rattle.endpoint.specs.Round.{Sized, LoadedGood, LoadedStores, StoredLoads}
-use Rattle.bytes_be.proofs.Filled.{filled}
-use Rattle.endpoint.proofs.Stored.{length-block, length-entry, length-head}
+use Rattle.endpoint.proofs.Stored.{length-block, length-head}
 use Rattle.endpoint.proofs.StaysGood.{fresh-sized}
-use Rattle.endpoint.proofs.Told.{fits-at, fits-before, fits-behind, good-told}
+use Rattle.endpoint.proofs.Told.{good-told}
 
 -- a byte is the number at its place
 byte-is : (s : List ℕ) (at n : ℕ) → at < length s → n < 256 → part s at 1 ≡ n ∷ [] → numberAt 1 s at ≡ n
@@ -40,38 +38,14 @@ count-small : (counting : Bool) (n : ℕ) → cond counting (leb 1 n && leb n 65
 count-small true n fits = omega (arith, at-most 1 n 65535 fits)
 count-small false n fits = omega (arith, eqb-true n 0 fits)
 
-awaitable-small : (flow : ℕ) (entry : Entry) → awaitable flow entry ≡ true → entry .message < 256
-unfolding awaitable
-awaitable-small flow entry = go (eqb (entry .message) 3) refl
-  where
-    go : (t : Bool) → eqb (entry .message) 3 ≡ t → t || (eqb (entry .message) 4 && eqb flow producer) ≡ true → entry .message < 256
-    go true three may = omega (arith, eqb-true (entry .message) 3 three)
-    go false other may = omega (arith, eqb-true (entry .message) 4 (both-true (eqb (entry .message) 4) (eqb flow producer) may .0))
-
-none-small : (entry : Entry) → isNone entry ≡ true → entry .message < 256
-unfolding isNone
-none-small entry none =
-    omega (arith, eqb-true (entry .message) 0 (both-true (eqb (entry .message) 0) (eqb (entry .«type_data») 0) none .0))
-
--- the three bytes of an entry, behind those of the entries before it
-part-entries : (entries : List Entry) (i : ℕ) → i < length entries → part (flatMap entryBytes entries) (3 * i) 3 ≡ entryBytes (getD entries i none)
-unfolding flatMap
-part-entries [] i h = absurd (omega arith)
-part-entries (entry ∷ rest) zero h = part-front (entryBytes entry) (flatMap entryBytes rest) 3 (length-entry entry)
-part-entries (entry ∷ rest) (suc i) h =
-    let next : 3 * suc i ≡ 3 + 3 * i = omega arith in
-    ap (λ (at : ℕ). part (entryBytes entry ++ flatMap entryBytes rest) at 3) next
-    ∙ part-behind (entryBytes entry) (flatMap entryBytes rest) 3 (3 * i) 3 (length-entry entry)
-    ∙ part-entries rest i (omega arith)
-
 module _ (e : Endpoint) (sized : Sized e) (g : good e ≡ true) where
   long : length (bytesOf e) ≡ 64
-  long = length-block e (sized .sixteen)
+  long = length-block e (sized .full)
 
   -- a part of the block's first 16 bytes
   part-head : (at size : ℕ) → at + size ≤ 16 → part (bytesOf e) at size ≡ part (headBytes e) at size
   unfolding bytesOf
-  part-head at size inside = part-inside (headBytes e) (flatMap entryBytes (e .entries)) at size (omega (arith, length-head e))
+  part-head at size inside = part-inside (headBytes e) (e .entries) at size (omega (arith, length-head e))
 
   -- the numbers there
   byte-back : (at n : ℕ) → at < 16 → n < 256 → part (headBytes e) at 1 ≡ n ∷ [] → numberAt 1 (bytesOf e) at ≡ n
@@ -80,39 +54,10 @@ module _ (e : Endpoint) (sized : Sized e) (g : good e ≡ true) where
   number-back : (width at n : ℕ) → at + width ≤ 16 → n < 256 ^ width → part (headBytes e) at width ≡ toBytes width n → numberAt width (bytesOf e) at ≡ n
   number-back width at n inside small found = number-is width (bytesOf e) at n (omega (arith, long)) small (part-head at width inside ∙ found)
 
-  -- and of one of its entries
-  part-entry : (i at place size : ℕ) → i < 16 → 16 + 3 * i + at ≡ place → at + size ≤ 3 →
-      part (bytesOf e) place size ≡ part (entryBytes (getD (e .entries) i none)) at size
+  -- and the bytes behind them
+  entries-back : part (bytesOf e) 16 48 ≡ e .entries
   unfolding bytesOf
-  part-entry i at place size h found inside =
-      ap (λ (k : ℕ). part (bytesOf e) k size) (sym found)
-      ∙ sym (part-part (bytesOf e) (16 + 3 * i) 3 at size inside)
-      ∙ ap (λ (l : List ℕ). part l at size)
-      (part-behind (headBytes e) (flatMap entryBytes (e .entries)) 16 (3 * i) 3 (length-head e)
-      ∙ part-entries (e .entries) i (omega (arith, sized .sixteen)))
-
-  -- an entry is read as it was written, and so are all
-  message-small : (i : ℕ) → getD (e .entries) i none .message < 256
-  message-small i = go (ltb i (e .w)) refl
-    where
-      fits : entryFits e i ≡ true
-      fits = fits-at e (sized .sixteen) g i
-
-      go : (t : Bool) → ltb i (e .w) ≡ t → getD (e .entries) i none .message < 256
-      go true before = awaitable-small (e .flow) (getD (e .entries) i none) (sym (fits-before e i (ltb-true i (e .w) before)) ∙ fits)
-      go false behind = none-small (getD (e .entries) i none) (sym (fits-behind e i (ltb-false i (e .w) behind)) ∙ fits)
-
-  entry-back : (i : ℕ) → i < 16 → entryIn (bytesOf e) i ≡ getD (e .entries) i none
-  unfolding entryIn entryBytes toBytes
-  entry-back i h =
-      let entry = getD (e .entries) i none in
-      let first = byte-is (bytesOf e) (16 + 3 * i) (entry .message) (omega (arith, long)) (message-small i) (part-entry i 0 (16 + 3 * i) 1 h (omega arith) (omega arith)) in
-      let last = number-is 2 (bytesOf e) (17 + 3 * i) (entry .«type_data») (omega (arith, long)) (sized .small i) (part-entry i 1 (17 + 3 * i) 2 h (omega arith) (omega arith)) in
-      λ j. record { message = first j; «type_data» = last j }
-
-  entries-back : entriesIn (bytesOf e) ≡ e .entries
-  unfolding entriesIn
-  entries-back = sym (filled (entryIn (bytesOf e)) none (e .entries) 16 (sized .sixteen) (λ i h. sym (entry-back i h)))
+  entries-back = part-behind (headBytes e) (e .entries) 16 0 48 (length-head e) ∙ take-all 48 (e .entries) (omega (arith, sized .full))
 
   -- the whole record, and zeros at the spare places
   record-back : recordIn (bytesOf e) ≡ e
@@ -161,24 +106,19 @@ block-told block g =
     record { full = eqb-true _ _ (q .0); spare-two = eqb-true _ _ (r .0); spare-four = eqb-true _ _ (r .1); held = simp (p .0) }
 
 module _ (block : List ℕ) (bytes : Bytes block) where
-  -- the entries of a block of bytes are sixteen, each with a type-data of two bytes
-  record-sized : Sized (recordIn block)
-  unfolding recordIn entriesIn entryIn
-  record-sized = record { sixteen = length-tabulate (entryIn block) 0 capacity; small = λ i. small-at i (ltb i capacity) refl }
-    where
-      small-at : (i : ℕ) (t : Bool) → ltb i capacity ≡ t → getD (tabulate 0 capacity (entryIn block)) i none .«type_data» < 256 ^ 2
-      small-at i true inside = rw (getD-tabulate (entryIn block) 0 capacity i none (ltb-true i capacity inside)) (number-below 2 block (17 + 3 * (0 + i)) bytes)
-      small-at i false outside =
-          rw (List·getD-eq-default (tabulate 0 capacity (entryIn block)) none {n = i} (omega (arith, length-tabulate (entryIn block) 0 capacity, ltb-false i capacity outside))) (omega arith)
+  -- the entries of a block of bytes are 48 bytes
+  record-sized : length block ≡ 64 → Sized (recordIn block)
+  unfolding recordIn
+  record-sized full = record { full = length-part block 16 48 (omega arith); bytes = bytes-part block 16 48 bytes }
 
   -- and so are those of what is loaded
   pub loaded-sized : Sized (loadOf block)
   unfolding loadOf
-  loaded-sized = go (holdsEndpoint block)
+  loaded-sized = go (holdsEndpoint block) refl
     where
-      go : (t : Bool) → Sized (cond t (recordIn block) noEndpoint)
-      go true = record-sized
-      go false = fresh-sized 0 0 0
+      go : (t : Bool) → holdsEndpoint block ≡ t → Sized (cond t (recordIn block) noEndpoint)
+      go true holds = record-sized (eqb-true (length block) 64 (both-true (eqb (length block) 64) (spareIsZero block) holds .0))
+      go false other = fresh-sized 0 0 0
 
   module _ (full : length block ≡ 64) where
     -- the bytes of the numbers at their places are those of the block
@@ -190,17 +130,6 @@ module _ (block : List ℕ) (bytes : Bytes block) where
     byte-at at inside =
         let byte : numberAt 1 block at ≡ numberAt 1 block at % 256 = omega (arith, number-below 1 block at bytes) in
         ap (λ (k : ℕ). k ∷ []) byte ∙ bytes-at 1 at (omega arith)
-
-    entries-there : (i k : ℕ) → i + k ≤ 16 → flatMap entryBytes (tabulate i k (entryIn block)) ≡ part block (16 + 3 * i) (3 * k)
-    unfolding flatMap entryBytes entryIn
-    entries-there i zero h = refl
-    entries-there i (suc k) h =
-        let here : entryBytes (entryIn block i) ≡ part block (16 + 3 * i) 3 =
-        (λ j. byte-at (16 + 3 * i) (omega arith) j ++ bytes-at 2 (17 + 3 * i) (omega arith) j) ∙ part-then block (16 + 3 * i) 1 2 (17 + 3 * i) (omega arith) in
-        let all : 3 + 3 * k ≡ 3 * suc k = omega arith in
-        ap₂ (λ (a b : List ℕ). a ++ b) here (entries-there (suc i) k (omega arith))
-        ∙ part-then block (16 + 3 * i) 3 (3 * k) (16 + 3 * suc i) (omega arith)
-        ∙ ap (part block (16 + 3 * i)) all
 
     head-there : numberAt 2 block 6 ≡ 0 → numberAt 4 block 12 ≡ 0 → headBytes (recordIn block) ≡ part block 0 16
     unfolding headBytes recordIn
@@ -221,10 +150,10 @@ module _ (block : List ℕ) (bytes : Bytes block) where
 
 -- a good block is the block of its record: what was loaded is stored again as it was
 pub loaded-stores : LoadedStores
-unfolding bytesOf recordIn entriesIn
+unfolding bytesOf recordIn
 loaded-stores block bytes g =
     let told = block-told block g in
     ap bytesOf (told .held)
-    ∙ ap₂ (λ (a b : List ℕ). a ++ b) (head-there block bytes (told .full) (told .spare-two) (told .spare-four)) (entries-there block bytes (told .full) 0 16 (omega arith))
+    ∙ ap (λ (head : List ℕ). head ++ part block 16 48) (head-there block bytes (told .full) (told .spare-two) (told .spare-four))
     ∙ part-then block 0 16 48 16 refl
     ∙ take-all 64 block (omega (arith, told .full))

@@ -1,16 +1,18 @@
 -- What a good record says, test by test, and of each of its entries. Assumes nothing.
-use mathlib.Core.Path.{_∙_, _≡_, ap, refl}
-use Prim.Native.Nat.{_<_, _≤_, suc, zero, ℕ}
-use mathlib.Core.Bool.{Bool, _&&_, false, true}
+use mathlib.Core.Path.{_∙_, _≡_, refl}
+use Prim.Native.Nat.{_*_, _+_, _<_, _≤_, suc, zero, ℕ}
+use mathlib.Core.Bool.{Bool, _&&_, _||_, false, true}
 use native.Mathlib.Omega.{arith}
-use lib.Dec.{leb, ltb}
-use lib.ListN.{List·getD-eq-default, getD, length}
+use lib.Dec.{eqb, leb, ltb}
+use lib.ListN.{length}
 use borrow.Author.Count.{below-more}
-use borrow.Author.Tests.{le-leb, le-ltb, leb-true, lt-ltb, ltb-false, ltb-true}
+use borrow.Author.Tests.{eqb-true, le-leb, le-ltb, leb-true, lt-ltb, ltb-false, ltb-true}
+use Rattle.bytes_be.proofs.Numbers.{number-past}
 use Rattle.bytes_be.proofs.Tests.{both-true}
 use Rattle.double.specs.Limit.{inLimits}
 use Rattle.endpoint.specs.declared.Endpoint.{Endpoint}
-use Rattle.endpoint.specs.Record.{awaitable, capacity, client, countFits, entriesFit, entryFits, every, good, goodFlow, inRanges, isNone, none, server, shut, waitFits}
+use Rattle.endpoint.specs.declared.Entry.{Entry}
+use Rattle.endpoint.specs.Record.{awaitable, capacity, client, countFits, entriesFit, entryAt, entryFits, every, good, goodFlow, inRanges, isNone, producer, server, shut, waitFits}
 
 -- the tests of a good record
 pub record Told (e : Endpoint) : Type 0 where
@@ -63,21 +65,30 @@ pub every-from : (k : ℕ) (test : ℕ → Bool) → ((i : ℕ) → i < k → te
 every-from zero test all = refl
 every-from (suc k) test all = simp (every-from k test (λ i h. all i (omega arith)), all k (omega arith))
 
+-- a type that may be awaited is a byte
+pub awaitable-small : (flow : ℕ) (entry : Entry) → awaitable flow entry ≡ true → entry .message < 256
+unfolding awaitable
+awaitable-small flow entry = go (eqb (entry .message) 3) refl
+  where
+    go : (t : Bool) → eqb (entry .message) 3 ≡ t → t || (eqb (entry .message) 4 && eqb flow producer) ≡ true → entry .message < 256
+    go true three may = omega (arith, eqb-true (entry .message) 3 three)
+    go false other may = omega (arith, eqb-true (entry .message) 4 (both-true (eqb (entry .message) 4) (eqb flow producer) may .0))
+
 -- one of the first W entries fits where it may be awaited, and one behind them where it is zero
 
 module _ (e : Endpoint) (i : ℕ) where
-  pub fits-before : i < e .w → entryFits e i ≡ awaitable (e .flow) (getD (e .entries) i none)
+  pub fits-before : i < e .w → entryFits e i ≡ awaitable (e .flow) (entryAt (e .entries) i)
   unfolding entryFits
   fits-before h = simp (lt-ltb i (e .w) h)
 
-  pub fits-behind : e .w ≤ i → entryFits e i ≡ isNone (getD (e .entries) i none)
+  pub fits-behind : e .w ≤ i → entryFits e i ≡ isNone (entryAt (e .entries) i)
   unfolding entryFits
   fits-behind h = simp (le-ltb i (e .w) h)
 
--- each of a good record's sixteen entries fits, and so does none at every place behind them
-pub fits-at : (e : Endpoint) → length (e .entries) ≡ 16 → good e ≡ true → (i : ℕ) → entryFits e i ≡ true
-unfolding entriesFit isNone
-fits-at e sixteen g i = go (ltb i capacity) refl
+-- each of a good record's sixteen entries fits, and so does every one behind them, where there are no bytes
+pub fits-at : (e : Endpoint) → length (e .entries) ≡ 48 → good e ≡ true → (i : ℕ) → entryFits e i ≡ true
+unfolding entriesFit isNone entryAt
+fits-at e full g i = go (ltb i capacity) refl
   where
     told : Told e
     told = good-told e g
@@ -87,4 +98,4 @@ fits-at e sixteen g i = go (ltb i capacity) refl
     go false outside =
         let past : 16 ≤ i = ltb-false i capacity outside in
         fits-behind e i (omega (arith, told .waits))
-        ∙ ap isNone (List·getD-eq-default (e .entries) none {n = i} (omega arith))
+        ∙ simp (number-past 1 (e .entries) (3 * i) (omega arith), number-past 2 (e .entries) (3 * i + 1) (omega arith))

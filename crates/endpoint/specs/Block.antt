@@ -1,19 +1,14 @@
 -- "0 role ..; 1 flow ..; 2 phase ..; 3 W, confirmations awaited, 0..16; 4-5 n, big-endian; 6-7 zero; 8-11 limit, big-endian; 12-15 zero;
 -- 16-63 sixteen entries of 3 bytes (type, type-data), oldest first."
-use Prim.Native.Nat.{ℕ, _+_, _*_}
-use mathlib.Core.List.{List, [], _∷_, _++_, flatMap}
+use Prim.Native.Nat.{ℕ}
+use mathlib.Core.List.{List, [], _∷_, _++_}
 use mathlib.Core.Bool.{Bool, cond, _&&_}
 use lib.ListN.{length}
 use lib.Dec.{eqb}
-use Rattle.bytes_be.specs.Part.{tabulate}
+use Rattle.bytes_be.specs.Part.{part}
 use Rattle.bytes_be.specs.Number.{numberAt, toBytes}
-use Rattle.endpoint.specs.declared.Entry.{Entry}
 use Rattle.endpoint.specs.declared.Endpoint.{Endpoint}
-use Rattle.endpoint.specs.Record.{capacity, good, freshOf}
-
--- "entries of 3 bytes (type, type-data)"
-unfoldable pub entryBytes : Entry → List ℕ
-entryBytes entry = entry .message ∷ toBytes 2 (entry .«type_data»)
+use Rattle.endpoint.specs.Record.{good, freshOf}
 
 -- the first 16 bytes
 unfoldable pub headBytes : Endpoint → List ℕ
@@ -24,15 +19,9 @@ headBytes e =
 
 -- the block of a record
 unfoldable pub bytesOf : Endpoint → List ℕ
-bytesOf e = headBytes e ++ flatMap entryBytes (e .entries)
+bytesOf e = headBytes e ++ e .entries
 
 -- the record of a block
-unfoldable pub entryIn : List ℕ → ℕ → Entry
-entryIn block i = record { message = numberAt 1 block (16 + 3 * i); «type_data» = numberAt 2 block (17 + 3 * i) }
-
-unfoldable pub entriesIn : List ℕ → List Entry
-entriesIn block = tabulate 0 capacity (entryIn block)
-
 unfoldable pub recordIn : List ℕ → Endpoint
 recordIn block =
     record {
@@ -42,7 +31,7 @@ recordIn block =
       w = numberAt 1 block 3;
       n = numberAt 2 block 4;
       limit = numberAt 4 block 8;
-      entries = entriesIn block;
+      entries = part block 16 48;
     }
 
 -- "6-7 zero", "12-15 zero"

@@ -1,9 +1,11 @@
 -- "State block": the record that the block holds, what a good one is, what making gives, and the ways in which a record changes.
-use Prim.Native.Nat.{ℕ, zero, suc, _+_, _-_}
+use Prim.Native.Nat.{ℕ, zero, suc, _+_, _-_, _*_}
 use mathlib.Core.List.{List, [], _∷_, _++_}
 use mathlib.Core.Bool.{Bool, true, cond, _&&_, _||_}
-use lib.ListN.{getD, take, drop, set, replicate}
+use lib.ListN.{drop, replicate}
 use lib.Dec.{ltb, leb, eqb}
+use Rattle.bytes_be.specs.Part.{tabulate, putAt}
+use Rattle.bytes_be.specs.Number.{numberAt, toBytes}
 use Rattle.double.specs.Limit.{mostLimit, inLimits}
 use Rattle.endpoint.specs.declared.Entry.{Entry}
 use Rattle.endpoint.specs.declared.Endpoint.{Endpoint}
@@ -43,19 +45,23 @@ batch = 4
 abbrev pub shut : ℕ
 shut = 5
 
--- "sixteen entries"; one that awaits nothing is zero
+-- "sixteen entries of 3 bytes (type, type-data)"
 abbrev pub capacity : ℕ
 capacity = 16
 
-abbrev pub none : Entry
-none = record { message = 0; «type_data» = 0 }
+unfoldable pub entryBytes : Entry → List ℕ
+entryBytes entry = entry .message ∷ toBytes 2 (entry .«type_data»)
 
-abbrev pub noEntries : List Entry
-noEntries = replicate capacity none
+-- entry i of the 48 bytes
+unfoldable pub entryAt : List ℕ → ℕ → Entry
+entryAt entries i = record { message = numberAt 1 entries (3 * i); «type_data» = numberAt 2 entries (3 * i + 1) }
+
+abbrev pub noEntries : List ℕ
+noEntries = replicate 48 0
 
 -- the confirmations awaited: "oldest first"
 abbrev pub awaited : Endpoint → List Entry
-awaited e = take (e .w) (e .entries)
+awaited e = tabulate 0 (e .w) (entryAt (e .entries))
 
 -- "A block is good if these ranges hold"
 abbrev pub goodFlow : ℕ → Bool
@@ -86,7 +92,7 @@ unfoldable pub isNone : Entry → Bool
 isNone entry = eqb (entry .message) 0 && eqb (entry .«type_data») 0
 
 unfoldable pub entryFits : Endpoint → ℕ → Bool
-entryFits e i = cond (ltb i (e .w)) (awaitable (e .flow) (getD (e .entries) i none)) (isNone (getD (e .entries) i none))
+entryFits e i = cond (ltb i (e .w)) (awaitable (e .flow) (entryAt (e .entries) i)) (isNone (entryAt (e .entries) i))
 
 -- whether a test holds of every number below this one
 abbrev pub every : ℕ → (ℕ → Bool) → Bool
@@ -134,15 +140,15 @@ atPhase e phase n =
 unfoldable pub asked : Endpoint → Entry → Endpoint
 asked e entry =
     cond (ltb (e .w) capacity)
-    (record { role = e .role; flow = e .flow; phase = e .phase; w = e .w + 1; n = e .n; limit = e .limit; entries = set (e .entries) (e .w) entry })
+    (record { role = e .role; flow = e .flow; phase = e .phase; w = e .w + 1; n = e .n; limit = e .limit; entries = putAt (e .entries) (3 * e .w) (entryBytes entry) })
     e
 
 -- "the oldest entry"; "it removes it"
 abbrev pub oldest : Endpoint → Entry
-oldest e = getD (e .entries) 0 none
+oldest e = entryAt (e .entries) 0
 
-abbrev pub withoutOldest : List Entry → List Entry
-withoutOldest entries = drop 1 entries ++ (none ∷ [])
+abbrev pub withoutOldest : List ℕ → List ℕ
+withoutOldest entries = drop 3 entries ++ (0 ∷ 0 ∷ 0 ∷ [])
 
 unfoldable pub confirmed : Endpoint → Endpoint
 confirmed e =

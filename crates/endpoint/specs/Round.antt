@@ -1,18 +1,18 @@
 -- A record that is loaded is good where its block is. Loading and storing undo each other: a good record is loaded from the block that it was
 -- stored to, and a good block is stored again as it was.
-use Prim.Native.Nat.{ℕ, _<_, _^_}
+use Prim.Native.Nat.{ℕ, _<_}
 use mathlib.Core.Path.{_≡_}
 use mathlib.Core.List.{List}
 use mathlib.Core.Bool.{true}
 use lib.ListN.{length, getD}
 use Rattle.endpoint.specs.declared.Endpoint.{Endpoint}
-use Rattle.endpoint.specs.Record.{none, good}
+use Rattle.endpoint.specs.Record.{good}
 use Rattle.endpoint.specs.Block.{bytesOf, isGood, loadOf}
 
--- what the types of a record's fields say of its entries: there are sixteen, each with a type-data of two bytes
+-- what the type of a record's entries says of them: they are 48 bytes
 pub record Sized (e : Endpoint) : Type 0 where
-  pub sixteen : length (e .entries) ≡ 16
-  pub small : (i : ℕ) → getD (e .entries) i none .«type_data» < 256 ^ 2
+  pub full : length (e .entries) ≡ 48
+  pub bytes : (i : ℕ) → getD (e .entries) i 0 < 256
 
 -- the record of a block is good where the block is, and nowhere else
 abbrev pub LoadedGood : Type 0

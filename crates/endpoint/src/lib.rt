@@ -1,14 +1,13 @@
 // One endpoint: its record, what a good one is, how it changes, and its block of 64 bytes.
 ghost use mathlib.Core.Path.{_≡_};
-ghost use Prim.Native.Nat.{_-_, _<_};
-ghost use mathlib.Core.List.{flatMap};
+ghost use Prim.Native.Nat.{_+_, _-_, _*_, _<_};
 ghost use mathlib.Core.Bool.{cond};
 ghost use lib.ListN.{length};
-ghost use lib.Dec.{leb};
-ghost use Rattle.bytes_be.specs.Part.{putAt};
+ghost use lib.Dec.{leb, ltb};
+ghost use Rattle.bytes_be.specs.Part.{part, putAt};
 ghost use Rattle.double.specs.Limit.{inLimits};
-ghost use Rattle.endpoint.specs.Record.{noEntries, inRanges, countFits, waitFits, isNone, awaitable, entryFits, entriesFit, good as Record·good, givenOf, givenNumber, freshOf, closed as Record·closed, atPhase, asked as Record·asked, withoutOldest, confirmed as Record·confirmed, limited as Record·limited};
-ghost use Rattle.endpoint.specs.Block.{entryBytes, headBytes, bytesOf, entryIn, entriesIn, recordIn, spareIsZero, loadOf};
+ghost use Rattle.endpoint.specs.Record.{entryBytes, entryAt, noEntries, inRanges, countFits, waitFits, isNone, awaitable, every, entriesFit, good as Record·good, givenOf, givenNumber, freshOf, closed as Record·closed, atPhase, asked as Record·asked, withoutOldest, confirmed as Record·confirmed, limited as Record·limited, oldest as Record·oldest};
+ghost use Rattle.endpoint.specs.Block.{headBytes, bytesOf, recordIn, spareIsZero, loadOf};
 
 // A confirmation that is awaited.
 pub struct Entry {
@@ -29,8 +28,8 @@ pub struct Endpoint {
     // The count that is offered, or that is left of the batch.
     pub n: u16,
     pub limit: u32,
-    // The confirmations awaited, oldest first.
-    pub entries: [Entry; 16],
+    // The confirmations awaited, oldest first: sixteen times type and type-data, as in the block.
+    pub entries: [u8; 48],
 }
 
 // The flow and the limit that are given to a making.
@@ -76,29 +75,64 @@ fn is_none(entry: Entry) -> bool
     (entry.message == 0) & (entry.type_data == 0)
 }
 
-// Whether entry i is one that may be awaited, or behind the first W and zero.
-fn entry_fits(e: Endpoint, i: usize) -> bool
-    requires { ⌜ i < 16 ⌝ }
-    ensures { λ r. ⌜ r ≡ entryFits e i ⌝ }
+// The entry of three bytes.
+fn entry_of(message: u8, high: u8, low: u8) -> Entry
+    ensures { λ r. ⌜ r ≡ record { message = message; «type_data» = high * 256 + low } ⌝ }
 {
-    let entries = e.entries;
-    let entry = entries[i];
-    if i < e.w as usize {
-        return is_awaitable(e.flow, entry);
+    Entry {
+        message: message,
+        type_data: (high as u16) * 256 + (low as u16),
+    }
+}
+
+// Whether entry i is one that may be awaited, or behind the first W and zero.
+fn entry_fits(flow: u8, w: u8, entry: Entry, i: usize) -> bool
+    ensures { λ r. ⌜ r ≡ cond (ltb i w) (awaitable flow entry) (isNone entry) ⌝ }
+{
+    if i < w as usize {
+        return is_awaitable(flow, entry);
     }
     is_none(entry)
+}
+
+fn each_fits(e: Endpoint) -> bool
+    ensures { λ r. ⌜ r ≡ entriesFit e ⌝ }
+{
+    let entries = e.entries;
+    let flow = e.flow;
+    let w = e.w;
+    let mut fit = true;
+    let mut i = 0;
+    while i < 16 {
+        let at = 3 * i;
+        let entry = entry_of(entries[at], entries[at + 1], entries[at + 2]);
+        fit = fit & entry_fits(flow, w, entry, i);
+        i += 1;
+    }
+    fit
+}
+
+// Whether all entries are zero.
+fn none_awaited(entries: [u8; 48]) -> bool
+    ensures { λ r. ⌜ r ≡ every 16 (λ i. isNone (entryAt entries i)) ⌝ }
+{
+    let mut zero = true;
+    let mut i = 0;
+    while i < 48 {
+        zero = zero & (entries[i] == 0);
+        i += 1;
+    }
+    zero
 }
 
 fn entries_fit(e: Endpoint) -> bool
     ensures { λ r. ⌜ r ≡ entriesFit e ⌝ }
 {
-    let mut fit = true;
-    let mut i = 0;
-    while i < 16 {
-        fit = fit & entry_fits(e, i);
-        i += 1;
+    if e.w == 0 {
+        let entries = e.entries;
+        return none_awaited(entries);
     }
-    fit
+    each_fits(e)
 }
 
 fn in_limits(limit: u32) -> bool
@@ -114,14 +148,10 @@ pub fn good(e: Endpoint) -> bool
     in_ranges(e) & count_fits(e) & wait_fits(e) & entries_fit(e) & in_limits(e.limit)
 }
 
-fn no_entries() -> [Entry; 16]
+fn no_entries() -> [u8; 48]
     ensures { λ r. ⌜ r ≡ noEntries ⌝ }
 {
-    let none = Entry {
-        message: 0,
-        type_data: 0,
-    };
-    [none; 16]
+    [0; 48]
 }
 
 // Whether flow and limit are ones that an endpoint can be made with.
@@ -185,13 +215,33 @@ pub fn at_phase(e: Endpoint, phase: u8, n: u16) -> Endpoint
     next
 }
 
+fn entry_bytes(entry: Entry) -> [u8; 3]
+    ensures { λ r. ⌜ r ≡ entryBytes entry ⌝ }
+{
+    let last = bytes_be::bytes16(entry.type_data);
+    [entry.message, last[0], last[1]]
+}
+
+// The entries with one more behind the first W.
+fn with_entry(entries: [u8; 48], w: u8, entry: Entry) -> [u8; 48]
+    requires { ⌜ w < 16 ⌝ }
+    ensures { λ r. ⌜ r ≡ putAt entries (3 * w) (entryBytes entry) ⌝ }
+{
+    let mut next = entries;
+    let bytes = entry_bytes(entry);
+    let at = 3 * (w as usize);
+    next[at] = bytes[0];
+    next[at + 1] = bytes[1];
+    next[at + 2] = bytes[2];
+    next
+}
+
 // The endpoint with one confirmation more that is awaited, where there is room for it.
 pub fn asked(e: Endpoint, entry: Entry) -> Endpoint
     ensures { λ r. ⌜ r ≡ Record·asked e entry ⌝ }
 {
     if e.w < 16 {
-        let mut entries = e.entries;
-        entries[e.w as usize] = entry;
+        let entries = e.entries;
         return Endpoint {
             role: e.role,
             flow: e.flow,
@@ -199,38 +249,31 @@ pub fn asked(e: Endpoint, entry: Entry) -> Endpoint
             w: e.w + 1,
             n: e.n,
             limit: e.limit,
-            entries: entries,
+            entries: with_entry(entries, e.w, entry),
         };
     }
     e
 }
 
+// The oldest confirmation awaited; a type of 0 where none is.
+pub fn oldest(e: Endpoint) -> Entry
+    ensures { λ r. ⌜ r ≡ Record·oldest e ⌝ }
+{
+    let entries = e.entries;
+    entry_of(entries[0], entries[1], entries[2])
+}
+
 // The entries without the oldest.
-fn without_oldest(entries: [Entry; 16]) -> [Entry; 16]
+fn without_oldest(entries: [u8; 48]) -> [u8; 48]
     ensures { λ r. ⌜ r ≡ withoutOldest entries ⌝ }
 {
-    let none = Entry {
-        message: 0,
-        type_data: 0,
-    };
-    [
-        entries[1],
-        entries[2],
-        entries[3],
-        entries[4],
-        entries[5],
-        entries[6],
-        entries[7],
-        entries[8],
-        entries[9],
-        entries[10],
-        entries[11],
-        entries[12],
-        entries[13],
-        entries[14],
-        entries[15],
-        none,
-    ]
+    let mut rest = no_entries();
+    let mut i = 0;
+    while i < 45 {
+        rest[i] = entries[3 + i];
+        i += 1;
+    }
+    rest
 }
 
 // The endpoint without the oldest confirmation awaited.
@@ -267,30 +310,22 @@ fn less_one(w: u8) -> u8
     w - 1
 }
 
-fn entry_in(block: &[u8], i: usize) -> Entry
-    requires { ⌜ i < 16 ⌝ }
-    ensures { λ r. ⌜ r ≡ entryIn (now (block .entry)) i ⌝ }
-{
-    let at = 3 * i;
-    Entry {
-        message: bytes_be::read8(block, 16 + at),
-        type_data: bytes_be::read16(block, 17 + at),
-    }
-}
-
-fn entries_in(block: &[u8]) -> [Entry; 16]
-    ensures { λ r. ⌜ r ≡ entriesIn (now (block .entry)) ⌝ }
+// The entries of a block, whose length leaves no test inside the loop.
+fn entries_in(block: &[u8]) -> [u8; 48]
+    requires { ⌜ length (now block) ≡ 64 ⌝ }
+    ensures { λ r. ⌜ r ≡ part (now (block .entry)) 16 48 ⌝ }
 {
     let mut entries = no_entries();
     let mut i = 0;
-    while i < 16 {
-        entries[i] = entry_in(block, i);
+    while i < 48 {
+        entries[i] = block[16 + i];
         i += 1;
     }
     entries
 }
 
 fn record_in(block: &[u8]) -> Endpoint
+    requires { ⌜ length (now block) ≡ 64 ⌝ }
     ensures { λ r. ⌜ r ≡ recordIn (now (block .entry)) ⌝ }
 {
     Endpoint {
@@ -314,18 +349,15 @@ fn spare_is_zero(block: &[u8]) -> bool
 pub fn load(block: &[u8]) -> Endpoint
     ensures { λ r. ⌜ r ≡ loadOf (now (block .entry)) ⌝ }
 {
-    let holds = (block.len() == 64) & spare_is_zero(block);
-    if holds {
+    let none = fresh(0, 0, 0);
+    if block.len() != 64 {
+        return none;
+    }
+    let spare = spare_is_zero(block);
+    if spare {
         return record_in(block);
     }
-    fresh(0, 0, 0)
-}
-
-fn entry_bytes(entry: Entry) -> [u8; 3]
-    ensures { λ r. ⌜ r ≡ entryBytes entry ⌝ }
-{
-    let last = bytes_be::bytes16(entry.type_data);
-    [entry.message, last[0], last[1]]
+    none
 }
 
 // Stores the first 16 bytes of a block that has room for all 64.
@@ -342,20 +374,12 @@ fn store_head(e: Endpoint, block: &mut [u8])
     }
 }
 
-// Stores the sixteen entries behind them.
-fn store_entries(entries: [Entry; 16], block: &mut [u8])
-    ensures stored { λ _. ⌜ now (block .exit) ≡ putAt (now (block .entry)) 16 (flatMap entryBytes entries) ⌝ }
-    ensures counted { λ _. ⌜ length entries ≡ 16 ⌝ }
+// Stores the entries behind them.
+fn store_entries(entries: [u8; 48], block: &mut [u8])
+    ensures stored { λ _. ⌜ now (block .exit) ≡ putAt (now (block .entry)) 16 entries ⌝ }
+    ensures counted { λ _. ⌜ length entries ≡ 48 ⌝ }
 {
-    let room = 64 <= block.len();
-    if room {
-        let mut i = 0;
-        while i < 16 {
-            let entry = entry_bytes(entries[i]);
-            bytes_be::copy_at(block, 16 + 3 * i, &entry);
-            i += 1;
-        }
-    }
+    bytes_be::copy_at(block, 16, &entries);
 }
 
 // Stores the 64 bytes of a record at the start of a block, or nothing where they do not fit.

@@ -1,6 +1,6 @@
 -- Every send and every receive leaves a good endpoint good. Assumes nothing.
 use mathlib.Core.Path.{_≡_, refl, subst}
-use Prim.Native.Nat.{_<_, _^_, ℕ}
+use Prim.Native.Nat.{ℕ}
 use mathlib.Core.List.{List}
 use mathlib.Core.Bool.{Bool, cond, false, true}
 use lib.Dec.{eqb}
@@ -34,14 +34,15 @@ use Rattle.machine.proofs.Stages.{Passed, received-holds}
 
 module _ (e : Endpoint) (sound : Sound e) where
   -- an ask, or none
-  ask-sound : (ask : Bool) (after : Endpoint) → Acts e after → (entry : Entry) → awaitable (e .flow) entry ≡ true → entry .«type_data» < 256 ^ 2 → Sound (cond ask (asked after entry) after)
-  ask-sound true after acts entry awaits few =
+  ask-sound : (ask : Bool) (after : Endpoint) → Acts e after → (entry : Entry) → awaitable (e .flow) entry ≡ true → Sound (cond ask (asked after entry) after)
+  ask-sound true after acts entry awaits =
       let good = acts .sound in
+      let may : awaitable (after .flow) entry ≡ true = rw (acts .same) awaits in
       record {
-        sized = asked-sized after (good .sized) entry few;
-        is-good = asked-good after (good .sized .sixteen) (good .is-good) entry (acts .early) (acts .late) (rw (acts .same) awaits);
+        sized = asked-sized after (good .sized) entry may;
+        is-good = asked-good after (good .sized .full) (good .is-good) entry (acts .early) (acts .late) may;
       }
-  ask-sound false after acts entry awaits few = acts .sound
+  ask-sound false after acts entry awaits = acts .sound
 
   accepted-sound : (call : Call) → Fits call → notAllowed (sendRow e (outgoing e call)) ≡ false → Sound (askedBy (moved e (sendRow e (outgoing e call))) (outgoing e call))
   unfolding sendRow askedBy awaitable
@@ -49,9 +50,9 @@ module _ (e : Endpoint) (sound : Sound e) where
   accepted-sound (READY count) fits passes = row-sound e sound (e .role) (e .flow) Ready count fits
   accepted-sound (DATA type-data ask body) fits passes =
       let acts = sent-data-acts e sound (e .flow) passes in
-      ask-sound ask _ (acts .1) (record { message = 4; «type_data» = type-data }) (eq-eqb (e .flow) producer (acts .0)) fits
+      ask-sound ask _ (acts .1) (record { message = 4; «type_data» = type-data }) (eq-eqb (e .flow) producer (acts .0))
   accepted-sound (NOOP type-data ask) fits passes =
-      ask-sound ask _ (sent-noop-acts e sound passes) (record { message = 3; «type_data» = type-data }) refl fits
+      ask-sound ask _ (sent-noop-acts e sound passes) (record { message = 3; «type_data» = type-data }) refl
   accepted-sound (CLOSE code) fits passes = row-sound e sound (e .role) (e .flow) Close code fits
 
   sent-sound : (call : Call) → Fits call → (room : ℕ) → Sound (sentBy e (outgoing e call) room .next)
@@ -73,7 +74,7 @@ module _ (e : Endpoint) (sound : Sound e) where
   -- a confirmation, or none
   confirmed-sound : (t : Bool) (after : Endpoint) → Sound after → Sound (cond t (confirmed after) after)
   confirmed-sound true after good =
-      record { sized = confirmed-sized after (good .sized); is-good = confirmed-good after (good .sized .sixteen) (good .is-good) }
+      record { sized = confirmed-sized after (good .sized); is-good = confirmed-good after (good .sized .full) (good .is-good) }
   confirmed-sound false after good = good
 
   -- a limit, or none

@@ -1,4 +1,4 @@
--- Every send and every receive leaves a good endpoint good, and its entries sixteen of two bytes each.
+-- Every send and every receive leaves a good endpoint good, and its entries 48 bytes.
 use Prim.Native.Nat.{ℕ, _<_, _^_}
 use mathlib.Core.Path.{_≡_}
 use mathlib.Core.List.{List}

@@ -15,7 +15,7 @@ use Rattle.wire.specs.Written.{tagOf, varintField, eightField, bytesField}
 use Rattle.double.specs.Double.{bytesOf as Double·bytesOf}
 use Rattle.open_write.specs.Frame.{goodName, goodFormat, isGood, formatField, parametersField, frameFor}
 use Rattle.message.specs.Reading.{strangeFlags, bodyOf, readAs, readingOf}
-use Rattle.endpoint.specs.Record.{inRanges, countFits, waitFits, isNone, entryFits, entriesFit, good as Record·good, freshOf, closed, atPhase}
+use Rattle.endpoint.specs.Record.{entryAt, inRanges, countFits, waitFits, isNone, entryFits, entriesFit, good as Record·good, freshOf, closed, atPhase}
 use Rattle.table.specs.Table.{begun, openRow, readyRow, dataRow, noopRow, closeRow, atRow}
 use Rattle.receiving.specs.Refusing.{closeCode, silent, refused}
 use Rattle.receiving.specs.Hearing.{movesAs, hearRow, tooLarge, carriedBy, unmatched, confirmedBy, replyTo, accepted, hearContent, hearMessage, hearOf}
@@ -25,5 +25,5 @@ use Rattle.sending.specs.Sending.{sendRow, isFull, numberFor, askedBy, sentBy, 
 use Rattle.marked.specs.Cases.{marked, allPass}
 
 pub marked-pass : allPass marked ≡ true
-unfolding flatMap flatten same putAt fromBytesBehind fromBytes toBytes numberAt countOf lengthOf lengthsBefore startOf good sizeOf contentsOf frameOf bundleOf signedOf versionOf knownTypeOf bytesOf toBits ofInt Double·bytesOf table dueBehind rest wellFormed shortestWithin shortestOf tagOf varintField eightField bytesField goodName goodFormat isGood formatField parametersField frameFor strangeFlags bodyOf readAs readingOf inRanges countFits waitFits isNone entryFits entriesFit Record·good freshOf closed atPhase begun openRow readyRow dataRow noopRow closeRow atRow closeCode silent refused movesAs hearRow tooLarge carriedBy unmatched confirmedBy replyTo accepted hearContent hearMessage hearOf receivedOf bundleWith sendRow isFull numberFor askedBy sentBy leftBy
+unfolding flatMap flatten same putAt fromBytesBehind fromBytes toBytes numberAt countOf lengthOf lengthsBefore startOf good sizeOf contentsOf frameOf bundleOf signedOf versionOf knownTypeOf bytesOf toBits ofInt Double·bytesOf table dueBehind rest wellFormed shortestWithin shortestOf tagOf varintField eightField bytesField goodName goodFormat isGood formatField parametersField frameFor strangeFlags bodyOf readAs readingOf entryAt inRanges countFits waitFits isNone entryFits entriesFit Record·good freshOf closed atPhase begun openRow readyRow dataRow noopRow closeRow atRow closeCode silent refused movesAs hearRow tooLarge carriedBy unmatched confirmedBy replyTo accepted hearContent hearMessage hearOf receivedOf bundleWith sendRow isFull numberFor askedBy sentBy leftBy
 marked-pass = refl

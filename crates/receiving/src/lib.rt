@@ -244,8 +244,7 @@ fn carried_by(e: Endpoint, s: &[u8], name: &[u8], format: &[u8], m: Message) -> 
 fn matches_oldest(e: Endpoint, message: MessageType, type_data: u16) -> bool
     ensures { λ r. ⌜ r ≡ matchesOldest e message «type_data» ⌝ }
 {
-    let entries = e.entries;
-    let oldest = entries[0];
+    let oldest = endpoint::oldest(e);
     (0 < e.w) & (oldest.message == control::type_of(message)) & (oldest.type_data == type_data)
 }
 

@@ -1,46 +1,22 @@
--- `endpoint::entries_fit` meets its contract: the loop keeps the test of every entry below i.
+-- `endpoint::entries_fit` meets its contract: the entries are tested byte by byte where none is awaited, and else one by one.
 -- Assumes nothing.
-use mathlib.Core.Path.{_∙_, _≡_, ap, ap₂, refl}
-use Prim.Native.Nat.{_-_, _≤_, ℕ}
-use mathlib.Core.Bool.{_&&_}
-use native.Mathlib.Numerals.{add-one}
-use native.Mathlib.Omega.{arith}
 use borrow.Author.Needs.{needs}
-use Rattle.endpoint.specs.Record.{entriesFit, entryFits, every}
+use Rattle.endpoint.specs.Record.{entriesFit, entryFits}
 use Rattle.endpoint.proofs.entries_fit.Statement.{statement}
 use Rattle.endpoint.proofs.entries_fit.Tie as tie
 
-abbrev Inv-loop : tie.InvT-loop
-Inv-loop e fit₀ i₀ fit i = (i ≤ 16) × (fit ≡ every i (entryFits e))
+none-awaited-requires : tie.Need-none-awaited-requires
+none-awaited-requires c κs = search needs
 
-abbrev μ-loop : tie.MeasureT-loop
-μ-loop e fit₀ i₀ fit i = 16 - i
+returns : tie.Need-returns
+unfolding entriesFit entryFits
+returns c = simp (c .before .before .if1 .taken) (c .none-awaited .ensures)
 
-loop-holds : tie.Need-loop-holds Inv-loop μ-loop
-loop-holds c = (search needs, refl)
+each-fits-requires : tie.Need-each-fits-requires
+each-fits-requires c κs = search needs
 
-entry-fits-requires : tie.Need-entry-fits-requires Inv-loop μ-loop
-entry-fits-requires c κs = search needs
-
-add-i : tie.Need-add-i Inv-loop μ-loop
-add-i c = search needs
-
-loop-less : tie.Need-loop-less Inv-loop μ-loop
-loop-less c = search needs
-
-loop-again : tie.Need-loop-again Inv-loop μ-loop
-loop-again c =
-    let loop = c .before .before .loop in
-    (search needs, rw add-one (ap₂ _&&_ (loop .inv .1) (c .entry-fits .ensures)))
-
-returns : tie.Need-returns Inv-loop μ-loop
-unfolding entriesFit
-returns c =
-    let loop = c .before .loop in
-    let all : loop .i ≡ 16 = omega arith in
-    loop .inv .1 ∙ ap (λ (n : ℕ). every n (entryFits (c .before .before .args .e))) all
+returns-2 : tie.Need-returns-2
+returns-2 c = search needs
 
 pub entries-fit-spec : {M : Type 1} → statement M
-entries-fit-spec =
-    tie.close
-    (tie.spec Inv-loop μ-loop loop-holds entry-fits-requires add-i loop-less loop-again returns)
+entries-fit-spec = tie.close (tie.spec none-awaited-requires returns each-fits-requires returns-2)

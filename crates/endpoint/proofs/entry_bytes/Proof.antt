@@ -3,7 +3,7 @@
 use mathlib.Core.Path.{refl}
 use borrow.Author.Needs.{needs}
 use Rattle.bytes_be.specs.Number.{toBytes}
-use Rattle.endpoint.specs.Block.{entryBytes}
+use Rattle.endpoint.specs.Record.{entryBytes}
 use Rattle.endpoint.proofs.entry_bytes.Statement.{statement}
 use Rattle.endpoint.proofs.entry_bytes.Tie as tie
 

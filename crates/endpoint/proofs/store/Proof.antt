@@ -2,10 +2,9 @@
 -- Assumes nothing.
 use mathlib.Core.Path.{_∙_, ap}
 use Prim.Native.Nat.{ℕ}
-use mathlib.Core.List.{List, flatMap}
+use mathlib.Core.List.{List}
 use borrow.Author.Needs.{needs}
 use Rattle.bytes_be.specs.Part.{putAt}
-use Rattle.endpoint.specs.Block.{entryBytes}
 use Rattle.endpoint.proofs.Stored.{stored-whole}
 use Rattle.endpoint.proofs.store.Statement.{statement}
 use Rattle.endpoint.proofs.store.Tie as tie
@@ -23,7 +22,7 @@ returns : tie.Need-returns
 returns c =
     let a = c .before .before .before .before .before .before .before .before .before .before .args in
     c .before .before .store-entries .ensures .0
-    ∙ ap (λ (l : List ℕ). putAt l 16 (flatMap entryBytes (a .e .entries))) (c .before .before .before .before .before .before .store-head .ensures)
+    ∙ ap (λ (l : List ℕ). putAt l 16 (a .e .entries)) (c .before .before .before .before .before .before .store-head .ensures)
     ∙ stored-whole (a .block .now) (a .e) (c .before .before .store-entries .ensures .1)
 
 pub store-spec : {M : Type 1} → statement M

@@ -5,8 +5,8 @@ use Rattle.receiving.specs.Hearing.{matchesOldest}
 use Rattle.receiving.proofs.matches_oldest.Statement.{statement}
 use Rattle.receiving.proofs.matches_oldest.Tie as tie
 
-array-copy-out-oldest : tie.Need-array-copy-out-oldest
-array-copy-out-oldest c = search needs
+oldest-requires : tie.Need-oldest-requires
+oldest-requires c κs = search needs
 
 type-of-requires : tie.Need-type-of-requires
 type-of-requires c κs = search needs
@@ -16,4 +16,4 @@ unfolding matchesOldest
 returns c = cc
 
 pub matches-oldest-spec : {M : Type 1} → statement M
-matches-oldest-spec = tie.close (tie.spec array-copy-out-oldest type-of-requires returns)
+matches-oldest-spec = tie.close (tie.spec oldest-requires type-of-requires returns)

@@ -1,0 +1,90 @@
+-- `endpoint::each_fits` meets its contract: the loop keeps the test of every entry below i.
+-- Assumes nothing.
+use mathlib.Core.Path.{_∙_, _≡_, ap, ap₂, refl, sym}
+use Prim.Native.Nat.{_-_, _≤_, ℕ}
+use mathlib.Core.Bool.{_&&_, cond}
+use native.Mathlib.Numerals.{add-one}
+use native.Mathlib.Omega.{arith}
+use lib.Dec.{ltb}
+use lib.ListN.{length}
+use borrow.Author.Needs.{needs}
+use Rattle.endpoint.specs.declared.Entry.{Entry}
+use Rattle.endpoint.specs.Record.{awaitable, entriesFit, entryAt, entryFits, every, isNone}
+use Rattle.endpoint.proofs.Entries.{entry-read}
+use Rattle.endpoint.proofs.each_fits.Statement.{statement}
+use Rattle.endpoint.proofs.each_fits.Tie as tie
+
+abbrev Inv-loop : tie.InvT-loop
+Inv-loop entries flow w fit₀ i₀ fit i = (i ≤ 16) × (fit ≡ every i (λ k. cond (ltb k w) (awaitable flow (entryAt entries k)) (isNone (entryAt entries k))))
+
+abbrev μ-loop : tie.MeasureT-loop
+μ-loop entries flow w fit₀ i₀ fit i = 16 - i
+
+loop-holds : tie.Need-loop-holds Inv-loop μ-loop
+loop-holds c = (search needs, refl)
+
+mul-at : tie.Need-mul-at Inv-loop μ-loop
+mul-at c = search needs
+
+array-read-entry-of : tie.Need-array-read-entry-of Inv-loop μ-loop
+array-read-entry-of c = search needs
+
+add-entry-of : tie.Need-add-entry-of Inv-loop μ-loop
+add-entry-of c = search needs
+
+array-read-entry-of-2 : tie.Need-array-read-entry-of-2 Inv-loop μ-loop
+array-read-entry-of-2 c = search needs
+
+add-entry-of-2 : tie.Need-add-entry-of-2 Inv-loop μ-loop
+add-entry-of-2 c = search needs
+
+array-read-entry-of-3 : tie.Need-array-read-entry-of-3 Inv-loop μ-loop
+array-read-entry-of-3 c = search needs
+
+entry-of-requires : tie.Need-entry-of-requires Inv-loop μ-loop
+entry-of-requires c κs = search needs
+
+entry-fits-requires : tie.Need-entry-fits-requires Inv-loop μ-loop
+entry-fits-requires c κs = search needs
+
+add-i : tie.Need-add-i Inv-loop μ-loop
+add-i c = search needs
+
+loop-less : tie.Need-loop-less Inv-loop μ-loop
+loop-less c = search needs
+
+loop-again : tie.Need-loop-again Inv-loop μ-loop
+loop-again c =
+    let loop = c .before .before .before .loop in
+    let e = c .before .before .before .before .before .args .e in
+    let full : length (e .entries) ≡ 48 = search needs in
+    let read = c .before .entry-of .ensures ∙ sym (entry-read (e .entries) full (loop .i)) in
+    let fits = c .entry-fits .ensures ∙ ap (λ (entry : Entry). cond (ltb (loop .i) (e .w)) (awaitable (e .flow) entry) (isNone entry)) read in
+    (search needs, rw add-one (ap₂ _&&_ (loop .inv .1) fits))
+
+returns : tie.Need-returns Inv-loop μ-loop
+unfolding entriesFit entryFits
+returns c =
+    let loop = c .before .loop in
+    let all : loop .i ≡ 16 = omega arith in
+    loop .inv .1 ∙ ap (λ (n : ℕ). every n (entryFits (c .before .before .before .args .e))) all
+
+pub each-fits-spec : {M : Type 1} → statement M
+each-fits-spec =
+    tie.close
+    (tie.spec
+    Inv-loop
+    μ-loop
+    loop-holds
+    mul-at
+    array-read-entry-of
+    add-entry-of
+    array-read-entry-of-2
+    add-entry-of-2
+    array-read-entry-of-3
+    entry-of-requires
+    entry-fits-requires
+    add-i
+    loop-less
+    loop-again
+    returns)
