@@ -117,7 +117,6 @@ bytes-part s at size h i = go (ltb i size) refl
     go false e = rw (List·getD-eq-default (part s at size) 0 {n = i} (simp length-take (omega (arith, ltb-false i size e)))) (lit< tt)
 
 -- and so are those of two lists of bytes, one behind the other
-
 pub bytes-append : (xs ys : List ℕ) → Bytes xs → Bytes ys → Bytes (xs ++ ys)
 bytes-append [] ys front back i = back i
 bytes-append (x ∷ xs) ys front back zero = front 0

@@ -56,6 +56,7 @@ entryBytes entry = entry .message ∷ toBytes 2 (entry .«type_data»)
 unfoldable pub entryAt : List ℕ → ℕ → Entry
 entryAt entries i = record { message = numberAt 1 entries (3 * i); «type_data» = numberAt 2 entries (3 * i + 1) }
 
+-- "entries zero"
 abbrev pub noEntries : List ℕ
 noEntries = replicate 48 0
 
