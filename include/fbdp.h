@@ -109,8 +109,8 @@ enum { FBDP_PRODUCER = 1, FBDP_CONSUMER = 2 };
 /* The socket that an OPEN asks for: a producer's is the server's input, a consumer's its output. */
 enum { FBDP_INPUT = 1, FBDP_OUTPUT = 2 };
 
-/* The phases of an endpoint, and what may be sent in them; either end may also send NOOP from FBDP_PHASE_IDLE on, and
- * CLOSE from FBDP_PHASE_OPENING on, up to its end. */
+/* The phases of an endpoint, and what may be sent in them. Until it is closed, either end may also send NOOP from
+ * FBDP_PHASE_IDLE on, and CLOSE from FBDP_PHASE_OPENING on. */
 enum {
     FBDP_PHASE_FRESH = 0,   /* nothing was sent or heard: the client's OPEN */
     FBDP_PHASE_OPENING = 1, /* OPEN was sent or heard: the server's READY */

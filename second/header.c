@@ -3,6 +3,12 @@
 #include <fbdp.h>
 
 #define SLOT(type, field, slot) _Static_assert(offsetof(struct type, field) == 8 * (slot), #type "." #field)
+#define SLOTS(type, count) _Static_assert(sizeof(struct type) == 8 * (count), #type)
+#define THREE(type, first, second, third)                                                                              \
+    SLOT(type, first, 0);                                                                                              \
+    SLOT(type, second, 1);                                                                                             \
+    SLOT(type, third, 2);                                                                                              \
+    SLOTS(type, 3)
 #define IS(name, number) _Static_assert((name) == (number), #name)
 
 SLOT(fbdp_heard, type, 0);
@@ -20,22 +26,10 @@ SLOT(fbdp_heard, parameters_length, 11);
 SLOT(fbdp_heard, body_at, 12);
 SLOT(fbdp_heard, body_length, 13);
 SLOT(fbdp_heard, spare, 14);
-_Static_assert(sizeof(struct fbdp_heard) == 8 * 16, "sixteen numbers");
-
-SLOT(fbdp_frame_place, found, 0);
-SLOT(fbdp_frame_place, at, 1);
-SLOT(fbdp_frame_place, length, 2);
-_Static_assert(sizeof(struct fbdp_frame_place) == 8 * 3, "three numbers");
-
-SLOT(fbdp_value_held, kind, 0);
-SLOT(fbdp_value_held, held, 1);
-SLOT(fbdp_value_held, length, 2);
-_Static_assert(sizeof(struct fbdp_value_held) == 8 * 3, "three numbers");
-
-SLOT(fbdp_term_place, slice, 0);
-SLOT(fbdp_term_place, at, 1);
-SLOT(fbdp_term_place, length, 2);
-_Static_assert(sizeof(struct fbdp_term_place) == 8 * 3, "three numbers");
+SLOTS(fbdp_heard, 16);
+THREE(fbdp_frame_place, found, at, length);
+THREE(fbdp_value_held, kind, held, length);
+THREE(fbdp_term_place, slice, at, length);
 
 IS(FBDP_ACCEPTED, 0);
 IS(FBDP_BAD_BLOCK, 1);
