@@ -42,7 +42,7 @@ spareIsZero block = eqb (numberAt 2 block 6) 0 && eqb (numberAt 4 block 12) 0
 abbrev pub holdsEndpoint : List ℕ → Bool
 holdsEndpoint block = eqb (length block) 64 && spareIsZero block
 
--- "1 block not 64 bytes, or not good"
+-- "A block is good if .."
 unfoldable pub isGood : List ℕ → Bool
 isGood block = holdsEndpoint block && good (recordIn block)
 
@@ -50,5 +50,6 @@ isGood block = holdsEndpoint block && good (recordIn block)
 abbrev pub noEndpoint : Endpoint
 noEndpoint = freshOf 0 0 0
 
+-- the record that a call on a block works with
 unfoldable pub loadOf : List ℕ → Endpoint
 loadOf block = cond (holdsEndpoint block) (recordIn block) noEndpoint

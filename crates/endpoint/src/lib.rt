@@ -85,7 +85,7 @@ fn entry_of(message: u8, high: u8, low: u8) -> Entry
     }
 }
 
-// Whether entry i is one that may be awaited, or behind the first W and zero.
+// Whether entry i is among the first W and may be awaited, or behind them and zero.
 fn entry_fits(flow: u8, w: u8, entry: Entry, i: usize) -> bool
     ensures { λ r. ⌜ r ≡ cond (ltb i w) (awaitable flow entry) (isNone entry) ⌝ }
 {
@@ -255,7 +255,7 @@ pub fn asked(e: Endpoint, entry: Entry) -> Endpoint
     e
 }
 
-// The oldest confirmation awaited; a type of 0 where none is.
+// The oldest confirmation awaited; of a good record that awaits none, zero.
 pub fn oldest(e: Endpoint) -> Entry
     ensures { λ r. ⌜ r ≡ Record·oldest e ⌝ }
 {
@@ -310,7 +310,7 @@ fn less_one(w: u8) -> u8
     w - 1
 }
 
-// The entries of a block, whose length leaves no test inside the loop.
+// The entries of a block of 64 bytes.
 fn entries_in(block: &[u8]) -> [u8; 48]
     requires { ⌜ length (now block) ≡ 64 ⌝ }
     ensures { λ r. ⌜ r ≡ part (now (block .entry)) 16 48 ⌝ }

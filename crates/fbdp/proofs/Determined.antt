@@ -19,8 +19,8 @@ pub lookup-determined : {client defaults key : List ℕ} {number number′ : ℕ
     LookupAnswer client defaults key number′ slots′ → (number ≡ number′) × (slots ≡ slots′)
 lookup-determined one other = (one .numbered ∙ sym (other .numbered), one .told ∙ sym (other .told))
 
-pub make-determined : {made : Endpoint} {flow limit : ℕ} {before : List ℕ} {number number′ : ℕ} {after after′ : List ℕ} →
-    MakeAnswer made flow limit before number after → MakeAnswer made flow limit before number′ after′ → (number ≡ number′) × (after ≡ after′)
+pub make-determined : {made : Endpoint} {before : List ℕ} {number number′ : ℕ} {after after′ : List ℕ} →
+    MakeAnswer made before number after → MakeAnswer made before number′ after′ → (number ≡ number′) × (after ≡ after′)
 make-determined one other = (one .numbered ∙ sym (other .numbered), one .kept ∙ sym (other .kept))
 
 pub send-determined : {call : Call} {block out : List ℕ} {number number′ count count′ : ℕ} {block₁ block₂ out₁ out₂ : List ℕ} →

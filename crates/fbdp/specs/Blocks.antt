@@ -32,9 +32,9 @@ unfoldable pub makeNumber : ℕ → ℕ → List ℕ → ℕ
 makeNumber flow limit block = cond (eqb (length block) 64) (givenNumber (givenOf flow limit)) 1
 
 -- `fbdp_make_client` and `fbdp_make_server`: the block of the fresh endpoint, or the block as it was
-pub record MakeAnswer (made : Endpoint) (flow limit : ℕ) (before : List ℕ) (number : ℕ) (after : List ℕ) : Type 0 where
-  pub numbered : number ≡ makeNumber flow limit before
-  pub kept : after ≡ cond (eqb (makeNumber flow limit before) 0) (stored made before) before
+pub record MakeAnswer (made : Endpoint) (before : List ℕ) (number : ℕ) (after : List ℕ) : Type 0 where
+  pub numbered : number ≡ makeNumber (made .flow) (made .limit) before
+  pub kept : after ≡ cond (eqb (makeNumber (made .flow) (made .limit) before) 0) (stored made before) before
 
 -- what comes of a call on a block
 abbrev pub sentOn : List ℕ → Call → ℕ → Sent
@@ -75,10 +75,11 @@ receivedOn block s name format room = receivedOf (loadOf block) s name format ro
 abbrev pub replyLength : Reply → ℕ
 replyLength reply = length (replyBytes reply)
 
--- "Numbers 10..24 .. set phase 5 .. All others change no byte.": the block after a receive
+-- "All others change no byte.": 1, 2 and 3
 unfoldable pub leaves : ℕ → Bool
 leaves number = leb 1 number && leb number 3
 
+-- the block after a receive
 unfoldable pub keptBy : Received → List ℕ → List ℕ
 keptBy received block = cond (leaves (answerNumber (received .answer))) block (stored (received .next) block)
 

@@ -1,4 +1,4 @@
--- What each entry of the C interface answers and leaves: one record for each, with an equation for the number and for every output.
+-- What the entries without a state block answer and leave: one record for each, with an equation for the number and for every output.
 use Prim.Native.Nat.{ℕ, _+_}
 use mathlib.Core.Path.{_≡_}
 use mathlib.Core.List.{List, [], _∷_}

@@ -105,7 +105,7 @@ pub extern "C" fn fbdp_lookup(
 
 // Makes a fresh endpoint of this role in a block of 64 bytes.
 fn make(block: &mut [u8], role: u8, flow: u8, limit: u32) -> u32
-    ensures { λ r. ⌜ MakeAnswer (freshOf role flow limit) flow limit (now (block .entry)) r (now (block .exit)) ⌝ }
+    ensures { λ r. ⌜ MakeAnswer (freshOf role flow limit) (now (block .entry)) r (now (block .exit)) ⌝ }
 {
     if block.len() != 64 {
         return 1;
@@ -120,7 +120,7 @@ fn make(block: &mut [u8], role: u8, flow: u8, limit: u32) -> u32
 // Makes a fresh client of this flow and limit.
 #[no_mangle]
 pub extern "C" fn fbdp_make_client(block: &mut [u8], flow: u8, limit: u32) -> u32
-    ensures { λ r. ⌜ MakeAnswer (freshClient flow limit) flow limit (now (block .entry)) r (now (block .exit)) ⌝ }
+    ensures { λ r. ⌜ MakeAnswer (freshClient flow limit) (now (block .entry)) r (now (block .exit)) ⌝ }
 {
     make(block, 1, flow, limit)
 }
@@ -128,7 +128,7 @@ pub extern "C" fn fbdp_make_client(block: &mut [u8], flow: u8, limit: u32) -> u3
 // Makes a fresh server of this flow.
 #[no_mangle]
 pub extern "C" fn fbdp_make_server(block: &mut [u8], flow: u8) -> u32
-    ensures { λ r. ⌜ MakeAnswer (freshServer flow) flow mostLimit (now (block .entry)) r (now (block .exit)) ⌝ }
+    ensures { λ r. ⌜ MakeAnswer (freshServer flow) (now (block .entry)) r (now (block .exit)) ⌝ }
 {
     make(block, 2, flow, 50000000)
 }

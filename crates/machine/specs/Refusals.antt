@@ -19,7 +19,7 @@ Closing number = (10 ≤ number) × (number ≤ 24)
 abbrev pub Staying : ℕ → Type 0
 Staying number = (1 ≤ number) × (number ≤ 3)
 
--- whatever a receive makes of bytes changes nothing, or closes and says so, or hears a message
+-- whatever a receive makes of bytes changes nothing, or closes with the reply that its number has, or hears a message
 pub data Outcome (e : Endpoint) : Received → Type 0 where
   stays : (number : ℕ) → Staying number → Outcome e (unchanged e number)
   closes : (number said : ℕ) → Closing number → Outcome e (refused e number said)

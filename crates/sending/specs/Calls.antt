@@ -28,6 +28,7 @@ pub data Call : Type 0 where
   -- the code
   CLOSE : ℕ → Call
 
+-- what each call sends
 abbrev pub messageOf : Call → MessageType
 messageOf (OPEN name format) = Open
 messageOf (READY count) = Ready
@@ -43,6 +44,7 @@ typeDataOf (DATA type-data ask body) = type-data
 typeDataOf (NOOP type-data ask) = type-data
 typeDataOf (CLOSE code) = code
 
+-- "DATA takes .. an ask for confirmation; NOOP takes .. the ask."
 abbrev pub askOf : Call → Bool
 askOf (OPEN name format) = false
 askOf (READY count) = false

@@ -43,7 +43,7 @@ numberFor e o row room =
 unfoldable pub askedBy : Endpoint → Outgoing → Endpoint
 askedBy e o = cond (o .ask) (asked e (record { message = typeOf (o .message); «type_data» = o .«type_data» })) e
 
--- a refusal changes nothing
+-- "All others change no byte."
 abbrev pub unsent : Endpoint → ℕ → Sent
 unsent e number = record { number = number; next = e; written = 0 }
 

@@ -5,13 +5,14 @@ use borrow.Author.Needs.{needs}
 use borrow.Author.Tests.{eq-eqb, ne-eqb}
 use Rattle.bytes_be.specs.Part.{putAt}
 use Rattle.endpoint.specs.declared.Endpoint.{Endpoint}
+use Rattle.endpoint.specs.Record.{freshOf}
 use Rattle.endpoint.specs.Block.{bytesOf}
 use Rattle.fbdp.specs.Blocks.{makeNumber, stored}
 use Rattle.fbdp.proofs.make.Statement.{statement}
 use Rattle.fbdp.proofs.make.Tie as tie
 
 returns : tie.Need-returns
-unfolding makeNumber
+unfolding makeNumber freshOf
 returns c =
     let other = ne-eqb (length (c .before .before .args .block .now)) 64 (c .if1 .taken) in
     record { numbered = simp other; kept = simp other }
@@ -26,7 +27,7 @@ enum-told-2 : tie.Need-enum-told-2
 enum-told-2 c = search needs
 
 returns-2 : tie.Need-returns-2
-unfolding makeNumber
+unfolding makeNumber freshOf
 returns-2 c =
     let sized = eq-eqb (length (c .before .before .before .before .before .args .block .now)) 64 (c .before .before .before .if1 .left) in
     let bad = sym (c .before .before .given-of .ensures) ∙ c .enum-told2 .given .1 in
@@ -42,7 +43,7 @@ same-length : tie.Need-same-length
 same-length c = search needs
 
 returns-3 : tie.Need-returns-3
-unfolding makeNumber stored
+unfolding makeNumber freshOf stored
 returns-3 c =
     let a = c .before .before .before .before .before .before .before .before .before .before .args in
     let sized = eq-eqb (length (a .block .now)) 64 (c .before .before .before .before .before .before .before .before .if1 .left) in
