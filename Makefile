@@ -1,7 +1,7 @@
 # The archive, the header and the example host, in build/: `make` builds them, `make run` runs the example.
 PREFIX ?= /usr/local
 SEED ?= 20261115
-CALLS ?= 4000000
+CALLS ?= 10000000
 
 sources := crates.txt $(shell find crates -name must-fail -prune -o -type f -print)
 second := target/second/release/second
