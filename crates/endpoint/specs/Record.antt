@@ -92,8 +92,12 @@ awaitable flow entry = eqb (entry .message) 3 || (eqb (entry .message) 4 && eqb 
 unfoldable pub isNone : Entry → Bool
 isNone entry = eqb (entry .message) 0 && eqb (entry .«type_data») 0
 
+-- entry i, with this flow and this W
+abbrev pub fits : ℕ → ℕ → Entry → ℕ → Bool
+fits flow w entry i = cond (ltb i w) (awaitable flow entry) (isNone entry)
+
 unfoldable pub entryFits : Endpoint → ℕ → Bool
-entryFits e i = cond (ltb i (e .w)) (awaitable (e .flow) (entryAt (e .entries) i)) (isNone (entryAt (e .entries) i))
+entryFits e i = fits (e .flow) (e .w) (entryAt (e .entries) i) i
 
 -- whether a test holds of every number below this one
 abbrev pub every : ℕ → (ℕ → Bool) → Bool

@@ -3,10 +3,10 @@ ghost use mathlib.Core.Path.{_≡_};
 ghost use Prim.Native.Nat.{_+_, _-_, _*_, _<_};
 ghost use mathlib.Core.Bool.{cond};
 ghost use lib.ListN.{length};
-ghost use lib.Dec.{leb, ltb};
+ghost use lib.Dec.{leb};
 ghost use Rattle.bytes_be.specs.Part.{part, putAt};
 ghost use Rattle.double.specs.Limit.{inLimits};
-ghost use Rattle.endpoint.specs.Record.{entryBytes, entryAt, noEntries, inRanges, countFits, waitFits, isNone, awaitable, every, entriesFit, good as Record·good, givenOf, givenNumber, freshOf, closed as Record·closed, atPhase, asked as Record·asked, withoutOldest, confirmed as Record·confirmed, limited as Record·limited, oldest as Record·oldest};
+ghost use Rattle.endpoint.specs.Record.{entryBytes, entryAt, noEntries, inRanges, countFits, waitFits, isNone, awaitable, fits, every, entriesFit, good as Record·good, givenOf, givenNumber, freshOf, closed as Record·closed, atPhase, asked as Record·asked, withoutOldest, confirmed as Record·confirmed, limited as Record·limited, oldest as Record·oldest};
 ghost use Rattle.endpoint.specs.Block.{headBytes, bytesOf, recordIn, spareIsZero, loadOf};
 
 // A confirmation that is awaited.
@@ -87,7 +87,7 @@ fn entry_of(message: u8, high: u8, low: u8) -> Entry
 
 // Whether entry i is among the first W and may be awaited, or behind them and zero.
 fn entry_fits(flow: u8, w: u8, entry: Entry, i: usize) -> bool
-    ensures { λ r. ⌜ r ≡ cond (ltb i w) (awaitable flow entry) (isNone entry) ⌝ }
+    ensures { λ r. ⌜ r ≡ fits flow w entry i ⌝ }
 {
     if i < w as usize {
         return is_awaitable(flow, entry);

@@ -27,7 +27,9 @@ pub send-determined : {call : Call} {block out : List ℕ} {number number′ cou
     SendAnswer call block out number count block₁ out₁ → SendAnswer call block out number′ count′ block₂ out₂ →
     (number ≡ number′) × (count ≡ count′) × (block₁ ≡ block₂) × (out₁ ≡ out₂)
 send-determined one other =
-    (one .numbered ∙ sym (other .numbered), one .counted ∙ sym (other .counted), one .kept ∙ sym (other .kept), one .left ∙ sym (other .left))
+    let first = one .finished in
+    let second = other .finished in
+    (first .numbered ∙ sym (second .numbered), first .counted ∙ sym (second .counted), first .kept ∙ sym (second .kept), one .left ∙ sym (other .left))
 
 pub receive-determined : {s name format block out : List ℕ} {number number′ : ℕ} {slots slots′ block₁ block₂ out₁ out₂ : List ℕ} →
     ReceiveAnswer s name format block out number slots block₁ out₁ → ReceiveAnswer s name format block out number′ slots′ block₂ out₂ →

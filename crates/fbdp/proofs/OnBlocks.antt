@@ -24,13 +24,7 @@ module _ (block : List ℕ) (e : Endpoint) (loaded : e ≡ loadOf block) where
       Sent-by-record e call out sent out′ → Finished sent block number count block′ → SendAnswer call block out number count block′ out′
   send-finished call out out′ sent number count block′ by-record finished =
       let by-loaded : Sent-by-record (loadOf block) call out sent out′ = rw loaded at by-record in
-      let on-block = by-loaded .answered in
-      record {
-        numbered = finished .numbered ∙ ap (λ (s : Sent). s .number) on-block;
-        counted = finished .counted ∙ ap (λ (s : Sent). s .written) on-block;
-        kept = finished .kept ∙ ap (λ (s : Sent). keptAfter s block) on-block;
-        left = by-loaded .left;
-      }
+      record { finished = rw (by-loaded .answered) at finished; left = by-loaded .left }
 
   pub receive-finished : (s name format out out′ : List ℕ) (received : Received) (number : ℕ) (slots block′ : List ℕ) →
       Heard-by-record e s name format out received out′ → number ≡ answerNumber (received .answer) →
@@ -64,9 +58,9 @@ pub bad-block-sends : BadBlockSends
 unfolding leftBy keptAfter
 bad-block-sends call block out number count block′ out′ bad answer =
     let refusal = refused-send block bad call _ in (
-      answer .numbered ∙ ap (λ (s : Sent). s .number) refusal,
-      answer .counted ∙ ap (λ (s : Sent). s .written) refusal,
-      answer .kept ∙ ap (λ (s : Sent). keptAfter s block) refusal,
+      answer .finished .numbered ∙ ap (λ (s : Sent). s .number) refusal,
+      answer .finished .counted ∙ ap (λ (s : Sent). s .written) refusal,
+      answer .finished .kept ∙ ap (λ (s : Sent). keptAfter s block) refusal,
       answer .left ∙ ap (λ (s : Sent). leftBy s (written (loadOf block) call) out) refusal,
     )
 

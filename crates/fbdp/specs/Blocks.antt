@@ -56,9 +56,7 @@ asksFor ask = not (eqb ask 0)
 
 -- `fbdp_send_open`, `fbdp_send_ready`, `fbdp_send_data`, `fbdp_send_noop` and `fbdp_send_close`
 pub record SendAnswer (call : Call) (block out : List ℕ) (number count : ℕ) (block′ out′ : List ℕ) : Type 0 where
-  pub numbered : number ≡ sentOn block call (length out) .number
-  pub counted : count ≡ sentOn block call (length out) .written
-  pub kept : block′ ≡ keptAfter (sentOn block call (length out)) block
+  pub finished : Finished (sentOn block call (length out)) block number count block′
   pub left : out′ ≡ leftBy (sentOn block call (length out)) (written (loadOf block) call) out
 
 -- "1 block not 64 bytes, or not good": a send on such a block changes no byte

@@ -1,7 +1,6 @@
 // The C interface: numbers and byte slices in, a number out.
 ghost use mathlib.Core.Path.{_≡_};
 ghost use Rattle.endpoint.specs.Record.{freshOf, freshClient, freshServer};
-ghost use Rattle.double.specs.Limit.{mostLimit};
 ghost use Rattle.receiving.specs.Receiving.{answerNumber};
 ghost use Rattle.sending.specs.Calls.{OPEN, READY, DATA, NOOP, CLOSE};
 ghost use Rattle.fbdp.specs.Blocks.{MakeAnswer, Finished, asksFor, SendAnswer, replyLength, leaves, contentSlots, heardSlots, answerSlots, ReceiveAnswer};

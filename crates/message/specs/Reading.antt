@@ -18,6 +18,7 @@ use Rattle.control.specs.declared.KnownType.the-variants.{Unknown}
 use Rattle.control.specs.Frame.{ackRequest, ackReply, typeIn, signedOf, versionOf, knownTypeOf, signedNumber, versionNumber, knownTypeNumber, ifSigned, ifVersionOne, ifKnown}
 use Rattle.message.specs.declared.Body.{Body}
 use Rattle.message.specs.declared.Body.the-variants.{Nothing, At}
+use Rattle.message.specs.declared.Message.{Message}
 use Rattle.message.specs.declared.Reading.{Reading}
 use Rattle.message.specs.declared.Reading.the-variants.{Read, Refused}
 use Rattle.message.specs.declared.Test.{Test}
@@ -79,11 +80,15 @@ ifPasses Passes refused next = next
 ifPasses Fails refused next = refused
 
 -- 14, 15, and else the message
+abbrev pub tested : ℕ → Message → Reading
+tested said whole =
+    ifPasses (testOf (badFlags (whole .message) (whole .flags))) (refused 14 said)
+    (ifPasses (testOf (badFrames (whole .message) (whole .flags) (whole .frames))) (refused 15 said)
+    (Read whole))
+
 unfoldable pub readAs : List ℕ → ℕ → MessageType → ℕ → ℕ → ℕ → ℕ → Reading
 readAs s said message flags type-data frames size =
-    ifPasses (testOf (badFlags message flags)) (refused 14 said)
-    (ifPasses (testOf (badFrames message flags frames)) (refused 15 said)
-    (Read
+    tested said
     (record {
       message = message;
       flags = flags;
@@ -91,7 +96,7 @@ readAs s said message flags type-data frames size =
       frames = frames;
       size = size;
       body = bodyOf s message flags;
-    })))
+    })
 
 -- 10, 11, 12, 13, and then by the type
 unfoldable pub readingOf : List ℕ → Reading

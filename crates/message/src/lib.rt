@@ -1,9 +1,8 @@
 // A message as a bundle carries it: its control frame and its data frame, or the first of 10 to 15 that refuses it.
 ghost use mathlib.Core.Path.{_≡_};
 ghost use mathlib.Core.Bool.{cond};
-ghost use Rattle.message.specs.Reading.{testOf, strangeFlags, badFlags, badFrames, carries as Reading·carries, bodyPlace, refused as Reading·refused, ifPasses, readingOf};
+ghost use Rattle.message.specs.Reading.{testOf, strangeFlags, badFlags, badFrames, carries as Reading·carries, bodyPlace, refused as Reading·refused, tested as Reading·tested, readingOf};
 ghost use Rattle.message.specs.declared.Body.the-variants.{Nothing, At as Body·At};
-ghost use Rattle.message.specs.declared.Reading.the-variants.{Read};
 use bundle::Contents;
 use bytes_be::Place;
 use control::KnownType;
@@ -139,10 +138,7 @@ fn refused(number: u8, said: u8) -> Reading
 
 // A message whose type is known, or the first of 14 and 15 that refuses it.
 fn tested(said: u8, whole: Message) -> Reading
-    ensures { λ r. ⌜ r ≡
-        ifPasses (testOf (badFlags (whole .message) (whole .flags))) (Reading·refused 14 said)
-        (ifPasses (testOf (badFrames (whole .message) (whole .flags) (whole .frames))) (Reading·refused 15 said)
-        (Read whole)) ⌝ }
+    ensures { λ r. ⌜ r ≡ Reading·tested said whole ⌝ }
 {
     let message = whole.message;
     let flags = whole.flags;

@@ -6,7 +6,7 @@ ghost use Rattle.bytes_be.specs.Part.{same};
 ghost use Rattle.wire.specs.Fields.{fieldsOf};
 ghost use Rattle.params.specs.Message.{faultNumber, fault, lackingOf, checkNumber, placeIn};
 ghost use Rattle.params.specs.Keys.{keyOf, findIn, isFound};
-ghost use Rattle.params.specs.Rules.{valueWire, valueText, valueAllowed, valueRule, valueField, valueCheck, bytesRule, Seen, seenOf, keyRule, entryField, entryDone, entryCheck, itemField, itemsCheck, inside, structCheck, aloneCheck};
+ghost use Rattle.params.specs.Rules.{valueWire, valueText, valueAllowed, valueRule, valueField, valueCheck, bytesRule, seenOf, keyRule, entryField, entryDone, entryCheck, itemField, itemsCheck, inside, structCheck, aloneCheck};
 use bytes_be::Place;
 use wire::Fault;
 use wire::Field;

@@ -2,20 +2,19 @@
 -- Assumes nothing.
 use mathlib.Core.Path.{_∙_, _≡_, ap, ap₂, refl, sym}
 use Prim.Native.Nat.{_-_, _≤_, ℕ}
-use mathlib.Core.Bool.{_&&_, cond}
+use mathlib.Core.Bool.{_&&_}
 use native.Mathlib.Numerals.{add-one}
 use native.Mathlib.Omega.{arith}
-use lib.Dec.{ltb}
 use lib.ListN.{length}
 use borrow.Author.Needs.{needs}
 use Rattle.endpoint.specs.declared.Entry.{Entry}
-use Rattle.endpoint.specs.Record.{awaitable, entriesFit, entryAt, entryFits, every, isNone}
+use Rattle.endpoint.specs.Record.{entriesFit, entryAt, entryFits, every, fits}
 use Rattle.endpoint.proofs.Entries.{entry-read}
 use Rattle.endpoint.proofs.each_fits.Statement.{statement}
 use Rattle.endpoint.proofs.each_fits.Tie as tie
 
 abbrev Inv-loop : tie.InvT-loop
-Inv-loop entries flow w fit₀ i₀ fit i = (i ≤ 16) × (fit ≡ every i (λ k. cond (ltb k w) (awaitable flow (entryAt entries k)) (isNone (entryAt entries k))))
+Inv-loop entries flow w fit₀ i₀ fit i = (i ≤ 16) × (fit ≡ every i (λ k. fits flow w (entryAt entries k) k))
 
 abbrev μ-loop : tie.MeasureT-loop
 μ-loop entries flow w fit₀ i₀ fit i = 16 - i
@@ -59,8 +58,8 @@ loop-again c =
     let e = c .before .before .before .before .before .args .e in
     let full : length (e .entries) ≡ 48 = search needs in
     let read = c .before .entry-of .ensures ∙ sym (entry-read (e .entries) full (loop .i)) in
-    let fits = c .entry-fits .ensures ∙ ap (λ (entry : Entry). cond (ltb (loop .i) (e .w)) (awaitable (e .flow) entry) (isNone entry)) read in
-    (search needs, rw add-one (ap₂ _&&_ (loop .inv .1) fits))
+    let this = c .entry-fits .ensures ∙ ap (λ (entry : Entry). fits (e .flow) (e .w) entry (loop .i)) read in
+    (search needs, rw add-one (ap₂ _&&_ (loop .inv .1) this))
 
 returns : tie.Need-returns Inv-loop μ-loop
 unfolding entriesFit entryFits
