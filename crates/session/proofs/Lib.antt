@@ -1,0 +1,2 @@
+-- `Packets` has what is on its way.
+pub mod Packets

@@ -1,0 +1,1 @@
+// Two ends and two queues: demand 3. Definitions and proofs only.
