@@ -69,7 +69,7 @@ reads-back e call fits room number =
 -- ---- heard as sent
 
 -- a call confirms nothing, and is answered where it asks
-own-flags : (call : Call) → (confirms (messageOf call) (flagsFor (askOf call)) ≡ false) × (asks (messageOf call) (flagsFor (askOf call)) ≡ askOf call)
+pub own-flags : (call : Call) → (confirms (messageOf call) (flagsFor (askOf call)) ≡ false) × (asks (messageOf call) (flagsFor (askOf call)) ≡ askOf call)
 own-flags (OPEN name format) = (refl, refl)
 own-flags (READY count) = (refl, refl)
 own-flags (DATA type-data true body) = (refl, refl)

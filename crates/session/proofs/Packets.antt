@@ -1,28 +1,39 @@
 -- What a send puts on its way, and what an end makes of the packet that it receives: the bytes of calls, confirmations and CLOSEs. Assumes
 -- nothing.
-use mathlib.Core.Path.{_≡_}
-use Prim.Native.Nat.{ℕ, _<_, _^_}
-use mathlib.Core.List.{List, [], _∷_, _++_, map}
-use mathlib.Core.Bool.{Bool, true, cond}
+use mathlib.Core.Path.{_≡_, _∙_, ap, refl, subst, sym}
+use Prim.Native.Nat.{ℕ, _+_, _*_, _-_, _<_, _≤_, _^_}
+use mathlib.Core.List.{List, [], _∷_, _++_, append-nil, map}
+use mathlib.Core.Bool.{Bool, true, false, cond, _&&_, _||_}
+use native.Mathlib.Omega.{arith}
+use lib.Dec.{eqb, leb, ltb}
+use borrow.Author.Tests.{eqb-false, eqb-true, leb-false, leb-true, ne-eqb}
+use Rattle.bytes_be.specs.Part.{putAt}
+use Rattle.bytes_be.proofs.Tests.{both-true}
 use Rattle.control.specs.declared.MessageType.{MessageType}
 use Rattle.control.specs.declared.MessageType.the-variants.{Open, Ready, Noop, Data, Close}
 use Rattle.endpoint.specs.declared.Endpoint.{Endpoint}
 use Rattle.endpoint.specs.declared.Entry.{Entry}
-use Rattle.endpoint.specs.Record.{awaited, shut, closed}
-use Rattle.table.specs.declared.Row.the-variants.{To}
-use Rattle.table.specs.Table.{rowOf, other, atRow}
+use Rattle.endpoint.specs.Record.{asked, atPhase, awaited, batch, capacity, client, closed, entryBytes, fresh, idle, offer, opening, producer, shut}
+use Rattle.endpoint.proofs.Awaited.{asked-awaited, phase-awaited}
+use Rattle.table.specs.declared.Row.{Row}
+use Rattle.table.specs.declared.Row.the-variants.{NotAllowed, AboveOffer, To}
+use Rattle.table.specs.Table.{aboveOffer, allowed, atRow, begun, closeRow, dataRow, moved, noopRow, notAllowed, openRow, other, readyRow, rowOf, upTo}
 use Rattle.receiving.specs.declared.Heard.{Heard}
 use Rattle.receiving.specs.declared.Answer.the-variants.{Heard as Answer·Heard, Refused}
 use Rattle.receiving.specs.Hearing.{hearOf}
-use Rattle.receiving.specs.Refusing.{refused}
-use Rattle.sending.specs.Calls.{Call, OPEN, READY, DATA, NOOP, CLOSE, messageOf, typeDataOf, askOf, written}
-use Rattle.sending.specs.Sending.{sendOf}
-use Rattle.machine.specs.Good.{Sound}
-use Rattle.machine.specs.Round.{afterHearing, isOffered}
+use Rattle.sending.specs.declared.Outgoing.{Outgoing}
+use Rattle.sending.specs.declared.Sent.{Sent}
+use Rattle.sending.specs.Calls.{Call, OPEN, READY, DATA, NOOP, CLOSE, messageOf, typeDataOf, askOf, outgoing}
+use Rattle.sending.specs.Sending.{askedBy, isFull, numberFor, sendOf, sendRow, sentBy, unsent}
+use Rattle.sending.proofs.Decided.{accepted-passed}
+use Rattle.machine.specs.Good.{Sound, Fits}
+use Rattle.machine.specs.Round.{isOffered}
+use Rattle.machine.proofs.Good.{sent-good}
+use Rattle.machine.proofs.Rows.{row-sound}
 use Rattle.session.specs.World.{End, across, Ending, WroteClose, Side, agreement, agreementHeard, closedTo, endingHeard, endingReplied, dataHeard, replies}
-use Rattle.session.specs.Turns.{Packet, Called, Confirms, Closes, bytesIn, movesLike, typeDataIn, askedIn, confirmedIn, dataIn}
+use Rattle.session.specs.Turns.{Packet, Called, Confirms, Closes, bytesIn, movesLike, typeDataIn, askedIn, confirmedIn, dataIn, entryFor}
 use Rattle.session.specs.Demand.{Understood}
-use Rattle.session.specs.Invariant.{Proper, Made}
+use Rattle.session.specs.Invariant.{Proper}
 
 -- the limit of an end that has heard a packet
 abbrev pub limitAfter : Packet → ℕ → ℕ
@@ -93,3 +104,135 @@ pub record OpenRefused (x : Side Endpoint) (s name format : List ℕ) (room : �
   pub ends : (ending : Ending) → endingReplied (hearOf (x .self) s name format .reply) ending ≡ WroteClose
   pub after : hearOf (x .self) s name format .next ≡ closed (x .self)
   pub small : code < 256 ^ 2
+
+-- ---- where a row leads
+
+-- a row that leads to phase 5 leaves no n
+abbrev Emptied : Row → Type 0
+Emptied NotAllowed = Unit
+Emptied AboveOffer = Unit
+Emptied (To phase n) = phase ≡ shut → n ≡ 0
+
+allowed-emptied : (t : Bool) (row : Row) → (t ≡ true → Emptied row) → Emptied (allowed t row)
+allowed-emptied true row there = there refl
+allowed-emptied false row there = tt
+
+up-to-emptied : (t : Bool) (row : Row) → Emptied row → Emptied (upTo t row)
+up-to-emptied true row there = there
+up-to-emptied false row there = tt
+
+begun-emptied : (phase count : ℕ) → phase ≤ batch → Emptied (begun phase count)
+unfolding begun
+begun-emptied phase count early = go (eqb count 0)
+  where
+    go : (t : Bool) → Emptied (cond t (To idle 0) (To phase count))
+    go true = λ same. refl
+    go false = λ same. absurd (omega arith)
+
+row-emptied : (role flow phase n : ℕ) (message : MessageType) (type-data : ℕ) → Emptied (rowOf role flow phase n message type-data)
+unfolding openRow readyRow dataRow noopRow closeRow
+row-emptied role flow phase n Open type-data = allowed-emptied (eqb role client && eqb phase fresh) (To opening 0) (λ there same. refl)
+row-emptied role flow phase n Ready type-data = go (eqb role client)
+  where
+    go : (t : Bool) → Emptied (cond t (allowed (eqb phase offer) (upTo (leb type-data n) (begun batch type-data))) (allowed (eqb phase opening || eqb phase idle) (begun offer type-data)))
+    go true = allowed-emptied (eqb phase offer) _ (λ there. up-to-emptied (leb type-data n) _ (begun-emptied batch type-data (omega arith)))
+    go false = allowed-emptied (eqb phase opening || eqb phase idle) _ (λ there. begun-emptied offer type-data (omega arith))
+row-emptied role flow phase n Noop type-data =
+    allowed-emptied (leb idle phase && leb phase batch) (To phase n) (λ there same. absurd (omega (arith, leb-true phase batch (both-true (leb idle phase) (leb phase batch) there .1))))
+row-emptied role flow phase n Data type-data = allowed-emptied (eqb flow producer && eqb phase batch) _ (λ there. begun-emptied batch (n - 1) (omega arith))
+row-emptied role flow phase n Close type-data = allowed-emptied (leb opening phase && leb phase batch) (To shut 0) (λ there same. refl)
+
+module _ (e : Endpoint) (sound : Sound e) (role flow : ℕ) (message : MessageType) (type-data phase n : ℕ) (few : type-data < 256 ^ 2)
+    (leads : rowOf role flow (e .phase) (e .n) message type-data ≡ To phase n) where
+  -- an endpoint comes to the phase and n of its row, and stays the same in role, flow and limit
+  pub row-comes : Comes e phase n (e .limit) (atRow e phase n)
+  unfolding atRow closed atPhase
+  row-comes = go (eqb phase shut) refl (subst (λ (row : Row). Sound (moved e row)) leads (row-sound e sound role flow message type-data few))
+    where
+      go : (t : Bool) → eqb phase shut ≡ t → Sound (cond t (closed e) (atPhase e phase n)) → Comes e phase n (e .limit) (cond t (closed e) (atPhase e phase n))
+      go true ends good =
+          let same = eqb-true phase shut ends in
+          let none = subst Emptied leads (row-emptied role flow (e .phase) (e .n) message type-data) same in
+          record { sound = good; phased = sym same; counted = sym none; role = refl; flow = refl; limited = refl }
+      go false goes good = record { sound = good; phased = refl; counted = refl; role = refl; flow = refl; limited = refl }
+
+module _ (e : Endpoint) (phase n : ℕ) (goes : phase ≡ shut → ⊥) where
+  -- and unless it closes it awaits what it awaited
+  pub row-waits : atRow e phase n .w ≡ e .w
+  unfolding atRow atPhase
+  row-waits = simp (ne-eqb phase shut goes)
+
+  pub row-awaited : awaited (atRow e phase n) ≡ awaited e
+  unfolding atRow
+  row-awaited = simp (ne-eqb phase shut goes) (phase-awaited e phase n)
+
+-- ---- a call that was accepted
+
+-- a row that no test refuses leads somewhere
+record LeadsOn (row : Row) : Type 0 where
+  phase : ℕ
+  n : ℕ
+  leads : row ≡ To phase n
+
+leads-on : (row : Row) → notAllowed row ≡ false → aboveOffer row ≡ false → LeadsOn row
+leads-on NotAllowed barred below = let z : _≡_ {A = ℕ} 0 1 = cc in absurd (omega arith)
+leads-on AboveOffer passes above = let z : _≡_ {A = ℕ} 0 1 = cc in absurd (omega arith)
+leads-on (To phase n) passes below = record { phase = phase; n = n; leads = refl }
+
+-- the endpoint after a call that was accepted
+next-sent : (e : Endpoint) (o : Outgoing) (room : ℕ) → sentBy e o room .number ≡ 0 → sentBy e o room .next ≡ askedBy (moved e (sendRow e o)) o
+unfolding sentBy
+next-sent e o room = go (eqb (numberFor e o (sendRow e o) room) 0) refl
+  where
+    go : (t : Bool) → eqb (numberFor e o (sendRow e o) room) 0 ≡ t →
+        cond {A = Sent} t (record { number = 0; next = askedBy (moved e (sendRow e o)) o; written = o .length }) (unsent e (numberFor e o (sendRow e o) room)) .number ≡ 0 →
+        cond {A = Sent} t (record { number = 0; next = askedBy (moved e (sendRow e o)) o; written = o .length }) (unsent e (numberFor e o (sendRow e o) room)) .next ≡ askedBy (moved e (sendRow e o)) o
+    go true zero-number none = refl
+    go false differs none = absurd (eqb-false _ 0 differs none)
+
+module _ (e after : Endpoint) (phase n limit : ℕ) (comes : Comes e phase n limit after) (entry : Entry) where
+  -- an ask changes the confirmations awaited alone
+  asked-comes : Sound (asked after entry) → Comes e phase n limit (asked after entry)
+  unfolding asked
+  asked-comes = go (ltb (after .w) capacity)
+    where
+      more : Endpoint
+      more = record { role = after .role; flow = after .flow; phase = after .phase; w = after .w + 1; n = after .n; limit = after .limit; entries = putAt (after .entries) (3 * after .w) (entryBytes entry) }
+
+      go : (t : Bool) → Sound (cond t more after) → Comes e phase n limit (cond t more after)
+      go true sound = record { sound = sound; phased = comes .phased; counted = comes .counted; role = comes .role; flow = comes .flow; limited = comes .limited }
+      go false sound = comes
+
+  ask-comes : (ask : Bool) → Sound (cond ask (asked after entry) after) → Comes e phase n limit (cond ask (asked after entry) after)
+  ask-comes true sound = asked-comes sound
+  ask-comes false sound = comes
+
+  -- and adds its entry to them
+  ask-awaited : (ask : Bool) → entry .«type_data» < 256 ^ 2 → ask && leb capacity (after .w) ≡ false → awaited (cond ask (asked after entry) after) ≡ awaited after ++ cond ask (entry ∷ []) []
+  ask-awaited true few room = asked-awaited after (comes .sound .sized .full) entry few (leb-false capacity (after .w) room)
+  ask-awaited false few room = sym (append-nil (awaited after))
+
+pub sent-on : (e : Endpoint) (call : Call) (room : ℕ) → Sound e → Fits call → sendOf e call room .number ≡ 0 → SentOn e call room
+unfolding sendRow askedBy isFull
+sent-on e call room sound fits zero-number =
+    let o : Outgoing = outgoing e call in
+    let entry : Entry = entryFor (messageOf call) (typeDataOf call) in
+    let passed = accepted-passed e o room zero-number in
+    let on = leads-on (sendRow e o) (passed .allowed) (passed .below) in
+    let after : Endpoint = atRow e (on .phase) (on .n) in
+    let next : sendOf e call room .next ≡ cond (askOf call) (asked after entry) after =
+    next-sent e o room zero-number ∙ ap (λ (row : Row). askedBy (moved e row) o) (on .leads) in
+    let comes = row-comes e sound (e .role) (e .flow) (messageOf call) (typeDataOf call) (on .phase) (on .n) fits (on .leads) in
+    record {
+      phase = on .phase;
+      n = on .n;
+      leads = on .leads;
+      comes =
+          subst (Comes e (on .phase) (on .n) (e .limit)) (sym next)
+          (ask-comes e after (on .phase) (on .n) (e .limit) comes entry (askOf call) (subst Sound next (sent-good e sound call fits room)));
+      awaits = λ goes.
+          let room : askOf call && leb capacity (after .w) ≡ false = simp (row-waits e (on .phase) (on .n) goes) (passed .awaits) in
+          ap awaited next
+          ∙ ask-awaited e after (on .phase) (on .n) (e .limit) comes entry (askOf call) fits room
+          ∙ ap (λ (front : List Entry). front ++ cond (askOf call) (entry ∷ []) []) (row-awaited e (on .phase) (on .n) goes);
+    }

@@ -23,7 +23,7 @@ use Rattle.sending.specs.Sending.{sendOf}
 use Rattle.machine.specs.Good.{Sound, Fits}
 use Rattle.machine.specs.Round.{isReply}
 use Rattle.session.specs.World.{End, Client, Server, across, Datum, Ending, Going, HeardClose, WroteClose, Side, World, Event, AllFit, step}
-use Rattle.session.specs.Turns.{Packet, Called, Confirms, Closes, bytesIn, askedIn, confirmedIn, dataIn, collect, standing, Standing·Open, roleOf, producing, Meets}
+use Rattle.session.specs.Turns.{Packet, Called, Confirms, Closes, bytesIn, askedIn, confirmedIn, dataIn, collect, Standing, IsOpen, standing, roleOf, producing, Meets}
 use Rattle.session.specs.Demand.{sum, newest, Holds}
 
 -- an end has closed where its phase is 5, and nowhere else
@@ -33,24 +33,25 @@ Ends HeardClose phase = phase ≡ shut
 Ends WroteClose phase = phase ≡ shut
 
 -- the part of the batch that is left
-abbrev pub left : Endpoint → ℕ
-left e = cond (eqb (e .phase) batch) (e .n) 0
+abbrev pub left : ℕ → ℕ → ℕ
+left phase n = cond (eqb phase batch) n 0
 
 pub record Counted (x : Side Endpoint) : Type 0 where
-  pub in-all : length (x .sent) + length (x .accepted) + left (x .self) ≤ sum (x .agreed)
-  pub in-newest : length (x .batch) + left (x .self) ≤ newest (x .agreed)
+  pub in-all : length (x .sent) + length (x .accepted) + left (x .self .phase) (x .self .n) ≤ sum (x .agreed)
+  pub in-newest : length (x .batch) + left (x .self .phase) (x .self .n) ≤ newest (x .agreed)
 
--- x awaits the confirmations that are on their way to it in q, and then those that p asks for; once the other has closed, the latter are lost
-pub record Awaits (x y : Side Endpoint) (p q : List Packet) : Type 0 where
+-- an end at a that wrote p awaits these entries: first those that q confirms, which the one at b wrote, and then those that p asks for; once
+-- the other has closed, the latter are lost
+pub record Awaits (a : Standing) (entries : List Entry) (p : List Packet) (b : Standing) (q : List Packet) : Type 0 where
   pub rest : List Entry
-  pub held : Standing·Open (standing x) → awaited (x .self) ≡ collect confirmedIn q ++ rest
-  pub due : Standing·Open (standing y) → rest ≡ collect askedIn p
+  pub held : IsOpen a → entries ≡ collect confirmedIn q ++ rest
+  pub due : IsOpen b → rest ≡ collect askedIn p
 
--- y has accepted what x sent, but for what is on its way to it in p
-pub record Delivers (x y : Side Endpoint) (p : List Packet) : Type 0 where
+-- an end at b has accepted what was sent, but for what p carries to it
+pub record Delivers (sent : List Datum) (p : List Packet) (b : Standing) (accepted : List Datum) : Type 0 where
   pub rest : List Datum
-  pub whole : x .sent ≡ y .accepted ++ rest
-  pub due : Standing·Open (standing y) → rest ≡ collect dataIn p
+  pub whole : sent ≡ accepted ++ rest
+  pub due : IsOpen b → rest ≡ collect dataIn p
 
 -- a client knows the terms from the start, a server while it is open
 abbrev pub Knows : End → ℕ → Type 0
@@ -103,10 +104,10 @@ module _ (flow limit serverFlow : ℕ) where
     pub here : Sides end x p
     pub there : Sides (across end) y q
     pub meets : Meets source end (standing x) p (standing y) q
-    pub awaits : Awaits x y p q
-    pub awaits-across : Awaits y x q p
-    pub delivers : Delivers x y p
-    pub delivers-across : Delivers y x q
+    pub awaits : Awaits (standing x) (awaited (x .self)) p (standing y) q
+    pub awaits-across : Awaits (standing y) (awaited (y .self)) q (standing x) p
+    pub delivers : Delivers (x .sent) p (standing y) (y .accepted)
+    pub delivers-across : Delivers (y .sent) q (standing x) (x .accepted)
 
   pub record Invariant (w : World Endpoint) : Type 0 where
     pub p : List Packet

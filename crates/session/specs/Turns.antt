@@ -96,10 +96,10 @@ stands WroteClose e = Gone
 abbrev pub standing : Side Endpoint → Standing
 standing x = stands (x .ending) (x .self)
 
-abbrev pub Standing·Open : Standing → Type 0
-Standing·Open (At s) = Unit
-Standing·Open Shut = ⊥
-Standing·Open Gone = ⊥
+abbrev pub IsOpen : Standing → Type 0
+IsOpen (At s) = Unit
+IsOpen Shut = ⊥
+IsOpen Gone = ⊥
 
 abbrev pub roleOf : End → ℕ
 roleOf Client = client

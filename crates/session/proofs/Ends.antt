@@ -1,0 +1,196 @@
+-- One end that sends, hears or refuses: its part of the invariant holds afterwards. Assumes nothing.
+use mathlib.Core.Path.{_≡_, refl, sym, _∙_, ap, subst}
+use Prim.Native.Nat.{ℕ, _≤_, _<_, _^_}
+use mathlib.Core.List.{List, [], _∷_, _++_, map, map-append}
+use mathlib.Core.Bool.{Bool, true, false, cond}
+use native.Mathlib.Omega.{arith}
+use Rattle.control.specs.declared.MessageType.{MessageType}
+use Rattle.control.specs.declared.MessageType.the-variants.{Open, Ready, Noop, Data, Close}
+use Rattle.control.specs.Frame.{ackReply}
+use Rattle.endpoint.specs.declared.Endpoint.{Endpoint}
+use Rattle.endpoint.specs.Record.{opening, batch, shut, closed}
+use Rattle.table.specs.Table.{other}
+use Rattle.sending.specs.Calls.{Call, OPEN, READY, DATA, NOOP, CLOSE, messageOf, typeDataOf, askOf, written}
+use Rattle.sending.specs.Sending.{sendOf}
+use Rattle.machine.specs.Good.{Fits}
+use Rattle.machine.proofs.Rows.{closed-sound}
+use Rattle.session.specs.World.{End, Client, Server, across, Ending, Going, HeardClose, WroteClose, Side, having, taking, agreement, closedBy, closedTo}
+use Rattle.session.specs.Turns.{Packet, Called, Confirms, Closes, bytesIn, movesLike, typeDataIn, dataIn, Standing, At, stands, standing, roleOf, producing}
+use Rattle.session.specs.Invariant.{Ends, Knows, Terms, source, AllProper, Proper, Sides}
+use Rattle.session.proofs.Table.{Begun, nothing, something, Moved, opens, offers, takes, gives, rests, closes, row-moved, landing}
+use Rattle.session.proofs.Counts.{sent-counted, heard-counted, closed-counted}
+use Rattle.session.proofs.Packets.{SentOn, Comes, answersIn, limitAfter}
+
+-- no row leads on from phase 5
+moved-low : {role flow phase n type-data next count : ℕ} {message : MessageType} → Moved role flow phase n message type-data next count → phase ≤ batch
+moved-low (opens role begins) = omega arith
+moved-low (offers differs low high begins) = omega arith
+moved-low (takes role offered few begins) = omega arith
+moved-low (gives produces batched begins) = omega arith
+moved-low (rests low high) = high
+moved-low (closes low high) = high
+
+-- an end that is not in phase 5 has not closed
+pub is-going : (ending : Ending) (phase : ℕ) → Ends ending phase → phase ≤ batch → ending ≡ Going
+is-going Going phase ends low = refl
+is-going HeardClose phase ends low = absurd (omega (arith, ends))
+is-going WroteClose phase ends low = absurd (omega (arith, ends))
+
+-- where a row leads, the writer and the hearer of its message have closed in phase 5 and nowhere else
+
+begun-low : {begins count next m : ℕ} → begins ≤ batch → Begun begins count next m → next ≤ batch
+begun-low low (nothing none) = omega arith
+begun-low low (something some) = low
+
+writer-ends : {role flow phase n type-data next count : ℕ} {message : MessageType} → Moved role flow phase n message type-data next count → Ends (closedBy message Going) next
+writer-ends (opens role begins) = omega arith
+writer-ends (offers differs low high begins) = begun-low (omega arith) begins
+writer-ends (takes role offered few begins) = begun-low (omega arith) begins
+writer-ends (gives produces batched begins) = begun-low (omega arith) begins
+writer-ends (rests low high) = high
+writer-ends (closes low high) = refl
+
+hearer-ends : {role flow phase n type-data next count : ℕ} {message : MessageType} → Moved role flow phase n message type-data next count → Ends (closedTo message Going) next
+hearer-ends (opens role begins) = omega arith
+hearer-ends (offers differs low high begins) = begun-low (omega arith) begins
+hearer-ends (takes role offered few begins) = begun-low (omega arith) begins
+hearer-ends (gives produces batched begins) = begun-low (omega arith) begins
+hearer-ends (rests low high) = high
+hearer-ends (closes low high) = refl
+
+-- a message other than OPEN leads on only an open server
+server-knows : {role flow phase n type-data next count : ℕ} {message : MessageType} → (message ≡ Open → ⊥) → Moved role flow phase n message type-data next count → (opening ≤ phase) × (phase ≤ batch)
+server-knows later (opens role begins) = absurd (later refl)
+server-knows later (offers differs low high begins) = (low, omega arith)
+server-knows later (takes role offered few begins) = (omega arith, omega arith)
+server-knows later (gives produces batched begins) = (omega arith, omega arith)
+server-knows later (rests low high) = (omega arith, high)
+server-knows later (closes low high) = (low, high)
+
+-- and a server sends no OPEN
+server-sends : {flow phase n type-data next count : ℕ} {message : MessageType} → Moved (roleOf Server) flow phase n message type-data next count → message ≡ Open → ⊥
+server-sends (opens role begins) same = omega (arith, role)
+server-sends (offers differs low high begins) same = let z : _≡_ {A = ℕ} 0 1 = cc in omega arith
+server-sends (takes role offered few begins) same = let z : _≡_ {A = ℕ} 0 1 = cc in omega arith
+server-sends (gives produces batched begins) same = let z : _≡_ {A = ℕ} 0 1 = cc in omega arith
+server-sends (rests low high) same = let z : _≡_ {A = ℕ} 0 1 = cc in omega arith
+server-sends (closes low high) same = let z : _≡_ {A = ℕ} 0 1 = cc in omega arith
+
+-- a message is an OPEN, or another
+by-open : (message : MessageType) (P : Type 0) → (message ≡ Open → P) → ((message ≡ Open → ⊥) → P) → P
+by-open Open P is other = is refl
+by-open Ready P is other = other (λ same. let z : _≡_ {A = ℕ} 0 1 = cc in omega arith)
+by-open Noop P is other = other (λ same. let z : _≡_ {A = ℕ} 0 1 = cc in omega arith)
+by-open Data P is other = other (λ same. let z : _≡_ {A = ℕ} 0 1 = cc in omega arith)
+by-open Close P is other = other (λ same. let z : _≡_ {A = ℕ} 0 1 = cc in omega arith)
+
+-- who sends knows the terms
+pub sender-knows : (end : End) {flow phase n type-data next count : ℕ} {message : MessageType} → Moved (roleOf end) flow phase n message type-data next count → Knows end phase
+sender-knows Client moves = tt
+sender-knows Server moves = server-knows (server-sends moves) moves
+
+-- and so does who hears anything but an OPEN
+pub hearer-knows : (end : End) {role flow phase n type-data next count : ℕ} {message : MessageType} → (message ≡ Open → ⊥) → Moved role flow phase n message type-data next count → Knows end phase
+hearer-knows Client later moves = tt
+hearer-knows Server later moves = server-knows later moves
+
+module _ (flow limit serverFlow : ℕ) where
+  pub proper-append : (end : End) (p q : List Packet) → AllProper flow limit serverFlow end p → AllProper flow limit serverFlow end q → AllProper flow limit serverFlow end (p ++ q)
+  proper-append end [] q front back = back
+  proper-append end (m ∷ p) q front back = (front .0, proper-append end p q (front .1) back)
+
+  queued-append : (x : Side Endpoint) (p r : List Packet) (bytes : List (List ℕ)) → x .queue ≡ map bytesIn p → bytes ≡ map bytesIn r → x .queue ++ bytes ≡ map bytesIn (p ++ r)
+  queued-append x p r bytes queued writes = rw (queued, writes) (sym (map-append bytesIn p r))
+
+  -- the confirmation of a proper packet is proper
+  answers-proper : (end : End) (m : Packet) → Proper flow limit serverFlow (across end) m → AllProper flow limit serverFlow end (answersIn m)
+  answers-proper end (Called e (OPEN name format) room) made = tt
+  answers-proper end (Called e (READY count) room) made = tt
+  answers-proper end (Called e (DATA type-data true body) room) made = ((refl, made .fits), tt)
+  answers-proper end (Called e (DATA type-data false body) room) made = tt
+  answers-proper end (Called e (NOOP type-data true) room) made = ((refl, made .fits), tt)
+  answers-proper end (Called e (NOOP type-data false) room) made = tt
+  answers-proper end (Called e (CLOSE code) room) made = tt
+  answers-proper end (Confirms message type-data) made = tt
+  answers-proper end (Closes code) made = tt
+
+  -- a closed client has its limit and flow still
+  closed-terms : (end : End) {e : Endpoint} → Knows end shut → (Knows end (e .phase) → Terms flow limit serverFlow end e) → Terms flow limit serverFlow end (closed e)
+  unfolding closed
+  closed-terms Client still terms = record { limited = terms tt .limited; agreed = terms tt .agreed }
+  closed-terms Server still terms = absurd (omega (arith, still .1))
+
+  module _ (end : End) (x : Side Endpoint) (p : List Packet) (here : Sides flow limit serverFlow end x p) where
+    -- an end that sent a call
+    pub sent-sides : (call : Call) (room : ℕ) → Fits call → sendOf (x .self) call room .number ≡ 0 → SentOn (x .self) call room
+      → Sides flow limit serverFlow end (having end x call (written (x .self) call) (sendOf (x .self) call room .next)) (p ++ (Called (x .self) call room ∷ []))
+    sent-sides call room fits number sent =
+        let comes = sent .comes in
+        let moves = row-moved (roleOf end) (x .self .flow) (x .self .phase) (x .self .n) (messageOf call) (typeDataOf call) (sent .phase) (sent .n) (rw (here .role) at (sent .leads)) in
+        let knows = sender-knows end moves in
+        let going = is-going (x .ending) (x .self .phase) (here .ends) (moved-low moves) in
+        record {
+          sound = comes .sound;
+          role = comes .role ∙ here .role;
+          flows = comes .flow ∙ here .flows;
+          ends = rw (going, comes .phased) (writer-ends moves);
+          queued = queued-append x p (Called (x .self) call room ∷ []) (written (x .self) call ∷ []) (here .queued) refl;
+          proper =
+              proper-append end p (Called (x .self) call room ∷ []) (here .proper)
+              (record { fits = fits; accepted = number; flows = here .flows; limited = here .terms knows .limited }, tt);
+          terms =
+              λ still. record {
+                limited = comes .limited ∙ here .terms knows .limited;
+                agreed = ap (producing end) (comes .flow) ∙ here .terms knows .agreed;
+              };
+          counted = sent-counted end x (here .sound) (here .counted) _ (sent .phase) (sent .n) (comes .phased) (comes .counted) (x .self .flow) call (written (x .self) call) moves;
+        }
+
+    -- the limit of an end that hears a packet
+    heard-limit : (m : Packet) → Proper flow limit serverFlow (across end) m → ((movesLike m ≡ Open → ⊥) → x .self .limit ≡ limit) → limitAfter m (x .self .limit) ≡ limit
+    heard-limit (Called e (OPEN name format) room) proper later = proper .limited
+    heard-limit (Called e (READY count) room) proper later = later (λ same. let z : _≡_ {A = ℕ} 0 1 = cc in omega arith)
+    heard-limit (Called e (DATA type-data ask body) room) proper later = later (λ same. let z : _≡_ {A = ℕ} 0 1 = cc in omega arith)
+    heard-limit (Called e (NOOP type-data ask) room) proper later = later (λ same. let z : _≡_ {A = ℕ} 0 1 = cc in omega arith)
+    heard-limit (Called e (CLOSE code) room) proper later = later (λ same. let z : _≡_ {A = ℕ} 0 1 = cc in omega arith)
+    heard-limit (Confirms message type-data) proper later = later (λ same. let z : _≡_ {A = ℕ} 0 1 = cc in omega arith)
+    heard-limit (Closes code) proper later = later (λ same. let z : _≡_ {A = ℕ} 0 1 = cc in omega arith)
+
+    -- an end that has not closed heard a packet, whose row leads to this phase and n; an OPEN only where it is for who produces
+    pub heard-sides : (m : Packet) (phase n : ℕ) (next : Endpoint) → Proper flow limit serverFlow (across end) m
+      → Moved (roleOf (across end)) (other (x .self .flow)) (x .self .phase) (x .self .n) (movesLike m) (typeDataIn m) phase n
+      → (movesLike m ≡ Open → producing end (x .self .flow) ≡ source flow limit serverFlow) → Comes (x .self) phase n (limitAfter m (x .self .limit)) next
+      → Sides flow limit serverFlow end
+      (taking x (dataIn m) (agreement (across end) (movesLike m) (typeDataIn m)) (map bytesIn (answersIn m)) (closedTo (movesLike m) Going) next)
+      (p ++ answersIn m)
+    heard-sides m phase n next proper moves produces comes =
+        let knows : (movesLike m ≡ Open → ⊥) → Terms flow limit serverFlow end (x .self) = λ later. here .terms (hearer-knows end later moves) in
+        record {
+          sound = comes .sound;
+          role = comes .role ∙ here .role;
+          flows = comes .flow ∙ here .flows;
+          ends = rw (comes .phased) (hearer-ends moves);
+          queued = queued-append x p (answersIn m) (map bytesIn (answersIn m)) (here .queued) refl;
+          proper = proper-append end p (answersIn m) (here .proper) (answers-proper end m proper);
+          terms =
+              λ still. record {
+                limited = comes .limited ∙ heard-limit m proper (λ later. knows later .limited);
+                agreed = ap (producing end) (comes .flow) ∙ by-open (movesLike m) _ produces (λ later. knows later .agreed);
+              };
+          counted = heard-counted end x (here .sound) (here .counted) next phase n (comes .phased) (comes .counted) (other (x .self .flow)) m (map bytesIn (answersIn m)) (closedTo (movesLike m) Going) moves;
+        }
+
+    -- an end that refused an OPEN
+    pub refused-sides : (code : ℕ) → code < 256 ^ 2 → Sides flow limit serverFlow end (taking x [] [] (map bytesIn (Closes code ∷ [])) WroteClose (closed (x .self))) (p ++ (Closes code ∷ []))
+    unfolding closed
+    refused-sides code few =
+        record {
+          sound = closed-sound (x .self) (here .sound);
+          role = here .role;
+          flows = here .flows;
+          ends = refl;
+          queued = queued-append x p (Closes code ∷ []) (bytesIn (Closes code) ∷ []) (here .queued) refl;
+          proper = proper-append end p (Closes code ∷ []) (here .proper) (few, tt);
+          terms = λ still. closed-terms end still (here .terms);
+          counted = closed-counted x (here .counted) (map bytesIn (Closes code ∷ [])) WroteClose;
+        }

@@ -1,0 +1,296 @@
+-- What a row that leads on says: whose message it is, in which phases, and where it leads; and that both ends read one table. Assumes nothing.
+use mathlib.Core.Path.{_≡_, refl, sym, ap, subst, _∙_}
+use Prim.Native.Nat.{ℕ, _-_, _<_, _≤_}
+use mathlib.Core.Bool.{Bool, true, false, cond, _&&_, _||_}
+use native.Mathlib.Omega.{arith}
+use lib.Dec.{eqb, leb}
+use borrow.Author.Tests.{eq-eqb, eqb-false, eqb-true, le-leb, leb-true, ne-eqb}
+use Rattle.bytes_be.proofs.Tests.{both-true}
+use Rattle.control.specs.declared.MessageType.{MessageType}
+use Rattle.control.specs.declared.MessageType.the-variants.{Open, Ready, Noop, Data, Close}
+use Rattle.endpoint.specs.Record.{client, producer, fresh, opening, idle, offer, batch, shut}
+use Rattle.table.specs.declared.Row.{Row}
+use Rattle.table.specs.declared.Row.the-variants.{NotAllowed, AboveOffer, To}
+use Rattle.table.specs.Table.{allowed, begun, closeRow, dataRow, noopRow, openRow, other, readyRow, rowOf, upTo}
+use Rattle.session.specs.World.{End, Client, Server, across}
+use Rattle.session.specs.Turns.{Packet, movesLike, typeDataIn, Kind, Token, Quiet, Closing, kindOf, Stage, Standing, At, Shut, Gone, roleOf, turn, Active, Alive, Leads, Sends, moves, rests as Sends·rests, closes as Sends·closes, Hears, moved, rested, closed}
+
+-- "k=0: 2; else .., n=k"
+pub data Begun (phase count : ℕ) : ℕ → ℕ → Type 0 where
+  nothing : count ≡ 0 → Begun phase count idle 0
+  something : 0 < count → Begun phase count phase count
+
+-- the rows that lead on
+pub data Moved (role flow phase n : ℕ) : MessageType → ℕ → ℕ → ℕ → Type 0 where
+  opens : {type-data : ℕ} → role ≡ client → phase ≡ fresh → Moved role flow phase n Open type-data opening 0
+  offers : {count next m : ℕ} → (role ≡ client → ⊥) → opening ≤ phase → phase ≤ idle → Begun offer count next m → Moved role flow phase n Ready count next m
+  takes : {count next m : ℕ} → role ≡ client → phase ≡ offer → count ≤ n → Begun batch count next m → Moved role flow phase n Ready count next m
+  gives : {type-data next m : ℕ} → flow ≡ producer → phase ≡ batch → Begun batch (n - 1) next m → Moved role flow phase n Data type-data next m
+  rests : {type-data : ℕ} → idle ≤ phase → phase ≤ batch → Moved role flow phase n Noop type-data phase n
+  closes : {type-data : ℕ} → opening ≤ phase → phase ≤ batch → Moved role flow phase n Close type-data shut 0
+
+-- what holds of where a row leads, if it leads on
+abbrev Where : (ℕ → ℕ → Type 0) → Row → Type 0
+Where P NotAllowed = Unit
+Where P AboveOffer = Unit
+Where P (To next count) = P next count
+
+module _ (P : ℕ → ℕ → Type 0) where
+  allowed-where : (t : Bool) (row : Row) → (t ≡ true → Where P row) → Where P (allowed t row)
+  allowed-where true row there = there refl
+  allowed-where false row there = tt
+
+  up-to-where : (t : Bool) (row : Row) → (t ≡ true → Where P row) → Where P (upTo t row)
+  up-to-where true row there = there refl
+  up-to-where false row there = tt
+
+  begun-where : (phase count : ℕ) → ((next m : ℕ) → Begun phase count next m → P next m) → Where P (begun phase count)
+  unfolding begun
+  begun-where phase count there = go (eqb count 0) refl
+    where
+      go : (t : Bool) → eqb count 0 ≡ t → Where P (cond t (To idle 0) (To phase count))
+      go true zero-count = there idle 0 (nothing (eqb-true count 0 zero-count))
+      go false differs = there phase count (something (omega (arith, eqb-false count 0 differs)))
+
+module _ (phase : ℕ) where
+  -- "phase 1 or 2"
+  early : eqb phase opening || eqb phase idle ≡ true → (opening ≤ phase) × (phase ≤ idle)
+  early = go (eqb phase opening) refl
+    where
+      go : (t : Bool) → eqb phase opening ≡ t → t || eqb phase idle ≡ true → (opening ≤ phase) × (phase ≤ idle)
+      go true is-opening _ = (omega (arith, eqb-true phase opening is-opening), omega (arith, eqb-true phase opening is-opening))
+      go false _ is-idle = (omega (arith, eqb-true phase idle is-idle), omega (arith, eqb-true phase idle is-idle))
+
+  between : (low high : ℕ) → leb low phase && leb phase high ≡ true → (low ≤ phase) × (phase ≤ high)
+  between low high both =
+      let halves = both-true (leb low phase) (leb phase high) both in
+      (leb-true low phase (halves .0), leb-true phase high (halves .1))
+
+module _ (role flow phase n : ℕ) where
+  open-where : (type-data : ℕ) → Where (Moved role flow phase n Open type-data) (openRow role phase)
+  unfolding openRow
+  open-where type-data = allowed-where _ (eqb role client && eqb phase fresh) _ there
+    where
+      there : eqb role client && eqb phase fresh ≡ true → Moved role flow phase n Open type-data opening 0
+      there both =
+          let halves = both-true (eqb role client) (eqb phase fresh) both in
+          opens (eqb-true role client (halves .0)) (eqb-true phase fresh (halves .1))
+
+  ready-where : (count : ℕ) → Where (Moved role flow phase n Ready count) (readyRow role phase n count)
+  unfolding readyRow
+  ready-where count = go (eqb role client) refl
+    where
+      P : ℕ → ℕ → Type 0
+      P = Moved role flow phase n Ready count
+
+      go : (t : Bool) → eqb role client ≡ t → Where P (cond t (allowed (eqb phase offer) (upTo (leb count n) (begun batch count))) (allowed (eqb phase opening || eqb phase idle) (begun offer count)))
+      go true is-client =
+          allowed-where P (eqb phase offer) _
+          (λ offered. up-to-where P (leb count n) _
+          (λ few. begun-where P batch count (λ next m. takes (eqb-true role client is-client) (eqb-true phase offer offered) (leb-true count n few))))
+      go false differs =
+          allowed-where P (eqb phase opening || eqb phase idle) _
+          (λ there. begun-where P offer count (λ next m. offers (eqb-false role client differs) (early phase there .0) (early phase there .1)))
+
+  data-where : (type-data : ℕ) → Where (Moved role flow phase n Data type-data) (dataRow flow phase n)
+  unfolding dataRow
+  data-where type-data = allowed-where _ (eqb flow producer && eqb phase batch) _ there
+    where
+      there : eqb flow producer && eqb phase batch ≡ true → Where (Moved role flow phase n Data type-data) (begun batch (n - 1))
+      there both =
+          let halves = both-true (eqb flow producer) (eqb phase batch) both in
+          begun-where _ batch (n - 1) (λ next m. gives (eqb-true flow producer (halves .0)) (eqb-true phase batch (halves .1)))
+
+  row-where : (message : MessageType) (type-data : ℕ) → Where (Moved role flow phase n message type-data) (rowOf role flow phase n message type-data)
+  unfolding noopRow closeRow
+  row-where Open type-data = open-where type-data
+  row-where Ready type-data = ready-where type-data
+  row-where Noop type-data =
+      allowed-where _ (leb idle phase && leb phase batch) _ (λ there. rests (between phase idle batch there .0) (between phase idle batch there .1))
+  row-where Data type-data = data-where type-data
+  row-where Close type-data =
+      allowed-where _ (leb opening phase && leb phase batch) _ (λ there. closes (between phase opening batch there .0) (between phase opening batch there .1))
+
+-- a row that leads on is one of these
+pub row-moved : (role flow phase n : ℕ) (message : MessageType) (type-data next count : ℕ) → rowOf role flow phase n message type-data ≡ To next count → Moved role flow phase n message type-data next count
+row-moved role flow phase n message type-data next count leads =
+    subst (Where (Moved role flow phase n message type-data)) leads (row-where role flow phase n message type-data)
+
+-- and each of these leads on
+
+begun-row : {phase count next m : ℕ} → Begun phase count next m → begun phase count ≡ To next m
+unfolding begun
+begun-row {count = count} (nothing none) = simp (eq-eqb count 0 none) refl
+begun-row {count = count} (something some) = simp (ne-eqb count 0 (λ none. omega arith)) refl
+
+is-early : (phase : ℕ) → opening ≤ phase → phase ≤ idle → eqb phase opening || eqb phase idle ≡ true
+is-early phase low high = go (eqb phase opening) refl
+  where
+    go : (t : Bool) → eqb phase opening ≡ t → t || eqb phase idle ≡ true
+    go true _ = refl
+    go false later = eq-eqb phase idle (omega (arith, eqb-false phase opening later))
+
+moved-row : {role flow phase n type-data next count : ℕ} {message : MessageType} → Moved role flow phase n message type-data next count → rowOf role flow phase n message type-data ≡ To next count
+unfolding openRow readyRow dataRow noopRow closeRow
+moved-row {role = role} {phase = phase} (opens is-client begins) = simp (eq-eqb role client is-client, eq-eqb phase fresh begins) refl
+moved-row {role = role} {phase = phase} (offers differs low high begins) = simp (ne-eqb role client differs, is-early phase low high) (begun-row begins)
+moved-row {role = role} {phase = phase} {n = n} {type-data = count} (takes is-client offered few begins) =
+    simp (eq-eqb role client is-client, eq-eqb phase offer offered, le-leb count n few) (begun-row begins)
+moved-row {flow = flow} {phase = phase} (gives produces batched begins) = simp (eq-eqb flow producer produces, eq-eqb phase batch batched) (begun-row begins)
+moved-row {phase = phase} (rests low high) = simp (le-leb idle phase low, le-leb phase batch high) refl
+moved-row {phase = phase} (closes low high) = simp (le-leb opening phase low, le-leb phase batch high) refl
+
+-- the flow counts in phase 4 alone
+of-flow : {role flow phase n type-data next count : ℕ} {message : MessageType} (seen : ℕ) → (phase ≡ batch → seen ≡ producer) → Moved role flow phase n message type-data next count → Moved role seen phase n message type-data next count
+of-flow seen there (opens is-client begins) = opens is-client begins
+of-flow seen there (offers differs low high begins) = offers differs low high begins
+of-flow seen there (takes is-client offered few begins) = takes is-client offered few begins
+of-flow seen there (gives produces batched begins) = gives (there batched) batched begins
+of-flow seen there (rests low high) = rests low high
+of-flow seen there (closes low high) = closes low high
+
+-- where a token leads: from phase 0 to 1, or to 2, 3 or 4
+data Onward (phase next : ℕ) : Type 0 where
+  first : phase ≡ fresh → next ≡ opening → Onward phase next
+  later : idle ≤ next → next ≤ batch → Onward phase next
+
+begun-onward : {phase begins count next m : ℕ} → idle ≤ begins → begins ≤ batch → Begun begins count next m → Onward phase next
+begun-onward low high (nothing none) = later (omega arith) (omega arith)
+begun-onward low high (something some) = later low high
+
+token-onward : {role flow phase n type-data next count : ℕ} {message : MessageType} → kindOf message ≡ Token → Moved role flow phase n message type-data next count → Onward phase next
+token-onward token (opens is-client begins) = first begins refl
+token-onward token (offers differs low high begins) = begun-onward (omega arith) (omega arith) begins
+token-onward token (takes is-client offered few begins) = begun-onward (omega arith) (omega arith) begins
+token-onward token (gives produces batched begins) = begun-onward (omega arith) (omega arith) begins
+token-onward token (rests low high) = later low high
+token-onward token (closes low high) = let z : _≡_ {A = ℕ} 0 1 = cc in absurd (omega arith)
+
+onward-alive : {phase next : ℕ} → Onward phase next → (opening ≤ next) × (next ≤ batch)
+onward-alive (first begins opened) = (omega arith, omega arith)
+onward-alive (later low high) = (omega arith, high)
+
+onward-active : {phase next : ℕ} → Onward phase next → idle ≤ phase → (idle ≤ next) × (next ≤ batch)
+onward-active (first begins opened) active = absurd (omega arith)
+onward-active (later low high) active = (low, high)
+
+module _ (source : End) (s : Stage) (m : Packet) (t : Stage) (token : kindOf (movesLike m) ≡ Token) (leads : Leads source s m t) where
+  leads-onward : Onward (s .phase) (t .phase)
+  leads-onward = token-onward token (row-moved (roleOf (turn source (s .phase))) producer (s .phase) (s .n) (movesLike m) (typeDataIn m) (t .phase) (t .n) leads)
+
+  pub leads-alive : Alive t
+  leads-alive = onward-alive leads-onward
+
+  pub leads-active : Active s → Active t
+  leads-active active = onward-active leads-onward (active .0)
+
+-- whose token it is
+
+is-client : (end : End) → roleOf end ≡ client → Client ≡ end
+is-client Client _ = refl
+is-client Server other-role = absurd (omega arith)
+
+is-server : (end : End) → (roleOf end ≡ client → ⊥) → Server ≡ end
+is-server Client differs = absurd (differs refl)
+is-server Server _ = refl
+
+turn-batch : (source : End) (phase : ℕ) → phase ≡ batch → turn source phase ≡ source
+unfolding turn
+turn-batch source phase batched = simp batched refl
+
+module _ (source end : End) where
+  token-turn : {flow phase n type-data next count : ℕ} {message : MessageType} → kindOf message ≡ Token → (flow ≡ producer → phase ≡ batch → source ≡ end) → Moved (roleOf end) flow phase n message type-data next count → turn source phase ≡ end
+  unfolding turn
+  token-turn token there (opens role begins) = simp begins (is-client end role)
+  token-turn {phase = phase} token there (offers differs low high begins) =
+      simp (ne-eqb phase fresh (λ same. omega arith), ne-eqb phase offer (λ same. omega arith), ne-eqb phase batch (λ same. omega arith)) (is-server end differs)
+  token-turn token there (takes role offered few begins) = simp offered (is-client end role)
+  token-turn {phase = phase} token there (gives produces batched begins) = turn-batch source phase batched ∙ there produces batched
+  token-turn token there (rests low high) = let z : _≡_ {A = ℕ} 0 1 = cc in absurd (omega arith)
+  token-turn token there (closes low high) = let z : _≡_ {A = ℕ} 0 1 = cc in absurd (omega arith)
+
+-- where a row leads an end that sends
+abbrev pub landing : ℕ → ℕ → Standing
+landing next count = cond (eqb next shut) Gone (At (record { phase = next; n = count }))
+
+pub landing-at : (next count : ℕ) → next ≤ batch → At (record { phase = next; n = count }) ≡ landing next count
+landing-at next count high = simp (ne-eqb next shut (λ same. omega arith)) refl
+
+module _ (source end : End) (flow phase n : ℕ) (m : Packet) where
+  abbrev From : Standing → Type 0
+  From = Sends source end (At (record { phase = phase; n = n })) m
+
+  token-sends : (next count : ℕ) → (flow ≡ producer → phase ≡ batch → source ≡ end) → kindOf (movesLike m) ≡ Token
+      → Moved (roleOf end) flow phase n (movesLike m) (typeDataIn m) next count → From (landing next count)
+  token-sends next count there token move =
+      let own = token-turn source end token there move in
+      let row = moved-row (of-flow producer (λ batched. refl) move) in
+      subst From (landing-at next count (onward-alive (token-onward token move) .1))
+      (moves token own (ap (λ turning. rowOf (roleOf turning) producer phase n (movesLike m) (typeDataIn m)) own ∙ row))
+
+  quiet-sends : {role type-data next count : ℕ} → kindOf (movesLike m) ≡ Quiet → Moved role flow phase n Noop type-data next count → From (landing next count)
+  quiet-sends quiet (rests low high) = subst From (landing-at phase n high) (Sends·rests quiet (low, high))
+
+  closing-sends : {role type-data next count : ℕ} → kindOf (movesLike m) ≡ Closing → Moved role flow phase n Close type-data next count → From (landing next count)
+  closing-sends closing (closes low high) = Sends·closes closing (low, high)
+
+  -- an allowed send is a move
+  pub row-sends : (next count : ℕ) → rowOf (roleOf end) flow phase n (movesLike m) (typeDataIn m) ≡ To next count → (flow ≡ producer → phase ≡ batch → source ≡ end)
+      → Sends source end (At (record { phase = phase; n = n })) m (landing next count)
+  row-sends next count leads there =
+      go (movesLike m) refl (row-moved (roleOf end) flow phase n (movesLike m) (typeDataIn m) next count leads)
+    where
+      go : (message : MessageType) → movesLike m ≡ message → Moved (roleOf end) flow phase n (movesLike m) (typeDataIn m) next count → From (landing next count)
+      go Open same move = token-sends next count there (ap kindOf same) move
+      go Ready same move = token-sends next count there (ap kindOf same) move
+      go Noop same move = quiet-sends (ap kindOf same) (rw same at move)
+      go Data same move = token-sends next count there (ap kindOf same) move
+      go Close same move = closing-sends (ap kindOf same) (rw same at move)
+
+-- the phase and n of where a hearer is led
+abbrev pub phaseIn : Standing → ℕ
+phaseIn (At s) = s .phase
+phaseIn Shut = shut
+phaseIn Gone = shut
+
+abbrev pub nIn : Standing → ℕ
+nIn (At s) = s .n
+nIn Shut = 0
+nIn Gone = 0
+
+other-role : (end : End) → roleOf (across end) ≡ other (roleOf end)
+other-role Client = refl
+other-role Server = refl
+
+-- the message of a kind that has one alone
+abbrev sole : Kind → MessageType → MessageType
+sole Token message = message
+sole Quiet message = Noop
+sole Closing message = Close
+
+is-sole : (message : MessageType) → message ≡ sole (kindOf message) message
+is-sole Open = refl
+is-sole Ready = refl
+is-sole Noop = refl
+is-sole Data = refl
+is-sole Close = refl
+
+sole-row : (kind : Kind) (role flow phase n : ℕ) (message : MessageType) (type-data : ℕ) → kindOf message ≡ kind
+    → rowOf role flow phase n message type-data ≡ rowOf role flow phase n (sole kind message) type-data
+sole-row kind role flow phase n message type-data same =
+    ap (λ taken. rowOf role flow phase n taken type-data) (is-sole message ∙ ap (λ known. sole known message) same)
+
+-- a move is heard
+pub row-hears : (source end : End) (flow : ℕ) (s : Stage) (m : Packet) (a : Standing) → Hears source end (At s) m a
+    → (source ≡ across end → s .phase ≡ batch → other flow ≡ producer)
+    → rowOf (other (roleOf end)) (other flow) (s .phase) (s .n) (movesLike m) (typeDataIn m) ≡ To (phaseIn a) (nIn a)
+row-hears source end flow s m (At t) (moved token theirs leads) there =
+    let role = ap roleOf theirs ∙ other-role end in
+    let move = row-moved (other (roleOf end)) producer (s .phase) (s .n) (movesLike m) (typeDataIn m) (t .phase) (t .n) (rw role at leads) in
+    moved-row (of-flow (other flow) (λ batched. there (sym (turn-batch source (s .phase) batched) ∙ theirs) batched) move)
+row-hears source end flow s m _ (rested quiet active) there =
+    sole-row Quiet (other (roleOf end)) (other flow) (s .phase) (s .n) (movesLike m) (typeDataIn m) quiet
+    ∙ moved-row {role = other (roleOf end)} {flow = other flow} {type-data = typeDataIn m} (rests (active .0) (active .1))
+row-hears source end flow s m _ (closed closing alive) there =
+    sole-row Closing (other (roleOf end)) (other flow) (s .phase) (s .n) (movesLike m) (typeDataIn m) closing
+    ∙ moved-row {role = other (roleOf end)} {flow = other flow} {n = s .n} {type-data = typeDataIn m} (closes (alive .0) (alive .1))

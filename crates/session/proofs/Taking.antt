@@ -1,0 +1,269 @@
+-- A packet that an end may take is taken. Assumes nothing.
+use mathlib.Core.Path.{_≡_, _∙_, ap, refl, subst, sym}
+use Prim.Native.Nat.{ℕ, _+_, _<_, _≤_, suc, zero}
+use mathlib.Core.List.{List, [], _∷_, map}
+use mathlib.Core.Bool.{Bool, true, false, cond}
+use native.Mathlib.Omega.{arith}
+use lib.ListN.{drop, length}
+use lib.Dec.{leb}
+use borrow.Author.Tests.{eq-eqb, le-ltb, leb-true, lt-ltb, ltb-false, not-false}
+use Rattle.bytes_be.specs.Part.{tabulate}
+use Rattle.bytes_be.proofs.Tests.{both-true}
+use Rattle.control.specs.declared.MessageType.{MessageType}
+use Rattle.control.specs.declared.MessageType.the-variants.{Open, Ready, Noop, Data, Close}
+use Rattle.control.specs.Frame.{ackReply, typeOf}
+use Rattle.double.specs.Limit.{inLimits, leastLimit, mostLimit}
+use Rattle.endpoint.specs.declared.Endpoint.{Endpoint}
+use Rattle.endpoint.specs.declared.Entry.{Entry}
+use Rattle.endpoint.specs.Record.{awaited, confirmed, entryAt, limited, oldest}
+use Rattle.endpoint.proofs.Awaited.{confirmed-awaited, limited-awaited, oldest-awaited}
+use Rattle.endpoint.proofs.StaysGood.{confirmed-good, confirmed-sized, limited-good, limited-sized}
+use Rattle.endpoint.proofs.Told.{good-told}
+use Rattle.open_write.specs.Frame.{frameFor, isGood}
+use Rattle.open_write.proofs.Fields.{frame-short}
+use Rattle.table.specs.declared.Row.the-variants.{To}
+use Rattle.table.specs.Table.{atRow, other, rowOf}
+use Rattle.receiving.specs.declared.Content.{Content}
+use Rattle.receiving.specs.declared.Content.the-variants.{Nothing}
+use Rattle.receiving.specs.declared.Received.{Received}
+use Rattle.receiving.specs.declared.Reply.the-variants.{Nothing as Reply·Nothing, Frame}
+use Rattle.receiving.specs.Hearing.{confirms, hearOf, hearRow, matchesOldest, movesAs, tooLarge, unmatched}
+use Rattle.sending.specs.Calls.{Call, OPEN, READY, DATA, NOOP, CLOSE, aboveLimit, askOf, dataFrames, flagsFor, messageOf, misgiven, outgoing, typeDataOf, written}
+use Rattle.sending.proofs.Decided.{accepted-passed}
+use Rattle.machine.specs.Good.{Sound}
+use Rattle.machine.specs.Round.{ContentSent, afterHearing, confirmation, isReply, messageSent, messageWith}
+use Rattle.machine.proofs.Replies.{replies-heard}
+use Rattle.machine.proofs.Round.{heard-as-sent, own-flags}
+use Rattle.session.specs.World.{End, Client, Server, across, Ending, agreement, closedTo, dataAt, dataSent, endingReplied, replies}
+use Rattle.session.specs.Turns.{Called, Closes, Confirms, Packet, bytesIn, entryFor}
+use Rattle.session.proofs.Packets.{Comes, MayTake, Taken, answersIn, limitAfter, row-awaited, row-comes}
+
+-- ---- a call
+
+-- the row of a call is that of its message
+pub call-leads : (e : Endpoint) (call : Call) (r : Endpoint) (phase n : ℕ) → rowOf (other (r .role)) (other (r .flow)) (r .phase) (r .n) (messageOf call) (typeDataOf call) ≡ To phase n →
+    hearRow r (messageSent e call) ≡ To phase n
+unfolding hearRow movesAs
+call-leads e call r phase n leads = simp (own-flags call .0) leads
+
+module _ (r : Endpoint) (sound : Sound r) where
+  -- a good endpoint's limit is at least a million
+  limit-least : leastLimit ≤ r .limit
+  limit-least = leb-true leastLimit (r .limit) (both-true (leb leastLimit (r .limit)) (leb (r .limit) mostLimit) (good-told r (sound .is-good) .bounded) .0)
+
+  -- what an end may send is not too large for another of its limit, and only data can be
+  pub call-small : (e : Endpoint) (call : Call) → aboveLimit e call ≡ false → misgiven call ≡ false → (messageOf call ≡ Data → r .limit ≡ e .limit) → tooLarge r (messageSent e call) ≡ false
+  unfolding tooLarge
+  call-small e (OPEN name format) within given same =
+      let short = frame-short (e .flow) name format (e .limit) (not-false (isGood name format) given) in
+      let frame : ℕ = length (frameFor (e .flow) name format (e .limit)) in
+      simp (le-ltb (r .limit) (8 + frame) (omega (arith, limit-least)), le-ltb 4096 frame (omega arith))
+  call-small e (READY count) within given same = le-ltb (r .limit) 8 (omega (arith, limit-least))
+  call-small e (DATA type-data ask body) within given same =
+      le-ltb (r .limit) (8 + length body) (omega (arith, same refl, ltb-false (e .limit) (8 + length body) within))
+  call-small e (NOOP type-data ask) within given same = le-ltb (r .limit) 8 (omega (arith, limit-least))
+  call-small e (CLOSE code) within given same = refl
+
+-- the data that are heard are those sent
+call-data : (e : Endpoint) (call : Call) (content : Content) → ContentSent e call (written e call) content → dataAt (written e call) (typeDataOf call) content ≡ dataSent call
+call-data e (OPEN name format) content sent = simp (sent .is)
+call-data e (READY count) content sent = simp sent
+call-data e (DATA type-data ask body) content sent = simp (sent .is, sent .bytes)
+call-data e (NOOP type-data ask) content sent = simp sent
+call-data e (CLOSE code) content sent = simp sent
+
+-- a confirmation ends nothing
+
+confirming-ends : (call : Call) (ending : Ending) → endingReplied (confirmation call) (closedTo (messageOf call) ending) ≡ closedTo (messageOf call) ending
+confirming-ends (OPEN name format) ending = refl
+confirming-ends (READY count) ending = refl
+confirming-ends (DATA type-data true body) ending = refl
+confirming-ends (DATA type-data false body) ending = refl
+confirming-ends (NOOP type-data true) ending = refl
+confirming-ends (NOOP type-data false) ending = refl
+confirming-ends (CLOSE code) ending = refl
+
+confirming-replies : (e : Endpoint) (call : Call) (room : ℕ) → replies (confirmation call) ≡ map bytesIn (answersIn (Called e call room))
+confirming-replies e call room = go (askOf call)
+  where
+    go : (t : Bool) → replies (cond t (Frame (messageOf call) ackReply (typeDataOf call)) Reply·Nothing) ≡ map bytesIn (cond t (Confirms (messageOf call) (typeDataOf call) ∷ []) [])
+    go true = refl
+    go false = refl
+
+-- an OPEN brings its limit
+module _ (e r : Endpoint) (in-limits : inLimits (e .limit) ≡ true) (after : Endpoint) (phase n : ℕ) (comes : Comes r phase n (r .limit) after) (room : ℕ) where
+  hearing-comes : (call : Call) → Comes r phase n (limitAfter (Called e call room) (r .limit)) (afterHearing e call after)
+  unfolding limited
+  hearing-comes (OPEN name format) =
+      record {
+        sound = record { sized = limited-sized after (comes .sound .sized) (e .limit); is-good = limited-good after (comes .sound .is-good) (e .limit) in-limits };
+        phased = comes .phased;
+        counted = comes .counted;
+        role = comes .role;
+        flow = comes .flow;
+        limited = refl;
+      }
+  hearing-comes (READY count) = comes
+  hearing-comes (DATA type-data ask body) = comes
+  hearing-comes (NOOP type-data ask) = comes
+  hearing-comes (CLOSE code) = comes
+
+  hearing-awaited : (call : Call) → awaited (afterHearing e call after) ≡ awaited after
+  hearing-awaited (OPEN name format) = limited-awaited after (e .limit)
+  hearing-awaited (READY count) = refl
+  hearing-awaited (DATA type-data ask body) = refl
+  hearing-awaited (NOOP type-data ask) = refl
+  hearing-awaited (CLOSE code) = refl
+
+-- ---- a reply
+
+reply-small : (r : Endpoint) → Sound r → (message : MessageType) (flags type-data : ℕ) → isReply message flags ≡ true → tooLarge r (messageWith message flags type-data []) ≡ false
+unfolding tooLarge
+reply-small r sound Open flags type-data reply = let z : _≡_ {A = ℕ} 0 1 = cc in absurd (omega arith)
+reply-small r sound Ready flags type-data reply = let z : _≡_ {A = ℕ} 0 1 = cc in absurd (omega arith)
+reply-small r sound Noop flags type-data reply = le-ltb (r .limit) 8 (omega (arith, limit-least r sound))
+reply-small r sound Data flags type-data reply = le-ltb (r .limit) 8 (omega (arith, limit-least r sound))
+reply-small r sound Close flags type-data reply = refl
+
+-- a confirmation confirms, agrees to nothing and ends nothing
+record Quiets (message : MessageType) : Type 0 where
+  confirming : confirms message ackReply ≡ true
+  agrees : (end : End) (type-data : ℕ) → agreement end message type-data ≡ agreement end Noop type-data
+  ends : (ending : Ending) → closedTo message ending ≡ ending
+
+nothing-agreed : (end : End) (type-data : ℕ) → agreement end Data type-data ≡ agreement end Noop type-data
+nothing-agreed Client type-data = refl
+nothing-agreed Server type-data = refl
+
+quiets : (message : MessageType) → isReply message ackReply ≡ true → Quiets message
+quiets Open reply = let z : _≡_ {A = ℕ} 0 1 = cc in absurd (omega arith)
+quiets Ready reply = let z : _≡_ {A = ℕ} 0 1 = cc in absurd (omega arith)
+quiets Noop reply = record { confirming = refl; agrees = λ end type-data. refl; ends = λ ending. refl }
+quiets Data reply = record { confirming = refl; agrees = nothing-agreed; ends = λ ending. refl }
+quiets Close reply = let z : _≡_ {A = ℕ} 0 1 = cc in absurd (omega arith)
+
+-- where one is awaited, there is an oldest
+some-awaited : (w : ℕ) (entries : List ℕ) (entry : Entry) (rest : List Entry) → tabulate 0 w (entryAt entries) ≡ entry ∷ rest → 0 < w
+some-awaited zero entries entry rest awaits = let z : _≡_ {A = ℕ} 0 1 = cc in absurd (omega arith)
+some-awaited (suc k) entries entry rest awaits = omega arith
+
+module _ (r : Endpoint) (message : MessageType) (type-data : ℕ) where
+  -- it takes the row of NOOP
+  confirmation-leads : confirms message ackReply ≡ true → (phase n : ℕ) → rowOf (other (r .role)) (other (r .flow)) (r .phase) (r .n) Noop type-data ≡ To phase n →
+      hearRow r (messageWith message ackReply type-data []) ≡ To phase n
+  unfolding hearRow movesAs
+  confirmation-leads confirming phase n leads = simp confirming leads
+
+  -- it is that of the oldest entry
+  confirmation-matched : confirms message ackReply ≡ true → (rest : List Entry) → awaited r ≡ entryFor message type-data ∷ rest → unmatched r (messageWith message ackReply type-data []) ≡ false
+  unfolding unmatched matchesOldest
+  confirmation-matched confirming rest awaits =
+      let some : 0 < r .w = some-awaited (r .w) (r .entries) (entryFor message type-data) rest awaits in
+      let whole : oldest r ∷ drop 1 (awaited r) ≡ entryFor message type-data ∷ rest = sym (oldest-awaited r some) ∙ awaits in
+      let same : oldest r ≡ entryFor message type-data = cc in
+      simp (confirming, lt-ltb 0 (r .w) some, same, eq-eqb (typeOf message) (typeOf message) refl, eq-eqb type-data type-data refl)
+
+-- it removes that entry alone
+confirmed-comes : (r after : Endpoint) (phase n limit : ℕ) → Comes r phase n limit after → Comes r phase n limit (confirmed after)
+unfolding confirmed
+confirmed-comes r after phase n limit comes =
+    record {
+      sound = record { sized = confirmed-sized after (comes .sound .sized); is-good = confirmed-good after (comes .sound .sized .full) (comes .sound .is-good) };
+      phased = comes .phased;
+      counted = comes .counted;
+      role = comes .role;
+      flow = comes .flow;
+      limited = comes .limited;
+    }
+
+-- a CLOSE asks and confirms nothing
+close-leads : (r : Endpoint) (code phase n : ℕ) → rowOf (other (r .role)) (other (r .flow)) (r .phase) (r .n) Close code ≡ To phase n → hearRow r (messageWith Close 0 code []) ≡ To phase n
+unfolding hearRow movesAs
+close-leads r code phase n leads = leads
+
+close-matched : (r : Endpoint) (code : ℕ) → unmatched r (messageWith Close 0 code []) ≡ false
+unfolding unmatched
+close-matched r code = refl
+
+-- ---- every packet
+
+module _ (flow limit serverFlow : ℕ) (end : End) (r : Endpoint) where
+  call-taken : (e : Endpoint) (call : Call) (room : ℕ) (name format : List ℕ) (phase n : ℕ) (rest : List Entry) →
+      MayTake flow limit serverFlow end r (Called e call room) name format phase n rest → Taken end r (Called e call room) name format phase n rest
+  call-taken e call room name format phase n rest may =
+      let made = may .proper in
+      let passed = accepted-passed e (outgoing e call) room (made .accepted) in
+      let back =
+      heard-as-sent e call (made .fits) room (made .accepted) r name format phase n
+      (record {
+        leads = call-leads e call r phase n (may .leads);
+        small = call-small r (may .sound) e call (passed .within) (passed .given) (λ bears. may .limited bears ∙ sym (made .limited));
+        offered = may .offered;
+      }) in
+      let comes = row-comes r (may .sound) (other (r .role)) (other (r .flow)) (messageOf call) (typeDataOf call) phase n (made .fits) (may .leads) in
+      let in-limits = good-told e (passed .is-good) .bounded in
+      record {
+        message = record { message = messageOf call; flags = flagsFor (askOf call); «type_data» = typeDataOf call; frames = length (dataFrames e call); content = back .content };
+        answered = back .answered;
+        carried = call-data e call (back .content) (back .carried);
+        agrees = refl;
+        ends = λ ending. simp (back .replied) (confirming-ends call ending);
+        replied = ap replies (back .replied) ∙ confirming-replies e call room;
+        comes = subst (Comes r phase n _) (sym (back .after)) (hearing-comes e r in-limits (atRow r phase n) phase n comes room call);
+        awaits = λ goes. ap awaited (back .after) ∙ hearing-awaited e r in-limits (atRow r phase n) phase n comes room call ∙ row-awaited r phase n goes ∙ may .awaits;
+      }
+
+  confirmation-taken : (message : MessageType) (type-data : ℕ) (name format : List ℕ) (phase n : ℕ) (rest : List Entry) →
+      MayTake flow limit serverFlow end r (Confirms message type-data) name format phase n rest → Taken end r (Confirms message type-data) name format phase n rest
+  confirmation-taken message type-data name format phase n rest may =
+      let proper = may .proper in
+      let quiet = quiets message (proper .0) in
+      let after : Endpoint = atRow r phase n in
+      let heard =
+      replies-heard message ackReply type-data (proper .0) (proper .1) r name format phase n
+      (record {
+        leads = confirmation-leads r message type-data (quiet .confirming) phase n (may .leads);
+        small = reply-small r (may .sound) message ackReply type-data (proper .0);
+        matched = confirmation-matched r message type-data (quiet .confirming) rest (may .awaits);
+      }) in
+      let next : hearOf r (bytesIn (Confirms message type-data)) name format .next ≡ confirmed after =
+      ap (λ (x : Received). x .next) heard ∙ ap (λ (t : Bool). cond t (confirmed after) after) (quiet .confirming) in
+      let comes = row-comes r (may .sound) (other (r .role)) (other (r .flow)) Noop type-data phase n (proper .1) (may .leads) in
+      record {
+        message = record { message = message; flags = ackReply; «type_data» = type-data; frames = 0; content = Nothing };
+        answered = ap (λ (x : Received). x .answer) heard;
+        carried = refl;
+        agrees = quiet .agrees (across end) type-data;
+        ends = λ ending. simp heard (quiet .ends ending);
+        replied = ap (λ (x : Received). replies (x .reply)) heard;
+        comes = subst (Comes r phase n (r .limit)) (sym next) (confirmed-comes r after phase n (r .limit) comes);
+        awaits = λ goes.
+            ap awaited next ∙ confirmed-awaited after (comes .sound .sized .full) ∙ ap (drop 1) (row-awaited r phase n goes ∙ may .awaits);
+      }
+
+  close-taken : (code : ℕ) (name format : List ℕ) (phase n : ℕ) (rest : List Entry) →
+      MayTake flow limit serverFlow end r (Closes code) name format phase n rest → Taken end r (Closes code) name format phase n rest
+  close-taken code name format phase n rest may =
+      let after : Endpoint = atRow r phase n in
+      let heard =
+      replies-heard Close 0 code refl (may .proper) r name format phase n
+      (record { leads = close-leads r code phase n (may .leads); small = reply-small r (may .sound) Close 0 code refl; matched = close-matched r code }) in
+      let next : hearOf r (bytesIn (Closes code)) name format .next ≡ after = ap (λ (x : Received). x .next) heard in
+      record {
+        message = record { message = Close; flags = 0; «type_data» = code; frames = 0; content = Nothing };
+        answered = ap (λ (x : Received). x .answer) heard;
+        carried = refl;
+        agrees = refl;
+        ends = λ ending. simp heard;
+        replied = ap (λ (x : Received). replies (x .reply)) heard;
+        comes =
+            subst (Comes r phase n (r .limit)) (sym next)
+            (row-comes r (may .sound) (other (r .role)) (other (r .flow)) Close code phase n (may .proper) (may .leads));
+        awaits = λ goes. ap awaited next ∙ row-awaited r phase n goes ∙ may .awaits;
+      }
+
+  -- a packet that an end may take is taken
+  pub packet-taken : (m : Packet) (name format : List ℕ) (phase n : ℕ) (rest : List Entry) → MayTake flow limit serverFlow end r m name format phase n rest → Taken end r m name format phase n rest
+  packet-taken (Called e call room) = call-taken e call room
+  packet-taken (Confirms message type-data) = confirmation-taken message type-data
+  packet-taken (Closes code) = close-taken code

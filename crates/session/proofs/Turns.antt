@@ -1,0 +1,159 @@
+-- Where two ends meet: it stays so when one sends and when one receives or refuses, and with nothing on its way both stand at one stage.
+-- Assumes nothing.
+use mathlib.Core.Path.{_≡_, refl, sym, _∙_}
+use Prim.Native.Nat.{ℕ}
+use mathlib.Core.List.{List, [], _∷_, _++_}
+use native.Mathlib.Omega.{arith}
+use Rattle.session.specs.World.{End, Client, Server, across}
+use Rattle.session.specs.Turns.{Packet, movesLike, Kind, Token, Quiet, Closing, kindOf, Stage, Standing, At, Shut, Gone, turn, Active, Alive, Leads, Sends, moves, rests, closes, Hears, moved, rested, closed, late, Drains, empty, head, Still, nothing, quiet, Ended, by-other, by-itself, Meets, ahead, behind, over, over-across}
+use Rattle.session.proofs.Table.{leads-active, leads-alive}
+
+across-twice : (end : End) → end ≡ across (across end)
+across-twice Client = refl
+across-twice Server = refl
+
+across-differs : (end : End) → across end ≡ end → ⊥
+across-differs Client same = let z : _≡_ {A = ℕ} 0 1 = cc in omega arith
+across-differs Server same = let z : _≡_ {A = ℕ} 0 1 = cc in omega arith
+
+token-not-quiet : {kind : Kind} → kind ≡ Token → kind ≡ Quiet → ⊥
+token-not-quiet token is-quiet = let z : _≡_ {A = ℕ} 0 1 = cc in omega arith
+
+token-not-closing : {kind : Kind} → kind ≡ Token → kind ≡ Closing → ⊥
+token-not-closing token closing = let z : _≡_ {A = ℕ} 0 1 = cc in omega arith
+
+module _ (source : End) where
+  across-drains : (end : End) {a b : Standing} {q : List Packet} → Drains source end a q b → Drains source (across (across end)) a q b
+  across-drains Client drains = drains
+  across-drains Server drains = drains
+
+  -- it is the same from the other end
+  pub across-meets : (end : End) {a b : Standing} {p q : List Packet} → Meets source end a p b q → Meets source (across end) b q a p
+  across-meets end (ahead still drains) = behind still drains
+  across-meets end (behind still drains) = ahead still (across-drains end drains)
+  across-meets end (over ended drains) = over-across ended drains
+  across-meets end (over-across ended drains) = over ended (across-drains end drains)
+
+  -- queues and one packet more
+
+  drains-last : {end : End} {a b c : Standing} {m : Packet} {q : List Packet} → Drains source end a q b → Hears source end b m c → Drains source end a (q ++ (m ∷ [])) c
+  drains-last empty hears = head hears empty
+  drains-last (head first drains) hears = head first (drains-last drains hears)
+
+  still-last : {s : Stage} (m : Packet) {q : List Packet} → kindOf (movesLike m) ≡ Quiet → Active s → Still source s q → Still source s (q ++ (m ∷ []))
+  still-last m is-quiet active nothing = quiet is-quiet active nothing
+  still-last m is-quiet active (quiet first-quiet first-active still) = quiet first-quiet first-active (still-last m is-quiet active still)
+
+  -- a queue that moves nothing does so at any active stage, and is received there
+  still-elsewhere : {s t : Stage} {q : List Packet} → (Active s → Active t) → Still source s q → Still source t q
+  still-elsewhere stays nothing = nothing
+  still-elsewhere stays (quiet is-quiet active still) = quiet is-quiet (stays active) (still-elsewhere stays still)
+
+  still-drains : {end : End} {s : Stage} {q : List Packet} → Still source s q → Drains source end (At s) q (At s)
+  still-drains nothing = empty
+  still-drains (quiet is-quiet active still) = head (rested is-quiet active) (still-drains still)
+
+  -- an end that wrote a CLOSE receives anything, and one that heard a CLOSE nothing
+
+  gone-drains : {end : End} (q : List Packet) → Drains source end Gone q Gone
+  gone-drains [] = empty
+  gone-drains (m ∷ rest) = head late (gone-drains rest)
+
+  shut-hears : {end : End} {m : Packet} {b : Standing} → Hears source end Shut m b → ⊥
+  shut-hears = elim [ ]
+
+  shut-drains : {end : End} {t : Stage} {q : List Packet} → Drains source end Shut q (At t) → ⊥
+  shut-drains (head hears drains) = shut-hears hears
+
+  at-ended : {s : Stage} → Ended source (At s) → ⊥
+  at-ended = elim [ ]
+
+  -- an end that is active, or alive, is so after all that does not close it
+
+  active-drains : {end : End} {s t : Stage} {q : List Packet} → Active s → Drains source end (At s) q (At t) → Active t
+  active-drains active empty = active
+  active-drains active (head (moved {s = s} {t = t} {m = m} token theirs leads) drains) = active-drains (leads-active source s m t token leads active) drains
+  active-drains active (head (rested is-quiet _) drains) = active-drains active drains
+  active-drains active (head (closed closing alive) drains) = absurd (shut-drains drains)
+
+  alive-drains : {end : End} {s t : Stage} {q : List Packet} → Alive s → Drains source end (At s) q (At t) → Alive t
+  alive-drains alive empty = alive
+  alive-drains alive (head (moved {s = s} {t = t} {m = m} token theirs leads) drains) = alive-drains (leads-alive source s m t token leads) drains
+  alive-drains alive (head (rested is-quiet active) drains) = alive-drains alive drains
+  alive-drains alive (head (closed closing _) drains) = absurd (shut-drains drains)
+
+  -- to an end whose turn it is come only packets that move nothing
+
+  not-theirs : (end : End) {A : Type 0} (s : Stage) → turn source (s .phase) ≡ end → turn source (s .phase) ≡ across end → A
+  not-theirs end s own theirs = absurd (across-differs end (sym theirs ∙ own))
+
+  data Waits (s : Stage) (q : List Packet) : Stage → Type 0 where
+    waits : Still source s q → Waits s q s
+
+  waits-more : {s t : Stage} {m : Packet} {q : List Packet} → kindOf (movesLike m) ≡ Quiet → Active s → Waits s q t → Waits s (m ∷ q) t
+  waits-more is-quiet active (waits still) = waits (quiet is-quiet active still)
+
+  own-waits : (end : End) {s t : Stage} {q : List Packet} → turn source (s .phase) ≡ end → Drains source end (At s) q (At t) → Waits s q t
+  own-waits end own empty = waits nothing
+  own-waits end own (head (moved {s = s} token theirs leads) drains) = not-theirs end s own theirs
+  own-waits end own (head (rested is-quiet active) drains) = waits-more is-quiet active (own-waits end own drains)
+  own-waits end own (head (closed closing alive) drains) = absurd (shut-drains drains)
+
+  -- or, if the other end has closed, packets that do as much after its own token
+  own-ended : (end : End) {s : Stage} (m : Packet) (t : Stage) {e : Standing} {q : List Packet} → kindOf (movesLike m) ≡ Token → turn source (s .phase) ≡ end → Leads source s m t
+      → Ended source e → Drains source end (At s) q e → Drains source end (At t) q e
+  own-ended end m t token own leads ended empty = absurd (at-ended ended)
+  own-ended end m t token own leads ended (head (moved {s = s} _ theirs _) drains) = not-theirs end s own theirs
+  own-ended end m t token own leads ended (head (rested {s = s} is-quiet active) drains) =
+      head (rested is-quiet (leads-active source s m t token leads active)) (own-ended end m t token own leads ended drains)
+  own-ended end m t token own leads ended (head (closed {s = s} closing alive) drains) = head (closed closing (leads-alive source s m t token leads)) drains
+
+  -- an end sends
+
+  theirs-too : (end : End) {s t : Stage} {m : Packet} → kindOf (movesLike m) ≡ Token → turn source (s .phase) ≡ end → Leads source s m t → Hears source (across end) (At s) m (At t)
+  theirs-too end token own leads = moved token (own ∙ across-twice end) leads
+
+  waits-meets : (end : End) {s t u : Stage} {p q : List Packet} (m : Packet) → Still source u p → Waits s q u → kindOf (movesLike m) ≡ Token → turn source (s .phase) ≡ end → Leads source s m t
+      → Meets source end (At t) (p ++ (m ∷ [])) (At u) q
+  waits-meets end {s = s} {t = t} m still (waits still-across) token own leads =
+      ahead (still-elsewhere (leads-active source s m t token leads) still-across) (drains-last (still-drains still) (theirs-too end token own leads))
+
+  pub sends-meets : (end : End) {a b c : Standing} {p q : List Packet} {m : Packet} → Meets source end a p b q → Sends source end a m c → Meets source end c (p ++ (m ∷ [])) b q
+  sends-meets end (ahead still drains) (moves {s = s} {t = t} {m = m} token own leads) =
+      ahead (still-elsewhere (leads-active source s m t token leads) still) (drains-last drains (theirs-too end token own leads))
+  sends-meets end (ahead still drains) (rests is-quiet active) = ahead still (drains-last drains (rested is-quiet active))
+  sends-meets end (ahead still drains) (closes closing alive) = over by-other (drains-last drains (closed closing alive))
+  sends-meets end (behind still drains) (moves {m = m} token own leads) = waits-meets end m still (own-waits end own drains) token own leads
+  sends-meets end (behind still drains) (rests {m = m} is-quiet active) = behind (still-last m is-quiet (active-drains active drains) still) drains
+  sends-meets end (behind still drains) (closes closing alive) = over by-other (drains-last (still-drains still) (closed closing (alive-drains alive drains)))
+  sends-meets end (over-across ended drains) (moves {t = t} {m = m} token own leads) = over-across ended (own-ended end m t token own leads ended drains)
+  sends-meets end (over-across ended drains) (rests is-quiet active) = over-across ended drains
+  sends-meets end (over-across ended drains) (closes closing alive) = over-across by-itself (gone-drains _)
+
+  -- an end receives the head of the other's queue
+  pub hears-meets : (end : End) {a b : Standing} {p q : List Packet} {m : Packet} → Meets source end a p b (m ∷ q) → (c : Standing) × Hears source end a m c × Meets source end c p b q
+  hears-meets end (ahead (quiet is-quiet active still) drains) = (_, rested is-quiet active, ahead still drains)
+  hears-meets end (behind still (head hears drains)) = (_, hears, behind still drains)
+  hears-meets end (over ended drains) = (_, late, over ended drains)
+  hears-meets end (over-across ended (head hears drains)) = (_, hears, over-across ended drains)
+
+  -- an end refuses a token, and closes
+  pub refuses-meets : (end : End) {s : Stage} {b : Standing} {p q : List Packet} {m : Packet} (close : Packet) → kindOf (movesLike m) ≡ Token → kindOf (movesLike close) ≡ Closing
+      → Meets source end (At s) p b (m ∷ q) → Meets source end Gone (p ++ (close ∷ [])) b q
+  refuses-meets end close token closing (ahead (quiet is-quiet active still) drains) = absurd (token-not-quiet token is-quiet)
+  refuses-meets end close token closing (behind still (head (moved {s = s} {t = t} {m = m} _ theirs leads) drains)) =
+      over by-other (drains-last (still-drains still) (closed closing (alive-drains (leads-alive source s m t token leads) drains)))
+  refuses-meets end close token closing (behind still (head (rested is-quiet active) drains)) = absurd (token-not-quiet token is-quiet)
+  refuses-meets end close token closing (behind still (head (closed also alive) drains)) = absurd (token-not-closing token also)
+  refuses-meets end close token closing (over-across ended drains) = over-across by-itself (gone-drains _)
+
+  -- with nothing on its way both stand at one stage
+  pub rests-meets : (end : End) {s t : Stage} → Meets source end (At s) [] (At t) [] → s ≡ t
+  rests-meets end (ahead still empty) = refl
+  rests-meets end (behind still empty) = refl
+
+  -- nothing is on its way to an end that heard a CLOSE
+  pub shut-meets : (end : End) {p q : List Packet} {b : Standing} → Meets source end Shut p b q → q ≡ []
+  shut-meets end (behind still drains) = absurd (shut-drains drains)
+  shut-meets end (over-across ended empty) = refl
+  shut-meets end (over-across ended (head hears drains)) = absurd (shut-hears hears)

@@ -1,0 +1,118 @@
+-- An OPEN for what is not offered is refused by 21 or 22. Assumes nothing.
+use mathlib.Core.Path.{_≡_, _∙_, refl}
+use Prim.Native.Nat.{ℕ, _<_, _^_}
+use mathlib.Core.List.{List}
+use mathlib.Core.Bool.{Bool, true, false, not, _&&_, _||_}
+use native.Mathlib.Omega.{arith}
+use lib.ListN.{length}
+use lib.Dec.{eqb, lit<}
+use borrow.Author.Tests.{not-false}
+use Rattle.bytes_be.specs.Part.{same}
+use Rattle.bytes_be.proofs.Tests.{both-true}
+use Rattle.control.specs.declared.MessageType.the-variants.{Open}
+use Rattle.open.specs.declared.Open.the-variants.{Refused as OpenFrame·Refused}
+use Rattle.open.specs.declared.Opening.{Opening}
+use Rattle.open.specs.declared.Refusal.{Refusal}
+use Rattle.open.specs.declared.Refusal.the-variants.{OtherPipe, OtherFormat}
+use Rattle.open.specs.Open.{offeredSocket, openNumber}
+use Rattle.open_write.specs.Frame.{isGood, socketOf}
+use Rattle.open_write.specs.Round.{answerTo}
+use Rattle.open_write.proofs.Round.{read-back}
+use Rattle.endpoint.specs.declared.Endpoint.{Endpoint}
+use Rattle.endpoint.specs.Record.{server}
+use Rattle.endpoint.proofs.Told.{good-told}
+use Rattle.table.specs.declared.Row.the-variants.{To}
+use Rattle.table.specs.Table.{other, rowOf}
+use Rattle.receiving.specs.declared.Answer.the-variants.{Refused}
+use Rattle.receiving.specs.Hearing.{carriedBy, hearMessage, hearOf, openAt}
+use Rattle.receiving.specs.Refusing.{closeCode, refused, silent}
+use Rattle.sending.specs.Calls.{OPEN, outgoing, written}
+use Rattle.sending.proofs.Decided.{accepted-passed}
+use Rattle.machine.specs.Good.{Sound}
+use Rattle.machine.specs.Round.{isOffered}
+use Rattle.machine.proofs.Round.{reads-back}
+use Rattle.machine.proofs.Rows.{row-alive}
+use Rattle.session.specs.World.{End, Side}
+use Rattle.session.specs.Demand.{Understood, other-format, other-pipe}
+use Rattle.session.specs.Invariant.{Made}
+use Rattle.session.proofs.Packets.{OpenRefused}
+use Rattle.session.proofs.Taking.{call-leads, call-small}
+
+-- ---- what it is answered
+
+either-fails : (a b : Bool) → a && b ≡ false → not a || not b ≡ true
+either-fails true b fails = simp fails
+either-fails false b fails = refl
+
+both-fail : (a b : Bool) → a || b ≡ false → not a && not b ≡ true
+both-fail true b fails = let z : _≡_ {A = ℕ} 0 1 = cc in absurd (omega arith)
+both-fail false b fails = simp fails
+
+module _ (flow : ℕ) (name format : List ℕ) (opening : Opening) (serverFlow : ℕ) (offeredName offeredFormat : List ℕ) where
+  -- 21 for another name or socket
+  pipe-refused : same name offeredName && eqb (socketOf flow) (offeredSocket serverFlow) ≡ false →
+      answerTo flow name format opening serverFlow offeredName offeredFormat ≡ OpenFrame·Refused OtherPipe
+  unfolding answerTo
+  pipe-refused differs = simp (either-fails (same name offeredName) (eqb (socketOf flow) (offeredSocket serverFlow)) differs)
+
+  -- 22 for another format
+  format-refused : same name offeredName && eqb (socketOf flow) (offeredSocket serverFlow) ≡ true → eqb (length format) 0 || same format offeredFormat ≡ false →
+      answerTo flow name format opening serverFlow offeredName offeredFormat ≡ OpenFrame·Refused OtherFormat
+  unfolding answerTo
+  format-refused agrees differs =
+      let pipe = both-true (same name offeredName) (eqb (socketOf flow) (offeredSocket serverFlow)) agrees in
+      simp (pipe .0, pipe .1, both-fail (eqb (length format) 0) (same format offeredFormat) differs)
+
+-- ---- what a server does
+
+module _ (flow limit serverFlow : ℕ) (end : End) (x : Side Endpoint) (e : Endpoint) (asked wanted : List ℕ) (sent-room : ℕ) (name format : List ℕ) (room phase n : ℕ)
+    (sound : Sound (x .self)) (serves : x .self .role ≡ server) (made : Made flow limit serverFlow end e (OPEN asked wanted) sent-room)
+    (leads : rowOf (other (x .self .role)) (other (x .self .flow)) (x .self .phase) (x .self .n) Open 0 ≡ To phase n) where
+  abbrev r : Endpoint
+  r = x .self
+
+  abbrev s : List ℕ
+  s = written e (OPEN asked wanted)
+
+  -- what refuses the frame refuses the message
+  frame-refused : (refusal : Refusal) → ((opening : Opening) → answerTo (e .flow) asked wanted opening (r .flow) name format ≡ OpenFrame·Refused refusal) →
+      hearOf r s name format ≡ refused r (openNumber (OpenFrame·Refused refusal)) 1
+  unfolding hearOf hearMessage carriedBy openAt
+  frame-refused refusal answers =
+      let call = OPEN asked wanted in
+      let passed = accepted-passed e (outgoing e call) sent-room (made .accepted) in
+      let back = reads-back e call (made .fits) sent-room (made .accepted) in
+      let given = not-false (isGood asked wanted) (passed .given) in
+      let read = read-back (e .flow) asked wanted (e .limit) given (good-told e (passed .is-good) .bounded) s 18 (back .framed) in
+      let heard = read .heard (r .flow) name format ∙ answers (read .opening) in
+      let small = call-small r sound e call (passed .within) (passed .given) (λ bears. let z : _≡_ {A = ℕ} 0 1 = cc in absurd (omega arith)) in
+      let alive = row-alive (other (r .role)) (other (r .flow)) (r .phase) (r .n) Open 0 phase n leads in
+      simp (alive, back .read, small, call-leads e call r phase n leads, heard)
+
+  -- and then it closes, and says so
+  closes-by : (number code : ℕ) → hearOf r s name format ≡ refused r number 1 → silent r number 1 ≡ false → closeCode r number 1 ≡ code → code < 256 ^ 2 → Understood x s name format room (Refused number) → OpenRefused x s name format room
+  unfolding refused
+  closes-by number code heard speaks coded small understood =
+      record {
+        number = number;
+        code = code;
+        answered = simp heard;
+        understood = understood;
+        replied = simp (heard, speaks, coded);
+        ends = λ ending. simp (heard, speaks);
+        after = simp heard;
+        small = small;
+      }
+
+  pub open-refused : isOffered e (OPEN asked wanted) r name format ≡ false → OpenRefused x s name format room
+  unfolding silent closeCode
+  open-refused differs = go (same asked name && eqb (socketOf (e .flow)) (offeredSocket (r .flow))) refl
+    where
+      go : (t : Bool) → same asked name && eqb (socketOf (e .flow)) (offeredSocket (r .flow)) ≡ t → OpenRefused x s name format room
+      go true agrees =
+          let format-differs : eqb (length wanted) 0 || same wanted format ≡ false = simp agrees at differs in
+          closes-by 22 103 (frame-refused OtherFormat (λ opening. format-refused (e .flow) asked wanted opening (r .flow) name format agrees format-differs)) (simp serves) refl (lit< tt)
+          (other-format e asked wanted refl format-differs)
+      go false pipe-differs =
+          closes-by 21 100 (frame-refused OtherPipe (λ opening. pipe-refused (e .flow) asked wanted opening (r .flow) name format pipe-differs)) (simp serves) refl (lit< tt)
+          (other-pipe e asked wanted refl pipe-differs)
