@@ -22,7 +22,7 @@ use Rattle.session.proofs.Counts.{sent-counted, heard-counted, closed-c
 use Rattle.session.proofs.Packets.{SentOn, Comes, answersIn, limitAfter}
 
 -- no row leads on from phase 5
-moved-low : {role flow phase n type-data next count : ℕ} {message : MessageType} → Moved role flow phase n message type-data next count → phase ≤ batch
+pub moved-low : {role flow phase n type-data next count : ℕ} {message : MessageType} → Moved role flow phase n message type-data next count → phase ≤ batch
 moved-low (opens role begins) = omega arith
 moved-low (offers differs low high begins) = omega arith
 moved-low (takes role offered few begins) = omega arith
@@ -38,7 +38,7 @@ is-going WroteClose phase ends low = absurd (omega (arith, ends))
 
 -- where a row leads, the writer and the hearer of its message have closed in phase 5 and nowhere else
 
-begun-low : {begins count next m : ℕ} → begins ≤ batch → Begun begins count next m → next ≤ batch
+pub begun-low : {begins count next m : ℕ} → begins ≤ batch → Begun begins count next m → next ≤ batch
 begun-low low (nothing none) = omega arith
 begun-low low (something some) = low
 

@@ -7,3 +7,6 @@ pub mod Table
 pub mod Turns
 pub mod Counts
 pub mod Ends
+pub mod Link
+pub mod Hearing
+pub mod Step

@@ -32,9 +32,9 @@ module _ {entries : List Entry} {p q : List Packet} {b : Standing} where
       }
 
   -- an end hears a packet that confirms its oldest entries, and writes packets that ask for nothing
-  pub hears-awaits : (s : Stage) (a : Standing) (m : Packet) (r : List Packet) (after : List Entry) → collect askedIn r ≡ []
-    → (c : Awaits (At s) entries p b (m ∷ q)) → (IsOpen a → after ≡ collect confirmedIn q ++ c .rest) → Awaits a after (p ++ r) b q
-  hears-awaits s a m r after none c keeps =
+  pub hears-awaits : (was a : Standing) (m : Packet) (r : List Packet) (after : List Entry) → collect askedIn r ≡ []
+    → (c : Awaits was entries p b (m ∷ q)) → (IsOpen a → after ≡ collect confirmedIn q ++ c .rest) → Awaits a after (p ++ r) b q
+  hears-awaits was a m r after none c keeps =
       record { rest = c .rest; held = keeps; due = λ is-open. c .due is-open ∙ sym (collect-none askedIn p r none) }
 
   -- an end that has closed awaits nothing

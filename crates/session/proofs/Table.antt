@@ -258,7 +258,7 @@ nIn (At s) = s .n
 nIn Shut = 0
 nIn Gone = 0
 
-other-role : (end : End) → roleOf (across end) ≡ other (roleOf end)
+pub other-role : (end : End) → roleOf (across end) ≡ other (roleOf end)
 other-role Client = refl
 other-role Server = refl
 

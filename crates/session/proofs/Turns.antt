@@ -8,7 +8,7 @@ use Rattle.session.specs.World.{End, Client, Server, across}
 use Rattle.session.specs.Turns.{Packet, movesLike, Kind, Token, Quiet, Closing, kindOf, Stage, Standing, At, Shut, Gone, turn, Active, Alive, Leads, Sends, moves, rests, closes, Hears, moved, rested, closed, late, Drains, empty, head, Still, nothing, quiet, Ended, by-other, by-itself, Meets, ahead, behind, over, over-across}
 use Rattle.session.proofs.Table.{leads-active, leads-alive}
 
-across-twice : (end : End) → end ≡ across (across end)
+pub across-twice : (end : End) → end ≡ across (across end)
 across-twice Client = refl
 across-twice Server = refl
 

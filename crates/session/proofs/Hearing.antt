@@ -1,0 +1,293 @@
+-- Two ends, of which one receives: a packet that is heard, an OPEN that is refused, and a packet that comes after an own close, keep what links
+-- them. Assumes nothing.
+use mathlib.Core.Path.{_≡_, refl, sym, _∙_, ap, subst}
+use Prim.Native.Nat.{ℕ, _≤_, _<_, _^_}
+use mathlib.Core.List.{List, [], _∷_, _++_, map, append-assoc, append-nil}
+use mathlib.Core.Bool.{Bool, true, false, cond, _&&_, _||_}
+use native.Mathlib.Omega.{arith}
+use lib.Dec.{eqb}
+use lib.ListN.{length}
+use borrow.Author.Tests.{eqb-true}
+use Rattle.bytes_be.specs.Part.{same}
+use Rattle.bytes_be.proofs.Tests.{both-true}
+use Rattle.control.specs.declared.MessageType.{MessageType}
+use Rattle.control.specs.declared.MessageType.the-variants.{Open, Ready, Noop, Data, Close}
+use Rattle.open.specs.Open.{offeredSocket}
+use Rattle.open_write.specs.Frame.{socketOf}
+use Rattle.endpoint.specs.declared.Endpoint.{Endpoint}
+use Rattle.endpoint.specs.declared.Entry.{Entry}
+use Rattle.endpoint.specs.Record.{producer, idle, batch, shut, awaited, closed}
+use Rattle.table.specs.declared.Row.the-variants.{To}
+use Rattle.table.specs.Table.{other, rowOf}
+use Rattle.receiving.specs.declared.Answer.{Answer}
+use Rattle.receiving.specs.declared.Answer.the-variants.{Heard as Answer·Heard}
+use Rattle.receiving.specs.Hearing.{hearOf}
+use Rattle.sending.specs.Calls.{OPEN, READY, DATA, NOOP, CLOSE}
+use Rattle.session.specs.World.{End, Client, Server, across, Ending, Going, WroteClose, Side, taking, withQueue, agreement, closedTo, afterBundle}
+use Rattle.session.specs.Turns.{Packet, Called, Confirms, Closes, bytesIn, movesLike, typeDataIn, askedIn, confirmedIn, dataIn, collect, Token, Quiet, Closing, kindOf, Stage, Standing, At, Shut, Gone, IsOpen, stands, standing, roleOf, producing, turn, rests, Hears, moved, rested, closed as Hears·closed, Meets}
+use Rattle.session.specs.Invariant.{Knows, Terms, source, flowAt, Proper, Awaits, Delivers, Sides, Linked}
+use Rattle.session.proofs.Table.{Moved, opens, gives, row-moved, row-hears, other-role, phaseIn, nIn, leads-alive, leads-active}
+use Rattle.session.proofs.Turns.{sends-meets, hears-meets, refuses-meets}
+use Rattle.session.proofs.Streams.{hears-awaits, gone-awaits, across-hears-awaits, across-gone-awaits, writes-delivers, hears-delivers, gone-delivers}
+use Rattle.session.proofs.Packets.{Comes, Taken, answersIn, limitAfter, offeredIn}
+use Rattle.session.proofs.Taking.{packet-taken}
+use Rattle.session.proofs.Ends.{hearer-knows, heard-sides, refused-sides}
+
+-- where an end stands that heard a message
+
+token-stays : (message : MessageType) → kindOf message ≡ Token → closedTo message Going ≡ Going
+token-stays Open token = refl
+token-stays Ready token = refl
+token-stays Noop token = let z : _≡_ {A = ℕ} 0 1 = cc in absurd (omega arith)
+token-stays Data token = refl
+token-stays Close token = let z : _≡_ {A = ℕ} 0 1 = cc in absurd (omega arith)
+
+quiet-stays : (message : MessageType) → kindOf message ≡ Quiet → closedTo message Going ≡ Going
+quiet-stays Open still = let z : _≡_ {A = ℕ} 0 1 = cc in absurd (omega arith)
+quiet-stays Ready still = let z : _≡_ {A = ℕ} 0 1 = cc in absurd (omega arith)
+quiet-stays Noop still = refl
+quiet-stays Data still = let z : _≡_ {A = ℕ} 0 1 = cc in absurd (omega arith)
+quiet-stays Close still = let z : _≡_ {A = ℕ} 0 1 = cc in absurd (omega arith)
+
+closing-shuts : (message : MessageType) (e : Endpoint) → kindOf message ≡ Closing → stands (closedTo message Going) e ≡ Shut
+closing-shuts Open e closing = let z : _≡_ {A = ℕ} 0 1 = cc in absurd (omega arith)
+closing-shuts Ready e closing = let z : _≡_ {A = ℕ} 0 1 = cc in absurd (omega arith)
+closing-shuts Noop e closing = let z : _≡_ {A = ℕ} 0 1 = cc in absurd (omega arith)
+closing-shuts Data e closing = let z : _≡_ {A = ℕ} 0 1 = cc in absurd (omega arith)
+closing-shuts Close e closing = refl
+
+hearer-stands : (from end : End) (s : Stage) (m : Packet) (a : Standing) (e : Endpoint) → Hears from end (At s) m a → e .phase ≡ phaseIn a → e .n ≡ nIn a
+  → stands (closedTo (movesLike m) Going) e ≡ a
+hearer-stands from end s m (At t) e (moved token theirs leads) phased counted =
+    ap (λ (ending : Ending). stands ending e) (token-stays (movesLike m) token) ∙ rw (phased, counted) refl
+hearer-stands from end s m _ e (rested still active) phased counted =
+    ap (λ (ending : Ending). stands ending e) (quiet-stays (movesLike m) still) ∙ rw (phased, counted) refl
+hearer-stands from end s m _ e (Hears·closed closing alive) phased counted = closing-shuts (movesLike m) e closing
+
+-- an end that is still open is not in phase 5
+hearer-low : (from end : End) (s : Stage) (m : Packet) (a : Standing) → Hears from end (At s) m a → IsOpen a → phaseIn a ≡ shut → ⊥
+hearer-low from end s m (At t) (moved token theirs leads) is-open is-shut = omega (arith, leads-alive from s m t token leads .1, is-shut)
+hearer-low from end s m _ (rested still active) is-open is-shut = omega (arith, active .1, is-shut)
+hearer-low from end s m _ (Hears·closed closing alive) is-open is-shut = is-open
+
+-- what the confirmation of a packet asks for, confirms and carries
+
+answers-ask : (m : Packet) → collect askedIn (answersIn m) ≡ []
+answers-ask (Called e (OPEN name format) room) = refl
+answers-ask (Called e (READY count) room) = refl
+answers-ask (Called e (DATA type-data true body) room) = refl
+answers-ask (Called e (DATA type-data false body) room) = refl
+answers-ask (Called e (NOOP type-data true) room) = refl
+answers-ask (Called e (NOOP type-data false) room) = refl
+answers-ask (Called e (CLOSE code) room) = refl
+answers-ask (Confirms message type-data) = refl
+answers-ask (Closes code) = refl
+
+answers-confirm : (m : Packet) → collect confirmedIn (answersIn m) ≡ askedIn m
+answers-confirm (Called e (OPEN name format) room) = refl
+answers-confirm (Called e (READY count) room) = refl
+answers-confirm (Called e (DATA type-data true body) room) = refl
+answers-confirm (Called e (DATA type-data false body) room) = refl
+answers-confirm (Called e (NOOP type-data true) room) = refl
+answers-confirm (Called e (NOOP type-data false) room) = refl
+answers-confirm (Called e (CLOSE code) room) = refl
+answers-confirm (Confirms message type-data) = refl
+answers-confirm (Closes code) = refl
+
+answers-carry : (m : Packet) → collect dataIn (answersIn m) ≡ []
+answers-carry (Called e (OPEN name format) room) = refl
+answers-carry (Called e (READY count) room) = refl
+answers-carry (Called e (DATA type-data true body) room) = refl
+answers-carry (Called e (DATA type-data false body) room) = refl
+answers-carry (Called e (NOOP type-data true) room) = refl
+answers-carry (Called e (NOOP type-data false) room) = refl
+answers-carry (Called e (CLOSE code) room) = refl
+answers-carry (Confirms message type-data) = refl
+answers-carry (Closes code) = refl
+
+-- DATA moves on only in phase 4
+data-active : {role flow phase n type-data next count : ℕ} → Moved role flow phase n Data type-data next count → (idle ≤ phase) × (phase ≤ batch)
+data-active (gives produces batching begins) = (omega arith, omega arith)
+
+-- the confirmation of a packet is a quiet message
+answers-meets : (from end : End) {s : Stage} {a b : Standing} {p q : List Packet} (m : Packet) → Hears from end (At s) m a
+  → Meets from end a p b q → Meets from end a (p ++ answersIn m) b q
+answers-meets from end (Called e (OPEN name format) room) hears meets = rw append-nil meets
+answers-meets from end (Called e (READY count) room) hears meets = rw append-nil meets
+answers-meets from end {s} (Called e (DATA type-data true body) room) (moved {t = t} token theirs leads) meets =
+    let move = row-moved (roleOf (turn from (s .phase))) producer (s .phase) (s .n) Data type-data (t .phase) (t .n) leads in
+    sends-meets from end meets (rests refl (leads-active from s (Called e (DATA type-data true body) room) t token leads (data-active move)))
+answers-meets from end (Called e (DATA type-data true body) room) (rested still active) meets = let z : _≡_ {A = ℕ} 0 1 = cc in absurd (omega arith)
+answers-meets from end (Called e (DATA type-data true body) room) (Hears·closed closing alive) meets = let z : _≡_ {A = ℕ} 0 1 = cc in absurd (omega arith)
+answers-meets from end (Called e (DATA type-data false body) room) hears meets = rw append-nil meets
+answers-meets from end (Called e (NOOP type-data true) room) (moved token theirs leads) meets = let z : _≡_ {A = ℕ} 0 1 = cc in absurd (omega arith)
+answers-meets from end (Called e (NOOP type-data true) room) (rested still active) meets = sends-meets from end meets (rests refl active)
+answers-meets from end (Called e (NOOP type-data true) room) (Hears·closed closing alive) meets = let z : _≡_ {A = ℕ} 0 1 = cc in absurd (omega arith)
+answers-meets from end (Called e (NOOP type-data false) room) hears meets = rw append-nil meets
+answers-meets from end (Called e (CLOSE code) room) hears meets = rw append-nil meets
+answers-meets from end (Confirms message type-data) hears meets = rw append-nil meets
+answers-meets from end (Closes code) hears meets = rw append-nil meets
+
+-- who hears data is of the other flow than who produces
+not-across : (end : End) → end ≡ across end → ⊥
+not-across Client same = let z : _≡_ {A = ℕ} 0 1 = cc in omega arith
+not-across Server same = let z : _≡_ {A = ℕ} 0 1 = cc in omega arith
+
+hearer-consumes : (end : End) (own : ℕ) → producing end own ≡ across end → other own ≡ producer
+hearer-consumes end own theirs = go (eqb own producer) theirs
+  where
+    go : (t : Bool) → cond t end (across end) ≡ across end → cond t 2 1 ≡ producer
+    go true same = absurd (not-across end same)
+    go false same = refl
+
+batch-known : (end : End) (phase : ℕ) → phase ≡ batch → Knows end phase
+batch-known Client phase batching = tt
+batch-known Server phase batching = (omega arith, omega arith)
+
+-- the server that accepts an OPEN is of the other flow
+offered-source : (own theirs : ℕ) → socketOf theirs ≡ offeredSocket own → producing Server own ≡ producing Client theirs
+offered-source own theirs sockets = go (eqb own producer) (eqb theirs producer) sockets
+  where
+    go : (t u : Bool) → cond {A = ℕ} u 1 2 ≡ cond t 2 1 → cond t Server Client ≡ cond u Client Server
+    go true true sockets = absurd (omega (arith, sockets))
+    go true false sockets = refl
+    go false true sockets = refl
+    go false false sockets = absurd (omega (arith, sockets))
+
+pub clients-open : {flow phase n type-data next count : ℕ} → Moved (roleOf Server) flow phase n Open type-data next count → ⊥
+clients-open (opens role begins) = omega (arith, role)
+
+module _ (flow limit serverFlow : ℕ) where
+  abbrev from : End
+  from = source flow limit serverFlow
+
+  -- and so agrees on who produces
+  open-source : (end : End) (r : Endpoint) (m : Packet) (name format : List ℕ) {seen phase n next count : ℕ} → Proper flow limit serverFlow (across end) m
+    → Moved (roleOf (across end)) seen phase n (movesLike m) (typeDataIn m) next count → offeredIn m r name format ≡ true → movesLike m ≡ Open → producing end (r .flow) ≡ from
+  open-source Client r (Called e (OPEN asked wanted) room) name format made moves offers is-open = absurd (clients-open moves)
+  open-source Server r (Called e (OPEN asked wanted) room) name format made moves offers is-open =
+      let all = both-true (same asked name && eqb (socketOf (e .flow)) (offeredSocket (r .flow))) (eqb (length wanted) 0 || same wanted format) offers in
+      let pipe = both-true (same asked name) (eqb (socketOf (e .flow)) (offeredSocket (r .flow))) (all .0) in
+      offered-source (r .flow) (e .flow) (eqb-true _ _ (pipe .1)) ∙ ap (producing Client) (made .flows)
+  open-source end r (Called e (READY count) room) name format made moves offers is-open = let z : _≡_ {A = ℕ} 0 1 = cc in absurd (omega arith)
+  open-source end r (Called e (DATA type-data ask body) room) name format made moves offers is-open = let z : _≡_ {A = ℕ} 0 1 = cc in absurd (omega arith)
+  open-source end r (Called e (NOOP type-data ask) room) name format made moves offers is-open = let z : _≡_ {A = ℕ} 0 1 = cc in absurd (omega arith)
+  open-source end r (Called e (CLOSE code) room) name format made moves offers is-open = let z : _≡_ {A = ℕ} 0 1 = cc in absurd (omega arith)
+  open-source end r (Confirms message type-data) name format made moves offers is-open = let z : _≡_ {A = ℕ} 0 1 = cc in absurd (omega arith)
+  open-source end r (Closes code) name format made moves offers is-open = let z : _≡_ {A = ℕ} 0 1 = cc in absurd (omega arith)
+
+  module _ (end : End) (x y : Side Endpoint) (p q : List Packet) (m : Packet) (linked : Linked flow limit serverFlow end x y p (m ∷ q)) where
+    abbrev stage : Stage
+    stage = record { phase = x .self .phase; n = x .self .n }
+
+    -- the writer of a packet that was received
+    left-sides : Sides flow limit serverFlow (across end) (withQueue y (map bytesIn q)) q
+    left-sides =
+        let there = linked .there in
+        record {
+          sound = there .sound;
+          role = there .role;
+          flows = there .flows;
+          ends = there .ends;
+          queued = refl;
+          proper = there .proper .1;
+          terms = there .terms;
+          counted = record { in-all = there .counted .in-all; in-newest = there .counted .in-newest };
+        }
+
+    module _ (going : x .ending ≡ Going) where
+      was : standing x ≡ At stage
+      was = ap (λ (ending : Ending). stands ending (x .self)) going
+
+      -- the entries awaited, but for those that the packet confirms
+      abbrev pub later : List Entry
+      later = collect confirmedIn q ++ linked .awaits .rest
+
+      awaited-first : awaited (x .self) ≡ confirmedIn m ++ later
+      awaited-first = linked .awaits .held (rw was tt) ∙ append-assoc (confirmedIn m) (collect confirmedIn q) (linked .awaits .rest)
+
+      module _ (a : Standing) (hears : Hears from end (At stage) m a) where
+        pub leads : rowOf (other (roleOf end)) (other (x .self .flow)) (x .self .phase) (x .self .n) (movesLike m) (typeDataIn m) ≡ To (phaseIn a) (nIn a)
+        leads =
+            row-hears from end (x .self .flow) stage m a hears
+            (λ theirs batching. hearer-consumes end (x .self .flow) (linked .here .terms (batch-known end (x .self .phase) batching) .agreed ∙ theirs))
+
+        pub moves : Moved (roleOf (across end)) (other (x .self .flow)) (x .self .phase) (x .self .n) (movesLike m) (typeDataIn m) (phaseIn a) (nIn a)
+        moves = row-moved (roleOf (across end)) (other (x .self .flow)) (x .self .phase) (x .self .n) (movesLike m) (typeDataIn m) (phaseIn a) (nIn a) (rw (other-role end) leads)
+
+        data-limit : movesLike m ≡ Data → x .self .limit ≡ limit
+        data-limit bears = linked .here .terms (hearer-knows end (λ is-open. let z : _≡_ {A = ℕ} 0 1 = cc in omega arith) moves) .limited
+
+        pub head-taken : (name format : List ℕ) → offeredIn m (x .self) name format ≡ true → Taken end (x .self) m name format (phaseIn a) (nIn a) later
+        head-taken name format offers =
+            packet-taken flow limit serverFlow end (x .self) m name format (phaseIn a) (nIn a) later
+            (record {
+              sound = linked .here .sound;
+              proper = linked .there .proper .0;
+              leads = rw (linked .here .role) leads;
+              limited = data-limit;
+              offered = offers;
+              awaits = awaited-first;
+            })
+
+        -- a packet that was heard
+        taken-linked : (next : Endpoint) → Meets from end a p (standing y) q → (movesLike m ≡ Open → producing end (x .self .flow) ≡ from)
+          → Comes (x .self) (phaseIn a) (nIn a) (limitAfter m (x .self .limit)) next → ((phaseIn a ≡ shut → ⊥) → awaited next ≡ later)
+          → Linked flow limit serverFlow end
+          (taking x (dataIn m) (agreement (across end) (movesLike m) (typeDataIn m)) (map bytesIn (answersIn m)) (closedTo (movesLike m) Going) next)
+          (withQueue y (map bytesIn q)) (p ++ answersIn m) q
+        taken-linked next meets produces comes awaits =
+            let after = hearer-stands from end stage m a next hears (comes .phased) (comes .counted) in
+            record {
+              here = heard-sides flow limit serverFlow end x p (linked .here) m (phaseIn a) (nIn a) next (linked .there .proper .0) moves produces comes;
+              there = left-sides;
+              meets = rw after (answers-meets from end m hears meets);
+              awaits =
+                  rw after
+                  (hears-awaits (standing x) a m (answersIn m) (awaited next) (answers-ask m) (linked .awaits)
+                  (λ is-open. awaits (hearer-low from end stage m a hears is-open)));
+              awaits-across = rw after (across-hears-awaits (standing y) a stage m (answersIn m) (answers-confirm m) (rw was at (linked .awaits-across)));
+              delivers = writes-delivers (standing y) (answersIn m) (answers-carry m) (linked .delivers);
+              delivers-across = rw after (hears-delivers stage a m (rw was at (linked .delivers-across)));
+            }
+
+        -- what the world notes of it
+        taken-noted : (name format : List ℕ) → Taken end (x .self) m name format (phaseIn a) (nIn a) later
+          → afterBundle end x (bytesIn m) (hearOf (x .self) (bytesIn m) name format)
+          ≡ taking x (dataIn m) (agreement (across end) (movesLike m) (typeDataIn m)) (map bytesIn (answersIn m)) (closedTo (movesLike m) Going) (hearOf (x .self) (bytesIn m) name format .next)
+        taken-noted name format taken = simp (taken .answered, taken .carried, taken .agrees, taken .replied, going, taken .ends Going)
+
+        pub heard-linked : (name format : List ℕ) → offeredIn m (x .self) name format ≡ true → Meets from end a p (standing y) q
+          → Linked flow limit serverFlow end (afterBundle end x (bytesIn m) (hearOf (x .self) (bytesIn m) name format)) (withQueue y (map bytesIn q)) (p ++ answersIn m) q
+        heard-linked name format offered meets =
+            let taken = head-taken name format offered in
+            subst (λ (after : Side Endpoint). Linked flow limit serverFlow end after (withQueue y (map bytesIn q)) (p ++ answersIn m) q) (sym (taken-noted name format taken))
+            (taken-linked (hearOf (x .self) (bytesIn m) name format .next) meets (open-source end (x .self) m name format (linked .there .proper .0) moves offered) (taken .comes) (taken .awaits))
+
+      -- an OPEN that was refused, with the code of its CLOSE
+      pub refused-linked : (code : ℕ) → code < 256 ^ 2 → kindOf (movesLike m) ≡ Token
+        → Linked flow limit serverFlow end (taking x [] [] (map bytesIn (Closes code ∷ [])) WroteClose (closed (x .self))) (withQueue y (map bytesIn q)) (p ++ (Closes code ∷ [])) q
+      refused-linked code few token =
+          record {
+            here = refused-sides flow limit serverFlow end x p (linked .here) code few;
+            there = left-sides;
+            meets = refuses-meets from end (Closes code) token refl (rw was at (linked .meets));
+            awaits = gone-awaits (standing x) m (Closes code ∷ []) _ refl (linked .awaits);
+            awaits-across = across-gone-awaits (standing y) (standing x) m (Closes code ∷ []) refl (linked .awaits-across);
+            delivers = writes-delivers (standing y) (Closes code ∷ []) refl (linked .delivers);
+            delivers-across = rw append-nil (gone-delivers (standing x) m (linked .delivers-across));
+          }
+
+    -- a packet that came after the own close
+    pub late-linked : x .ending ≡ WroteClose → Meets from end Gone p (standing y) q → Linked flow limit serverFlow end x (withQueue y (map bytesIn q)) p q
+    late-linked wrote meets =
+        let gone : standing x ≡ Gone = ap (λ (ending : Ending). stands ending (x .self)) wrote in
+        record {
+          here = linked .here;
+          there = left-sides;
+          meets = rw gone meets;
+          awaits = record { rest = linked .awaits .rest; held = λ is-open. absurd (rw gone at is-open); due = linked .awaits .due };
+          awaits-across = record { rest = linked .awaits-across .rest; held = linked .awaits-across .held; due = λ is-open. absurd (rw gone at is-open) };
+          delivers = linked .delivers;
+          delivers-across = rw gone (gone-delivers (standing x) m (linked .delivers-across));
+        }

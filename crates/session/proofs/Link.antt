@@ -1,0 +1,99 @@
+-- Two ends: an accepted send, a packet that is heard, an OPEN that is refused and a packet that comes after an own close keep what links them.
+-- Assumes nothing.
+use mathlib.Core.Path.{_≡_, refl, sym, _∙_, ap, subst}
+use Prim.Native.Nat.{ℕ, _≤_, _<_, _^_}
+use mathlib.Core.List.{List, [], _∷_, _++_, map, append-assoc, append-nil}
+use mathlib.Core.Bool.{Bool, true, false, cond}
+use native.Mathlib.Omega.{arith}
+use lib.Dec.{eqb}
+use borrow.Author.Tests.{eq-eqb}
+use Rattle.control.specs.declared.MessageType.{MessageType}
+use Rattle.control.specs.declared.MessageType.the-variants.{Open, Ready, Noop, Data, Close}
+use Rattle.endpoint.specs.declared.Endpoint.{Endpoint}
+use Rattle.endpoint.specs.declared.Entry.{Entry}
+use Rattle.endpoint.specs.Record.{producer, batch, shut, awaited, closed}
+use Rattle.sending.specs.Calls.{Call, OPEN, READY, DATA, NOOP, CLOSE, messageOf, typeDataOf, written}
+use Rattle.sending.specs.Sending.{sendOf}
+use Rattle.machine.specs.Good.{Fits}
+use Rattle.session.specs.World.{End, across, Ending, Going, WroteClose, Side, having, taking, withQueue, agreement, closedBy, closedTo}
+use Rattle.session.specs.Turns.{Packet, Called, Confirms, Closes, bytesIn, movesLike, typeDataIn, askedIn, confirmedIn, dataIn, collect, Token, Quiet, Closing, kindOf, Stage, Standing, At, Shut, Gone, IsOpen, stands, standing, roleOf, producing, Sends, Hears, moved, rested, Meets}
+use Rattle.session.specs.Turns.{rests as Sends·rests, closed as Hears·closed}
+use Rattle.session.specs.Invariant.{Awaits, Delivers, Sides, Linked, source}
+use Rattle.session.proofs.Table.{Begun, Moved, opens, offers, takes, gives, rests, closes, row-moved, row-sends, landing, landing-at, phaseIn, nIn, leads-alive, leads-active}
+use Rattle.session.proofs.Turns.{across-meets, across-twice, sends-meets, hears-meets, refuses-meets}
+use Rattle.session.proofs.Streams.{sends-awaits, hears-awaits, gone-awaits, across-awaits, across-hears-awaits, across-gone-awaits, sends-delivers, writes-delivers, across-delivers, hears-delivers, gone-delivers}
+use Rattle.session.proofs.Packets.{SentOn, Comes, answersIn, limitAfter, sent-on}
+use Rattle.session.proofs.Ends.{is-going, moved-low, begun-low, sender-knows, sent-sides, heard-sides, refused-sides}
+
+-- where an end stands that sent a message
+
+at-lands : (e : Endpoint) {next count : ℕ} → e .phase ≡ next → e .n ≡ count → next ≤ batch → At (record { phase = e .phase; n = e .n }) ≡ landing next count
+at-lands e {next} {count} phased counted low = rw (phased, counted) (landing-at next count low)
+
+writer-stands : (e : Endpoint) {role flow phase n type-data next count : ℕ} {message : MessageType} → e .phase ≡ next → e .n ≡ count
+  → Moved role flow phase n message type-data next count → stands (closedBy message Going) e ≡ landing next count
+writer-stands e phased counted (opens role begins) = at-lands e phased counted (omega arith)
+writer-stands e phased counted (offers differs low high begins) = at-lands e phased counted (begun-low (omega arith) begins)
+writer-stands e phased counted (takes role offered few begins) = at-lands e phased counted (begun-low (omega arith) begins)
+writer-stands e phased counted (gives produces batched begins) = at-lands e phased counted (begun-low (omega arith) begins)
+writer-stands e phased counted (rests low high) = at-lands e phased counted high
+writer-stands e phased counted (closes low high) = refl
+
+lands-low : (next count : ℕ) → IsOpen (landing next count) → next ≡ shut → ⊥
+lands-low next count is-open is-shut = rw (eq-eqb next shut is-shut) at is-open
+
+module _ (flow limit serverFlow : ℕ) where
+  abbrev from : End
+  from = source flow limit serverFlow
+
+  -- the same two ends, seen from the other
+  pub across-linked : (end : End) (x y : Side Endpoint) (p q : List Packet) → Linked flow limit serverFlow end x y p q → Linked flow limit serverFlow (across end) y x q p
+  across-linked end x y p q linked =
+      record {
+        here = linked .there;
+        there = subst (λ (e : End). Sides flow limit serverFlow e x p) (across-twice end) (linked .here);
+        meets = across-meets from end (linked .meets);
+        awaits = linked .awaits-across;
+        awaits-across = linked .awaits;
+        delivers = linked .delivers-across;
+        delivers-across = linked .delivers;
+      }
+
+  -- who produces, seen from an end that does
+  own-source : (end : End) (own : ℕ) → producing end own ≡ from → own ≡ producer → from ≡ end
+  own-source end own agreed is-producer = sym agreed ∙ rw is-producer refl
+
+  module _ (end : End) (x y : Side Endpoint) (p q : List Packet) (linked : Linked flow limit serverFlow end x y p q) where
+    -- an accepted send
+    called-linked : (call : Call) (room : ℕ) → Fits call → sendOf (x .self) call room .number ≡ 0 → SentOn (x .self) call room
+      → Linked flow limit serverFlow end (having end x call (written (x .self) call) (sendOf (x .self) call room .next)) y (p ++ (Called (x .self) call room ∷ [])) q
+    called-linked call room fits number sent =
+        let here = linked .here in
+        let m : Packet = Called (x .self) call room in
+        let leads = rw (here .role) at (sent .leads) in
+        let moves = row-moved (roleOf end) (x .self .flow) (x .self .phase) (x .self .n) (messageOf call) (typeDataOf call) (sent .phase) (sent .n) leads in
+        let going = is-going (x .ending) (x .self .phase) (here .ends) (moved-low moves) in
+        let knows = here .terms (sender-knows end moves) in
+        let after : stands (closedBy (messageOf call) (x .ending)) (sendOf (x .self) call room .next) ≡ landing (sent .phase) (sent .n) =
+        rw going (writer-stands (sendOf (x .self) call room .next) (sent .comes .phased) (sent .comes .counted) moves) in
+        let was : standing x ≡ At (record { phase = x .self .phase; n = x .self .n }) = ap (λ (ending : Ending). stands ending (x .self)) going in
+        let was-open : IsOpen (standing x) = rw was tt in
+        record {
+          here = sent-sides flow limit serverFlow end x p here call room fits number sent;
+          there = linked .there;
+          meets =
+              rw after
+              (sends-meets from end (rw was at (linked .meets))
+              (row-sends from end (x .self .flow) (x .self .phase) (x .self .n) m (sent .phase) (sent .n) leads (λ produces batching. own-source end (x .self .flow) (knows .agreed) produces)));
+          awaits =
+              rw after
+              (sends-awaits (record { phase = x .self .phase; n = x .self .n }) (landing (sent .phase) (sent .n)) m _
+              (λ is-open. sent .awaits (lands-low (sent .phase) (sent .n) is-open)) (rw was at (linked .awaits)));
+          awaits-across = across-awaits (standing y) _ (m ∷ []) (λ is-open. was-open) refl (linked .awaits-across);
+          delivers = sends-delivers (standing y) m (linked .delivers);
+          delivers-across = across-delivers (standing x) _ (λ is-open. was-open) (linked .delivers-across);
+        }
+
+    pub sent-linked : (call : Call) (room : ℕ) → Fits call → sendOf (x .self) call room .number ≡ 0
+      → Linked flow limit serverFlow end (having end x call (written (x .self) call) (sendOf (x .self) call room .next)) y (p ++ (Called (x .self) call room ∷ [])) q
+    sent-linked call room fits number = called-linked call room fits number (sent-on (x .self) call room (linked .here .sound) fits number)
