@@ -6,7 +6,7 @@ use mathlib.Core.Bool.{Bool, true, false, cond, not, _&&_}
 use native.Mathlib.Omega.{arith}
 use lib.Dec.{eqb, lit<, ltb, leb}
 use lib.ListN.{length}
-use borrow.Author.Tests.{eqb-true, ltb-false, ne-eqb, not-false}
+use borrow.Author.Tests.{eqb-true, le-ltb, ltb-false, ne-eqb, not-false}
 use Rattle.bytes_be.specs.Part.{putAt}
 use Rattle.bytes_be.proofs.Tests.{took-second}
 use Rattle.bundle.proofs.Outputs.{one-long, two-long}
@@ -66,6 +66,12 @@ module _ (e : Endpoint) (o : Outgoing) (row : Row) (room : ℕ) where
         fits = ltb-false room (o .length) (short .0);
       }
 
+  -- and a send that has passed them has that number
+  none-given : Passed e o row room → numberFor e o row room ≡ 0
+  unfolding numberFor
+  none-given through =
+      simp (through .is-good, through .alive, through .allowed, through .below, through .awaits, through .within, through .given, through .coded, le-ltb room (o .length) (through .fits))
+
   -- the number of what was sent is that of the tests
   number-if : sentIf (numberFor e o row room) e o row .number ≡ numberFor e o row room
   number-if = go (eqb (numberFor e o row room) 0) refl
@@ -79,6 +85,10 @@ module _ (e : Endpoint) (o : Outgoing) (room : ℕ) where
   pub accepted-passed : sentBy e o room .number ≡ 0 → Passed e o (sendRow e o) room
   unfolding sentBy
   accepted-passed zero-number = all-passed e o (sendRow e o) room (sym (number-if e o (sendRow e o) room) ∙ zero-number)
+
+  pub passed-accepted : Passed e o (sendRow e o) room → sentBy e o room .number ≡ 0
+  unfolding sentBy
+  passed-accepted through = number-if e o (sendRow e o) room ∙ none-given e o (sendRow e o) room through
 
 module _ (e : Endpoint) (o : Outgoing) (bytes before : List ℕ) (sent : Sent) (decided : sent ≡ sentBy e o (length before)) where
   -- what is accepted has its bytes at the start of the output

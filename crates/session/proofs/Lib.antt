@@ -10,3 +10,5 @@ pub mod Ends
 pub mod Link
 pub mod Hearing
 pub mod Step
+pub mod Speaking
+pub mod Demand

@@ -130,7 +130,7 @@ is-early phase low high = go (eqb phase opening) refl
     go true _ = refl
     go false later = eq-eqb phase idle (omega (arith, eqb-false phase opening later))
 
-moved-row : {role flow phase n type-data next count : ℕ} {message : MessageType} → Moved role flow phase n message type-data next count → rowOf role flow phase n message type-data ≡ To next count
+pub moved-row : {role flow phase n type-data next count : ℕ} {message : MessageType} → Moved role flow phase n message type-data next count → rowOf role flow phase n message type-data ≡ To next count
 unfolding openRow readyRow dataRow noopRow closeRow
 moved-row {role = role} {phase = phase} (opens is-client begins) = simp (eq-eqb role client is-client, eq-eqb phase fresh begins) refl
 moved-row {role = role} {phase = phase} (offers differs low high begins) = simp (ne-eqb role client differs, is-early phase low high) (begun-row begins)

@@ -1,0 +1,110 @@
+-- At rest, the end whose turn it is may send the call that is named. Assumes nothing.
+use mathlib.Core.Path.{_≡_, refl, sym, _∙_}
+use Prim.Native.Nat.{ℕ, zero, suc, _-_, _≤_}
+use mathlib.Core.List.{[], _∷_}
+use mathlib.Core.Bool.{Bool, true, false, cond, _&&_}
+use native.Mathlib.Omega.{arith}
+use lib.Dec.{eqb, leb, ltb}
+use lib.ListN.{length}
+use borrow.Author.Tests.{eqb-true, le-ltb, leb-true, ne-eqb}
+use Rattle.bytes_be.proofs.Tests.{both-true}
+use Rattle.utf8.specs.Text.{table, dueBehind, rest, wellFormed}
+use Rattle.double.specs.Limit.{leastLimit, mostLimit}
+use Rattle.open_write.specs.Frame.{goodName, goodFormat, isGood}
+use Rattle.endpoint.specs.declared.Endpoint.{Endpoint}
+use Rattle.endpoint.specs.Record.{producer, fresh, opening, idle, offer, batch, shut}
+use Rattle.endpoint.proofs.Told.{good-told}
+use Rattle.table.specs.declared.Row.the-variants.{To}
+use Rattle.table.specs.Table.{rowOf}
+use Rattle.sending.specs.Calls.{Call, OPEN, READY, DATA, messageOf, typeDataOf, askOf, aboveLimit, misgiven, miscoded, outgoing, written}
+use Rattle.sending.specs.Sending.{sendOf, sendRow, isFull}
+use Rattle.sending.proofs.Decided.{passed-accepted}
+use Rattle.machine.specs.Good.{Sound}
+use Rattle.session.specs.World.{End, Client, Server, across}
+use Rattle.session.specs.Turns.{roleOf, producing}
+use Rattle.session.specs.Demand.{Speaks}
+use Rattle.session.proofs.Table.{Begun, nothing, something, opens, offers, takes, gives, moved-row}
+
+-- a call that does not ask, is within the limit, and is given well, is accepted where its row leads on and the output has room
+module _ (e : Endpoint) (sound : Sound e) (alive : eqb (e .phase) shut ≡ false) (call : Call) (phase n : ℕ)
+    (leads : rowOf (e .role) (e .flow) (e .phase) (e .n) (messageOf call) (typeDataOf call) ≡ To phase n) (askless : askOf call ≡ false)
+    (small : aboveLimit e call ≡ false) (given : misgiven call ≡ false) (coded : miscoded e call ≡ false) where
+  accepted : (room : ℕ) → length (written e call) ≤ room → sendOf e call room .number ≡ 0
+  unfolding sendRow isFull
+  accepted room enough =
+      passed-accepted e (outgoing e call) room
+      (record {
+        is-good = sound .is-good;
+        alive = alive;
+        allowed = simp leads;
+        below = simp leads;
+        awaits = simp askless;
+        within = small;
+        given = given;
+        coded = coded;
+        fits = enough;
+      })
+
+-- where any count begins
+begun-any : (phase count : ℕ) → (next : ℕ) × (m : ℕ) × Begun phase count next m
+begun-any phase zero = (idle, 0, nothing refl)
+begun-any phase (suc k) = (phase, suc k, something (omega arith))
+
+-- who produces as seen from itself is a producer
+is-producer : (end : End) (flow : ℕ) → producing end flow ≡ end → flow ≡ producer
+is-producer end flow own = eqb-true flow producer (go (eqb flow producer) own)
+  where
+    differ : (e : End) → across e ≡ e → ⊥
+    differ Client same = let z : _≡_ {A = ℕ} 0 1 = cc in omega arith
+    differ Server same = let z : _≡_ {A = ℕ} 0 1 = cc in omega arith
+
+    go : (t : Bool) → cond t end (across end) ≡ end → t ≡ true
+    go true same = refl
+    go false same = absurd (differ end same)
+
+named-well : isGood (97 ∷ []) [] ≡ true
+unfolding isGood goodName goodFormat wellFormed rest dueBehind table
+named-well = refl
+
+module _ (end : End) (e : Endpoint) (sound : Sound e) (role : e .role ≡ roleOf end) where
+  pub opens-first : end ≡ Client → e .phase ≡ fresh → Speaks e (OPEN (97 ∷ []) [])
+  opens-first mine begins =
+      record {
+        going-on = refl;
+        sent =
+            accepted e sound (rw begins refl) (OPEN (97 ∷ []) []) opening 0
+            (moved-row {role = e .role} {flow = e .flow} {phase = e .phase} {n = e .n} {type-data = 0} (opens (role ∙ rw mine refl) begins)) refl refl (simp named-well) refl;
+      }
+
+  pub offers-one : end ≡ Server → opening ≤ e .phase → e .phase ≤ idle → Speaks e (READY 1)
+  offers-one mine low high =
+      record {
+        going-on = refl;
+        sent =
+            accepted e sound (ne-eqb (e .phase) shut (λ same. omega arith)) (READY 1) offer 1
+            (moved-row {role = e .role} {flow = e .flow} {phase = e .phase} {n = e .n} {type-data = 1} (offers (λ same. not-client mine (sym role ∙ same)) low high (something (omega arith)))) refl refl refl refl;
+      }
+    where
+      not-client : end ≡ Server → roleOf end ≡ 1 → ⊥
+      not-client theirs same = omega (arith, rw theirs at same)
+
+  pub takes-all : end ≡ Client → e .phase ≡ offer → Speaks e (READY (e .n))
+  takes-all mine offered =
+      let begins = begun-any batch (e .n) in
+      record {
+        going-on = refl;
+        sent =
+            accepted e sound (rw offered refl) (READY (e .n)) (begins .0) (begins .1)
+            (moved-row {role = e .role} {flow = e .flow} {phase = e .phase} {n = e .n} {type-data = e .n} (takes (role ∙ rw mine refl) offered (omega arith) (begins .2))) refl refl refl refl;
+      }
+
+  pub gives-data : producing end (e .flow) ≡ end → e .phase ≡ batch → Speaks e (DATA 0 false [])
+  gives-data mine batching =
+      let begins = begun-any batch (e .n - 1) in
+      let least = leb-true leastLimit (e .limit) (both-true (leb leastLimit (e .limit)) (leb (e .limit) mostLimit) (good-told e (sound .is-good) .bounded) .0) in
+      record {
+        going-on = refl;
+        sent =
+            accepted e sound (rw batching refl) (DATA 0 false []) (begins .0) (begins .1)
+            (moved-row {role = e .role} {flow = e .flow} {phase = e .phase} {n = e .n} {type-data = 0} (gives (is-producer end (e .flow) mine) batching (begins .2))) refl (le-ltb (e .limit) 8 (omega arith)) refl refl;
+      }
