@@ -70,11 +70,11 @@ afterReceived end x y s rest number slots block out =
 -- one call of an entry whose answer meets its contract
 pub data Calls (w : World (List ℕ)) : Event → World (List ℕ) → Type 0 where
   sent : (end : End) (call : Call) (out : List ℕ) (number count : ℕ) (block′ out′ : List ℕ)
-    → SendAnswer call (side w end .self) out number count block′ out′
-    → Calls w (sends end call (length out)) (joined end (afterEntry end (side w end) call number count block′ out′) (side w (across end)))
+      → SendAnswer call (side w end .self) out number count block′ out′
+      → Calls w (sends end call (length out)) (joined end (afterEntry end (side w end) call number count block′ out′) (side w (across end)))
   received : (end : End) (s : List ℕ) (rest : List (List ℕ)) (name format out : List ℕ) (number : ℕ) (slots block′ out′ : List ℕ)
-    → side w (across end) .queue ≡ s ∷ rest → ReceiveAnswer s name format (side w end .self) out number slots block′ out′
-    → Calls w (receives end name format (length out)) (afterReceived end (side w end) (side w (across end)) s rest number slots block′ out′)
+      → side w (across end) .queue ≡ s ∷ rest → ReceiveAnswer s name format (side w end .self) out number slots block′ out′
+      → Calls w (receives end name format (length out)) (afterReceived end (side w end) (side w (across end)) s rest number slots block′ out′)
   nothing-there : (end : End) (name format : List ℕ) (room : ℕ) → side w (across end) .queue ≡ [] → Calls w (receives end name format room) w
 
 -- and any number of them
