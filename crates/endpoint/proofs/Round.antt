@@ -91,13 +91,13 @@ loaded-good block = go (holdsEndpoint block)
     go false = refl
 
 -- what a good block says
-record BlockTold (block : List ℕ) : Type 0 where
-  full : length block ≡ 64
-  spare-two : numberAt 2 block 6 ≡ 0
-  spare-four : numberAt 4 block 12 ≡ 0
-  held : loadOf block ≡ recordIn block
+pub record BlockTold (block : List ℕ) : Type 0 where
+  pub full : length block ≡ 64
+  pub spare-two : numberAt 2 block 6 ≡ 0
+  pub spare-four : numberAt 4 block 12 ≡ 0
+  pub held : loadOf block ≡ recordIn block
 
-block-told : (block : List ℕ) → isGood block ≡ true → BlockTold block
+pub block-told : (block : List ℕ) → isGood block ≡ true → BlockTold block
 unfolding isGood loadOf spareIsZero
 block-told block g =
     let p = both-true (holdsEndpoint block) (good (recordIn block)) g in

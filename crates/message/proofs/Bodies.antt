@@ -1,5 +1,6 @@
--- The body of a message that passes 15 is all that stands behind its control frame. Assumes nothing.
-use mathlib.Core.Path.{_≡_, _∙_, ap, refl, sym}
+-- The body of a message that passes 15 is all that stands behind its control frame, and a message that is read has one where it carries one.
+-- Assumes nothing.
+use mathlib.Core.Path.{_≡_, _∙_, ap, refl, subst, sym}
 use Prim.Native.Nat.{_+_, _-_, ℕ}
 use native.Mathlib.Omega.{arith}
 use mathlib.Core.List.{List}
@@ -15,9 +16,11 @@ use Rattle.control.specs.declared.MessageType.{MessageType}
 use Rattle.control.specs.declared.MessageType.the-variants.{Open, Ready, Noop, Data, Close}
 use Rattle.message.specs.declared.Body.{Body}
 use Rattle.message.specs.declared.Body.the-variants.{Nothing, At}
+use Rattle.message.specs.declared.Message.{Message}
 use Rattle.message.specs.declared.Reading.{Reading}
 use Rattle.message.specs.declared.Reading.the-variants.{Read}
-use Rattle.message.specs.Reading.{badFlags, badFrames, bodyIn, bodyOf, carries, ifPasses, readAs, refused, testOf}
+use Rattle.message.specs.Reading.{badFlags, badFrames, bodyIn, bodyOf, carries, ifPasses, readAs, readingOf, refused, testOf}
+use Rattle.message.proofs.Stages.{OfMessage, by-stages}
 
 -- a test has one answer
 other : {A : Type 0} → true ≡ false → A
@@ -79,3 +82,16 @@ module _ (s : List ℕ) (count size : ℕ) (control : Place) (contents : content
           ifPasses (testOf t) (refused 15 said) (read-with (bodyOf s message flags)) ≡ ifPasses (testOf t) (refused 15 said) (read-with body)
       go true bad = refl
       go false passes = ap read-with (body-behind message flags passes ∙ sym is)
+
+-- the body of a message: at a place where it carries one
+pub record Placed (m : Message) : Type 0 where
+  pub place : Place
+  pub there : m .body ≡ cond (carries (m .message) (m .flags)) (At place) Nothing
+
+-- of every message that is read
+pub read-placed : (s : List ℕ) (m : Message) → readingOf s ≡ Read m → Placed m
+read-placed s m is =
+    subst (OfMessage Placed) is
+    (by-stages Placed s
+    (λ count size control byte flags type-data message contents signed framed.
+    record { place = record { at = control .at + control .length; length = size - control .length }; there = body-behind s count size control contents message flags framed }))

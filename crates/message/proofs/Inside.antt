@@ -55,7 +55,7 @@ module _ (s : List ℕ) where
       go false = zero-le
 
   pub read-inside : Inside (readingOf s)
-  read-inside = by-stages (λ (m : Message). BodyInside (m .body)) s (λ control message byte flags type-data frames size signed. body-there message flags)
+  read-inside = by-stages (λ (m : Message). BodyInside (m .body)) s (λ count size control byte flags type-data message contents signed framed. body-there message flags)
 
 unsigned-frame : {byte flags type-data : ℕ} → Unsigned ≡ Signed·Frame byte flags type-data → ⊥
 unsigned-frame e = let z : _≡_ {A = ℕ} 0 1 = cc in omega arith
@@ -74,9 +74,9 @@ pub read-small : (s : List ℕ) → Bytes s → (m : Message) → readingOf s �
 read-small s bytes m is =
     subst (OfMessage (λ (m : Message). m .«type_data» < 256 ^ 2)) is
     (by-stages (λ (m : Message). m .«type_data» < 256 ^ 2) s
-    (λ control message byte flags type-data frames size signed. signed-small (partAt s control) (bytes-part s (control .at) (control .length) bytes) byte flags type-data signed))
+    (λ count size control byte flags type-data message contents signed framed. signed-small (partAt s control) (bytes-part s (control .at) (control .length) bytes) byte flags type-data signed))
 
 -- the number of a message that is not read
 pub read-refused : (s : List ℕ) (refusal : Refusal) → readingOf s ≡ Refused refusal → WhileReading (refusal .number)
 read-refused s refusal is =
-    subst (OfMessage (λ (m : Message). Unit)) is (by-stages (λ (m : Message). Unit) s (λ control message byte flags type-data frames size signed. tt))
+    subst (OfMessage (λ (m : Message). Unit)) is (by-stages (λ (m : Message). Unit) s (λ count size control byte flags type-data message contents signed framed. tt))

@@ -2,6 +2,7 @@
 use mathlib.Core.Path.{_≡_, refl}
 use Prim.Native.Nat.{_-_, _≤_, ℕ}
 use mathlib.Core.List.{List}
+use mathlib.Core.Bool.{Bool, true, false}
 use native.Mathlib.Omega.{arith}
 use Rattle.bytes_be.specs.declared.Place.{Place}
 use Rattle.bytes_be.specs.Part.{partAt}
@@ -19,8 +20,6 @@ use Rattle.control.specs.Frame.{typeIn, signedOf, versionOf, knownTypeOf, ifSig
 use Rattle.message.specs.declared.Message.{Message}
 use Rattle.message.specs.declared.Reading.{Reading}
 use Rattle.message.specs.declared.Reading.the-variants.{Read, Refused}
-use Rattle.message.specs.declared.Test.{Test}
-use Rattle.message.specs.declared.Test.the-variants.{Passes, Fails}
 use Rattle.message.specs.Reading.{badFlags, badFrames, bodyOf, ifPasses, readAs, readingOf, refused, testOf}
 
 -- the numbers that refuse a message while it is read
@@ -33,9 +32,9 @@ OfMessage Holds (Read m) = Holds m
 OfMessage Holds (Refused refusal) = WhileReading (refusal .number)
 
 module _ (Holds : Message → Type 0) where
-  by-contents : (x : Contents) (number said : ℕ) → WhileReading number → (next : ℕ → Place → ℕ → Reading) → ((count : ℕ) (control : Place) (size : ℕ) → OfMessage Holds (next count control size))
+  by-contents : (x : Contents) (number said : ℕ) → WhileReading number → (next : ℕ → Place → ℕ → Reading) → ((count : ℕ) (control : Place) (size : ℕ) → x ≡ Frames count control size → OfMessage Holds (next count control size))
       → OfMessage Holds (ifFrames x (refused number said) next)
-  by-contents (Frames count control size) number said early next h = h count control size
+  by-contents (Frames count control size) number said early next h = h count control size refl
   by-contents BadBundle number said early next h = early
 
   by-signature : (x : Signed) (number said : ℕ) → WhileReading number → (next : ℕ → ℕ → ℕ → Reading) → ((byte flags type-data : ℕ) → x ≡ Frame byte flags type-data → OfMessage Holds (next byte flags type-data))
@@ -51,21 +50,23 @@ module _ (Holds : Message → Type 0) where
   by-type (Known message) number said early next h = h message
   by-type Unknown number said early next h = early
 
-  by-test : (x : Test) (number said : ℕ) → WhileReading number → (next : Reading) → OfMessage Holds next → OfMessage Holds (ifPasses x (refused number said) next)
-  by-test Passes number said early next h = h
-  by-test Fails number said early next h = early
+  by-test : (fails : Bool) (number said : ℕ) → WhileReading number → (next : Reading) → (fails ≡ false → OfMessage Holds next) → OfMessage Holds (ifPasses (testOf fails) (refused number said) next)
+  by-test true number said early next h = early
+  by-test false number said early next h = h refl
 
-  -- every message that is read has the flags and the type-data of a frame that is signed, and the body that its type and flags say
+  -- every message that is read has the flags and the type-data of a frame that is signed, as many data frames as its type and flags need, and
+  -- the body that they say
   pub by-stages : (s : List ℕ)
-      → ((control : Place) (message : MessageType) (byte flags type-data frames size : ℕ) → signedOf (partAt s control) ≡ Frame byte flags type-data
-      → Holds (record { message = message; flags = flags; «type_data» = type-data; frames = frames; size = size; body = bodyOf s message flags }))
+      → ((count size : ℕ) (control : Place) (byte flags type-data : ℕ) (message : MessageType) → contentsOf s ≡ Frames count control size → signedOf (partAt s control) ≡ Frame byte flags type-data
+      → badFrames message flags (count - 1) ≡ false
+      → Holds (record { message = message; flags = flags; «type_data» = type-data; frames = count - 1; size = size; body = bodyOf s message flags }))
       → OfMessage Holds (readingOf s)
   unfolding readingOf readAs
   by-stages s holds =
-      by-contents (contentsOf s) 10 0 (omega arith, omega arith) _ (λ count control size.
+      by-contents (contentsOf s) 10 0 (omega arith, omega arith) _ (λ count control size contents.
       by-signature (signedOf (partAt s control)) 11 0 (omega arith, omega arith) _ (λ byte flags type-data signed.
       by-version (versionOf byte) 12 (typeIn byte) (omega arith, omega arith) _ (λ said.
       by-type (knownTypeOf said) 13 said (omega arith, omega arith) _ (λ message.
-      by-test (testOf (badFlags message flags)) 14 said (omega arith, omega arith) _
-      (by-test (testOf (badFrames message flags (count - 1))) 15 said (omega arith, omega arith) _
-      (holds control message byte flags type-data (count - 1) size signed))))))
+      by-test (badFlags message flags) 14 said (omega arith, omega arith) _ (λ flagged.
+      by-test (badFrames message flags (count - 1)) 15 said (omega arith, omega arith) _ (λ framed.
+      holds count size control byte flags type-data message contents signed framed))))))

@@ -81,6 +81,8 @@ module _ (e : Endpoint) (o : Outgoing) (row : Row) (room : ℕ) where
       go true zero-number = sym (eqb-true (numberFor e o row room) 0 zero-number)
       go false differs = refl
 
+-- what an accepted send has passed, and what it comes to
+
 module _ (e : Endpoint) (o : Outgoing) (room : ℕ) where
   pub accepted-passed : sentBy e o room .number ≡ 0 → Passed e o (sendRow e o) room
   unfolding sentBy
@@ -89,6 +91,10 @@ module _ (e : Endpoint) (o : Outgoing) (room : ℕ) where
   pub passed-accepted : Passed e o (sendRow e o) room → sentBy e o room .number ≡ 0
   unfolding sentBy
   passed-accepted through = number-if e o (sendRow e o) room ∙ none-given e o (sendRow e o) room through
+
+  pub accepted-sent : sentBy e o room .number ≡ 0 → sentBy e o room ≡ sentIf 0 e o (sendRow e o)
+  unfolding sentBy
+  accepted-sent zero-number = ap (λ (number : ℕ). sentIf number e o (sendRow e o)) (sym (number-if e o (sendRow e o) room) ∙ zero-number)
 
 module _ (e : Endpoint) (o : Outgoing) (bytes before : List ℕ) (sent : Sent) (decided : sent ≡ sentBy e o (length before)) where
   -- what is accepted has its bytes at the start of the output

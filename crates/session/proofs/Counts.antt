@@ -59,8 +59,8 @@ record Within (agreed : List ℕ) (all : ℕ) (since-agreed : ℕ) (phase n : �
 module _ (agreed : List ℕ) (batched : List Datum) (all : ℕ) where
   -- the row of a message that the end `writer` writes leads its writer and its hearer from within to within
   row-within : (writer : End) {flow phase n type-data next m : ℕ} {message : MessageType} → Moved (roleOf writer) flow phase n message type-data next m
-    → (phase ≡ batch → 1 ≤ n) → Within agreed all (length batched) phase n
-    → Within (agreement writer message type-data ++ agreed) (all + dataCount message) (length (since (agreement writer message type-data) batched) + dataCount message) next m
+      → (phase ≡ batch → 1 ≤ n) → Within agreed all (length batched) phase n
+      → Within (agreement writer message type-data ++ agreed) (all + dataCount message) (length (since (agreement writer message type-data) batched) + dataCount message) next m
   row-within Client (opens is-client begins) some w = record { in-all = omega (arith, w .in-all); in-newest = omega (arith, w .in-newest) }
   row-within Client (offers differs low high begins) some w = absurd (differs refl)
   row-within Client (takes is-client offered few begins) some w =
@@ -97,7 +97,7 @@ module _ (end : End) (x : Side Endpoint) (sound : Sound (x .self)) (counted : Co
 
   -- an end sends
   pub sent-counted : (flow : ℕ) (call : Call) (bytes : List ℕ) → Moved (roleOf end) flow (x .self .phase) (x .self .n) (messageOf call) (typeDataOf call) phase n
-    → Counted (having end x call bytes next)
+      → Counted (having end x call bytes next)
   sent-counted flow call bytes moves =
       let after = row-within (x .agreed) (x .batch) (length (x .sent) + length (x .accepted)) end moves (batch-some (x .self) sound) within in
       let carries = carried-count (Called (x .self) call 0) in
@@ -108,8 +108,8 @@ module _ (end : End) (x : Side Endpoint) (sound : Sound (x .self)) (counted : Co
 
   -- an end hears what the other wrote
   pub heard-counted : (flow : ℕ) (m : Packet) (replied : List (List ℕ)) (ending : Ending)
-    → Moved (roleOf (across end)) flow (x .self .phase) (x .self .n) (movesLike m) (typeDataIn m) phase n
-    → Counted (taking x (dataIn m) (agreement (across end) (movesLike m) (typeDataIn m)) replied ending next)
+      → Moved (roleOf (across end)) flow (x .self .phase) (x .self .n) (movesLike m) (typeDataIn m) phase n
+      → Counted (taking x (dataIn m) (agreement (across end) (movesLike m) (typeDataIn m)) replied ending next)
   heard-counted flow m replied ending moves =
       let after = row-within (x .agreed) (x .batch) (length (x .sent) + length (x .accepted)) (across end) moves (batch-some (x .self) sound) within in
       let carries = carried-count m in

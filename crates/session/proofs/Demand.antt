@@ -17,7 +17,7 @@ use Rattle.endpoint.proofs.StaysGood.{fresh-good, fresh-sized}
 use Rattle.receiving.specs.declared.Answer.{Answer}
 use Rattle.receiving.specs.declared.Answer.the-variants.{Refused}
 use Rattle.receiving.specs.declared.Received.{Received}
-use Rattle.receiving.specs.Receiving.{receivedOf}
+use Rattle.receiving.specs.Receiving.{answerNumber, receivedOf}
 use Rattle.receiving.specs.Refusing.{unchanged}
 use Rattle.sending.specs.Calls.{OPEN, READY, DATA}
 use Rattle.machine.specs.Good.{Sound}
@@ -97,21 +97,21 @@ module _ (flow limit serverFlow : ℕ) where
   module _ (w : World Endpoint) (holds : Invariant flow limit serverFlow w) where
     -- "neither refuses the other's message"
     head-understood : (end : End) (x y : Side Endpoint) (p q : List Packet) → Linked flow limit serverFlow end x y p q → (s : List ℕ) (rest : List (List ℕ)) → map bytesIn q ≡ s ∷ rest
-      → (name format : List ℕ) (room : ℕ) → Understood x s name format room (receivedOf (x .self) s name format room .answer)
+        → (name format : List ℕ) (room : ℕ) → Understood x s name format room (answerNumber (receivedOf (x .self) s name format room .answer))
     unfolding unchanged
     head-understood end x y p [] linked s rest queued name format room = let z : _≡_ {A = ℕ} 0 1 = cc in absurd (omega arith)
     head-understood end x y p (m ∷ q) linked s rest queued name format room =
-        subst (λ (bytes : List ℕ). Understood x bytes name format room (receivedOf (x .self) bytes name format room .answer)) (first-of queued) (go (ltb room 14) refl)
+        subst (λ (bytes : List ℕ). Understood x bytes name format room (answerNumber (receivedOf (x .self) bytes name format room .answer))) (first-of queued) (go (ltb room 14) refl)
       where
         first-of : bytesIn m ∷ map bytesIn q ≡ s ∷ rest → bytesIn m ≡ s
         first-of same = cc
 
-        go : (t : Bool) → ltb room 14 ≡ t → Understood x (bytesIn m) name format room (receivedOf (x .self) (bytesIn m) name format room .answer)
+        go : (t : Bool) → ltb room 14 ≡ t → Understood x (bytesIn m) name format room (answerNumber (receivedOf (x .self) (bytesIn m) name format room .answer))
         go true short =
-            subst (λ (received : Received). Understood x (bytesIn m) name format room (received .answer)) (sym (received-short (x .self) (linked .here .sound) (bytesIn m) name format room short))
+            subst (λ (received : Received). Understood x (bytesIn m) name format room (answerNumber (received .answer))) (sym (received-short (x .self) (linked .here .sound) (bytesIn m) name format room short))
             (short-output (ltb-true room 14 short))
         go false enough =
-            subst (λ (received : Received). Understood x (bytesIn m) name format room (received .answer)) (sym (received-heard (x .self) (linked .here .sound) (bytesIn m) name format room enough))
+            subst (λ (received : Received). Understood x (bytesIn m) name format room (answerNumber (received .answer))) (sym (received-heard (x .self) (linked .here .sound) (bytesIn m) name format room enough))
             (head-delivered flow limit serverFlow end x y p q m linked name format .understood room)
 
     -- "and never more than the batches agreed"

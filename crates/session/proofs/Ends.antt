@@ -123,7 +123,7 @@ module _ (flow limit serverFlow : ℕ) where
   module _ (end : End) (x : Side Endpoint) (p : List Packet) (here : Sides flow limit serverFlow end x p) where
     -- an end that sent a call
     pub sent-sides : (call : Call) (room : ℕ) → Fits call → sendOf (x .self) call room .number ≡ 0 → SentOn (x .self) call room
-      → Sides flow limit serverFlow end (having end x call (written (x .self) call) (sendOf (x .self) call room .next)) (p ++ (Called (x .self) call room ∷ []))
+        → Sides flow limit serverFlow end (having end x call (written (x .self) call) (sendOf (x .self) call room .next)) (p ++ (Called (x .self) call room ∷ []))
     sent-sides call room fits number sent =
         let comes = sent .comes in
         let moves = row-moved (roleOf end) (x .self .flow) (x .self .phase) (x .self .n) (messageOf call) (typeDataOf call) (sent .phase) (sent .n) (rw (here .role) at (sent .leads)) in
@@ -158,11 +158,11 @@ module _ (flow limit serverFlow : ℕ) where
 
     -- an end that has not closed heard a packet, whose row leads to this phase and n; an OPEN only where it is for who produces
     pub heard-sides : (m : Packet) (phase n : ℕ) (next : Endpoint) → Proper flow limit serverFlow (across end) m
-      → Moved (roleOf (across end)) (other (x .self .flow)) (x .self .phase) (x .self .n) (movesLike m) (typeDataIn m) phase n
-      → (movesLike m ≡ Open → producing end (x .self .flow) ≡ source flow limit serverFlow) → Comes (x .self) phase n (limitAfter m (x .self .limit)) next
-      → Sides flow limit serverFlow end
-      (taking x (dataIn m) (agreement (across end) (movesLike m) (typeDataIn m)) (map bytesIn (answersIn m)) (closedTo (movesLike m) Going) next)
-      (p ++ answersIn m)
+        → Moved (roleOf (across end)) (other (x .self .flow)) (x .self .phase) (x .self .n) (movesLike m) (typeDataIn m) phase n
+        → (movesLike m ≡ Open → producing end (x .self .flow) ≡ source flow limit serverFlow) → Comes (x .self) phase n (limitAfter m (x .self .limit)) next
+        → Sides flow limit serverFlow end
+        (taking x (dataIn m) (agreement (across end) (movesLike m) (typeDataIn m)) (map bytesIn (answersIn m)) (closedTo (movesLike m) Going) next)
+        (p ++ answersIn m)
     heard-sides m phase n next proper moves produces comes =
         let knows : (movesLike m ≡ Open → ⊥) → Terms flow limit serverFlow end (x .self) = λ later. here .terms (hearer-knows end later moves) in
         record {

@@ -57,7 +57,7 @@ closing-shuts Data e closing = let z : _≡_ {A = ℕ} 0 1 = cc in absurd (omega
 closing-shuts Close e closing = refl
 
 hearer-stands : (from end : End) (s : Stage) (m : Packet) (a : Standing) (e : Endpoint) → Hears from end (At s) m a → e .phase ≡ phaseIn a → e .n ≡ nIn a
-  → stands (closedTo (movesLike m) Going) e ≡ a
+    → stands (closedTo (movesLike m) Going) e ≡ a
 hearer-stands from end s m (At t) e (moved token theirs leads) phased counted =
     ap (λ (ending : Ending). stands ending e) (token-stays (movesLike m) token) ∙ rw (phased, counted) refl
 hearer-stands from end s m _ e (rested still active) phased counted =
@@ -111,7 +111,7 @@ data-active (gives produces batching begins) = (omega arith, omega arith)
 
 -- the confirmation of a packet is a quiet message
 answers-meets : (from end : End) {s : Stage} {a b : Standing} {p q : List Packet} (m : Packet) → Hears from end (At s) m a
-  → Meets from end a p b q → Meets from end a (p ++ answersIn m) b q
+    → Meets from end a p b q → Meets from end a (p ++ answersIn m) b q
 answers-meets from end (Called e (OPEN name format) room) hears meets = rw append-nil meets
 answers-meets from end (Called e (READY count) room) hears meets = rw append-nil meets
 answers-meets from end {s} (Called e (DATA type-data true body) room) (moved {t = t} token theirs leads) meets =
@@ -163,7 +163,7 @@ module _ (flow limit serverFlow : ℕ) where
 
   -- and so agrees on who produces
   open-source : (end : End) (r : Endpoint) (m : Packet) (name format : List ℕ) {seen phase n next count : ℕ} → Proper flow limit serverFlow (across end) m
-    → Moved (roleOf (across end)) seen phase n (movesLike m) (typeDataIn m) next count → offeredIn m r name format ≡ true → movesLike m ≡ Open → producing end (r .flow) ≡ from
+      → Moved (roleOf (across end)) seen phase n (movesLike m) (typeDataIn m) next count → offeredIn m r name format ≡ true → movesLike m ≡ Open → producing end (r .flow) ≡ from
   open-source Client r (Called e (OPEN asked wanted) room) name format made moves offers is-open = absurd (clients-open moves)
   open-source Server r (Called e (OPEN asked wanted) room) name format made moves offers is-open =
       let all = both-true (same asked name && eqb (socketOf (e .flow)) (offeredSocket (r .flow))) (eqb (length wanted) 0 || same wanted format) offers in
@@ -232,10 +232,10 @@ module _ (flow limit serverFlow : ℕ) where
 
         -- a packet that was heard
         taken-linked : (next : Endpoint) → Meets from end a p (standing y) q → (movesLike m ≡ Open → producing end (x .self .flow) ≡ from)
-          → Comes (x .self) (phaseIn a) (nIn a) (limitAfter m (x .self .limit)) next → ((phaseIn a ≡ shut → ⊥) → awaited next ≡ later)
-          → Linked flow limit serverFlow end
-          (taking x (dataIn m) (agreement (across end) (movesLike m) (typeDataIn m)) (map bytesIn (answersIn m)) (closedTo (movesLike m) Going) next)
-          (withQueue y (map bytesIn q)) (p ++ answersIn m) q
+            → Comes (x .self) (phaseIn a) (nIn a) (limitAfter m (x .self .limit)) next → ((phaseIn a ≡ shut → ⊥) → awaited next ≡ later)
+            → Linked flow limit serverFlow end
+            (taking x (dataIn m) (agreement (across end) (movesLike m) (typeDataIn m)) (map bytesIn (answersIn m)) (closedTo (movesLike m) Going) next)
+            (withQueue y (map bytesIn q)) (p ++ answersIn m) q
         taken-linked next meets produces comes awaits =
             let after = hearer-stands from end stage m a next hears (comes .phased) (comes .counted) in
             record {
@@ -253,12 +253,12 @@ module _ (flow limit serverFlow : ℕ) where
 
         -- what the world notes of it
         taken-noted : (name format : List ℕ) → Taken end (x .self) m name format (phaseIn a) (nIn a) later
-          → afterBundle end x (bytesIn m) (hearOf (x .self) (bytesIn m) name format)
-          ≡ taking x (dataIn m) (agreement (across end) (movesLike m) (typeDataIn m)) (map bytesIn (answersIn m)) (closedTo (movesLike m) Going) (hearOf (x .self) (bytesIn m) name format .next)
+            → afterBundle end x (bytesIn m) (hearOf (x .self) (bytesIn m) name format)
+            ≡ taking x (dataIn m) (agreement (across end) (movesLike m) (typeDataIn m)) (map bytesIn (answersIn m)) (closedTo (movesLike m) Going) (hearOf (x .self) (bytesIn m) name format .next)
         taken-noted name format taken = simp (taken .answered, taken .carried, taken .agrees, taken .replied, going, taken .ends Going)
 
         pub heard-linked : (name format : List ℕ) → offeredIn m (x .self) name format ≡ true → Meets from end a p (standing y) q
-          → Linked flow limit serverFlow end (afterBundle end x (bytesIn m) (hearOf (x .self) (bytesIn m) name format)) (withQueue y (map bytesIn q)) (p ++ answersIn m) q
+            → Linked flow limit serverFlow end (afterBundle end x (bytesIn m) (hearOf (x .self) (bytesIn m) name format)) (withQueue y (map bytesIn q)) (p ++ answersIn m) q
         heard-linked name format offered meets =
             let taken = head-taken name format offered in
             subst (λ (after : Side Endpoint). Linked flow limit serverFlow end after (withQueue y (map bytesIn q)) (p ++ answersIn m) q) (sym (taken-noted name format taken))
@@ -266,7 +266,7 @@ module _ (flow limit serverFlow : ℕ) where
 
       -- an OPEN that was refused, with the code of its CLOSE
       pub refused-linked : (code : ℕ) → code < 256 ^ 2 → kindOf (movesLike m) ≡ Token
-        → Linked flow limit serverFlow end (taking x [] [] (map bytesIn (Closes code ∷ [])) WroteClose (closed (x .self))) (withQueue y (map bytesIn q)) (p ++ (Closes code ∷ [])) q
+          → Linked flow limit serverFlow end (taking x [] [] (map bytesIn (Closes code ∷ [])) WroteClose (closed (x .self))) (withQueue y (map bytesIn q)) (p ++ (Closes code ∷ [])) q
       refused-linked code few token =
           record {
             here = refused-sides flow limit serverFlow end x p (linked .here) code few;

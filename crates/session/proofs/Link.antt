@@ -31,7 +31,7 @@ at-lands : (e : Endpoint) {next count : ℕ} → e .phase ≡ next → e .n ≡ 
 at-lands e {next} {count} phased counted low = rw (phased, counted) (landing-at next count low)
 
 writer-stands : (e : Endpoint) {role flow phase n type-data next count : ℕ} {message : MessageType} → e .phase ≡ next → e .n ≡ count
-  → Moved role flow phase n message type-data next count → stands (closedBy message Going) e ≡ landing next count
+    → Moved role flow phase n message type-data next count → stands (closedBy message Going) e ≡ landing next count
 writer-stands e phased counted (opens role begins) = at-lands e phased counted (omega arith)
 writer-stands e phased counted (offers differs low high begins) = at-lands e phased counted (begun-low (omega arith) begins)
 writer-stands e phased counted (takes role offered few begins) = at-lands e phased counted (begun-low (omega arith) begins)
@@ -66,7 +66,7 @@ module _ (flow limit serverFlow : ℕ) where
   module _ (end : End) (x y : Side Endpoint) (p q : List Packet) (linked : Linked flow limit serverFlow end x y p q) where
     -- an accepted send
     called-linked : (call : Call) (room : ℕ) → Fits call → sendOf (x .self) call room .number ≡ 0 → SentOn (x .self) call room
-      → Linked flow limit serverFlow end (having end x call (written (x .self) call) (sendOf (x .self) call room .next)) y (p ++ (Called (x .self) call room ∷ [])) q
+        → Linked flow limit serverFlow end (having end x call (written (x .self) call) (sendOf (x .self) call room .next)) y (p ++ (Called (x .self) call room ∷ [])) q
     called-linked call room fits number sent =
         let here = linked .here in
         let m : Packet = Called (x .self) call room in
@@ -95,5 +95,5 @@ module _ (flow limit serverFlow : ℕ) where
         }
 
     pub sent-linked : (call : Call) (room : ℕ) → Fits call → sendOf (x .self) call room .number ≡ 0
-      → Linked flow limit serverFlow end (having end x call (written (x .self) call) (sendOf (x .self) call room .next)) y (p ++ (Called (x .self) call room ∷ [])) q
+        → Linked flow limit serverFlow end (having end x call (written (x .self) call) (sendOf (x .self) call room .next)) y (p ++ (Called (x .self) call room ∷ [])) q
     sent-linked call room fits number = called-linked call room fits number (sent-on (x .self) call room (linked .here .sound) fits number)

@@ -99,7 +99,7 @@ pub record OpenRefused (x : Side Endpoint) (s name format : List ℕ) (room : �
   pub number : ℕ
   pub code : ℕ
   pub answered : hearOf (x .self) s name format .answer ≡ Refused number
-  pub understood : Understood x s name format room (Refused number)
+  pub understood : Understood x s name format room number
   pub replied : replies (hearOf (x .self) s name format .reply) ≡ map bytesIn (Closes code ∷ [])
   pub ends : (ending : Ending) → endingReplied (hearOf (x .self) s name format .reply) ending ≡ WroteClose
   pub after : hearOf (x .self) s name format .next ≡ closed (x .self)

@@ -84,23 +84,23 @@ module _ (flow limit serverFlow : ℕ) where
 
   -- the head of a queue is heard, refused as an OPEN for what is not offered, or passed over after an own close
   pub record Delivered (end : End) (x y : Side Endpoint) (m : Packet) (q : List Packet) (name format : List ℕ) : Type 0 where
-    pub understood : (room : ℕ) → Understood x (bytesIn m) name format room (hearOf (x .self) (bytesIn m) name format .answer)
+    pub understood : (room : ℕ) → Understood x (bytesIn m) name format room (answerNumber (hearOf (x .self) (bytesIn m) name format .answer))
     pub after : Joint end (afterBundle end x (bytesIn m) (hearOf (x .self) (bytesIn m) name format)) (withQueue y (map bytesIn q))
 
   module _ (end : End) (x y : Side Endpoint) (p q : List Packet) (name format : List ℕ) where
     -- an OPEN for what is not offered
     refused-noted : (s : List ℕ) (room : ℕ) (refusal : OpenRefused x s name format room)
-      → afterBundle end x s (hearOf (x .self) s name format) ≡ taking x [] [] (map bytesIn (Closes (refusal .code) ∷ [])) WroteClose (closed (x .self))
+        → afterBundle end x s (hearOf (x .self) s name format) ≡ taking x [] [] (map bytesIn (Closes (refusal .code) ∷ [])) WroteClose (closed (x .self))
     refused-noted s room refusal = simp (refusal .answered, refusal .replied, refusal .ends (x .ending), refusal .after)
 
     open-delivered : (e : Endpoint) (asked wanted : List ℕ) (sent-room : ℕ) → (linked : Linked flow limit serverFlow end x y p (Called e (OPEN asked wanted) sent-room ∷ q))
-      → x .ending ≡ Going → ((room : ℕ) → OpenRefused x (written e (OPEN asked wanted)) name format room)
-      → Delivered end x y (Called e (OPEN asked wanted) sent-room) q name format
+        → x .ending ≡ Going → ((room : ℕ) → OpenRefused x (written e (OPEN asked wanted)) name format room)
+        → Delivered end x y (Called e (OPEN asked wanted) sent-room) q name format
     open-delivered e asked wanted sent-room linked going refusal =
         let m : Packet = Called e (OPEN asked wanted) sent-room in
         let first = refusal 0 in
         record {
-          understood = λ room. subst (Understood x (bytesIn m) name format room) (sym (refusal room .answered)) (refusal room .understood);
+          understood = λ room. rw (refusal room .answered) (refusal room .understood);
           after =
               record {
                 p = p ++ (Closes (first .code) ∷ []);
@@ -114,11 +114,11 @@ module _ (flow limit serverFlow : ℕ) where
 
   module _ (end : End) (x y : Side Endpoint) (p q : List Packet) (m : Packet) (linked : Linked flow limit serverFlow end x y p (m ∷ q)) (name format : List ℕ) where
     heard-delivered : x .ending ≡ Going → (a : Standing) → Hears from end (At (record { phase = x .self .phase; n = x .self .n })) m a → Meets from end a p (standing y) q
-      → offeredIn m (x .self) name format ≡ true → Delivered end x y m q name format
+        → offeredIn m (x .self) name format ≡ true → Delivered end x y m q name format
     heard-delivered going a hears meets offered =
         let taken = head-taken flow limit serverFlow end x y p q m linked going a hears name format offered in
         record {
-          understood = λ room. subst (Understood x (bytesIn m) name format room) (sym (taken .answered)) (heard (taken .message));
+          understood = λ room. rw (taken .answered) heard;
           after =
               record {
                 p = p ++ answersIn m;
@@ -133,7 +133,7 @@ module _ (flow limit serverFlow : ℕ) where
         let is-shut : x .self .phase ≡ shut = subst (λ (ending : Ending). Ends ending (x .self .phase)) wrote (linked .here .ends) in
         let answer : hearOf (x .self) (bytesIn m) name format .answer ≡ Refused 3 = ap (λ (r : Received). r .answer) (late-answer end x (bytesIn m) name format is-shut) in
         record {
-          understood = λ room. subst (Understood x (bytesIn m) name format room) (sym answer) (after-own-close wrote);
+          understood = λ room. rw answer (after-own-close wrote);
           after =
               record {
                 p = p;
@@ -146,8 +146,8 @@ module _ (flow limit serverFlow : ℕ) where
 
   -- a packet that is not offered is an OPEN to a server
   unoffered-delivered : (end : End) (x y : Side Endpoint) (p q : List Packet) (m : Packet) (linked : Linked flow limit serverFlow end x y p (m ∷ q)) (name format : List ℕ)
-    → (going : x .ending ≡ Going) → (a : Standing) → Hears from end (At (record { phase = x .self .phase; n = x .self .n })) m a
-    → offeredIn m (x .self) name format ≡ false → Delivered end x y m q name format
+      → (going : x .ending ≡ Going) → (a : Standing) → Hears from end (At (record { phase = x .self .phase; n = x .self .n })) m a
+      → offeredIn m (x .self) name format ≡ false → Delivered end x y m q name format
   unoffered-delivered Client x y p q (Called e (OPEN asked wanted) room) linked name format going a hears other =
       absurd (clients-open (moves flow limit serverFlow Client x y p q (Called e (OPEN asked wanted) room) linked going a hears))
   unoffered-delivered Server x y p q (Called e (OPEN asked wanted) sent-room) linked name format going a hears other =
@@ -168,26 +168,26 @@ module _ (flow limit serverFlow : ℕ) where
         by-ending (x .ending) refl (step .0) (step .1) (step .2)
       where
         by-offer : x .ending ≡ Going → (a : Standing) → Hears from end (At (record { phase = x .self .phase; n = x .self .n })) m a → Meets from end a p (standing y) q
-          → (t : Bool) → offeredIn m (x .self) name format ≡ t → Delivered end x y m q name format
+            → (t : Bool) → offeredIn m (x .self) name format ≡ t → Delivered end x y m q name format
         by-offer going a hears meets true offered = heard-delivered end x y p q m linked name format going a hears meets offered
         by-offer going a hears meets false other = unoffered-delivered end x y p q m linked name format going a hears other
 
         by-ending : (ending : Ending) → x .ending ≡ ending → (a : Standing) → Hears from end (stands ending (x .self)) m a → Meets from end a p (standing y) q
-          → Delivered end x y m q name format
+            → Delivered end x y m q name format
         by-ending Going going a hears meets = by-offer going a hears meets (offeredIn m (x .self) name format) refl
         by-ending HeardClose shut-down a hears meets = absurd (shut-hears from end hears)
         by-ending WroteClose wrote a hears meets = late-delivered end x y p q m linked name format wrote a (gone-hears from end hears) meets
 
   -- the queue of y, as the packets that it holds, is received by x
   received-keeps : (end : End) (x y : Side Endpoint) (p q : List Packet) → Linked flow limit serverFlow end x y p q → (name format : List ℕ) (room : ℕ)
-    → Invariant flow limit serverFlow (afterReceive end x y (map bytesIn q) name format room)
+      → Invariant flow limit serverFlow (afterReceive end x y (map bytesIn q) name format room)
   unfolding afterReceive
   received-keeps end x y p [] linked name format room = seen-as end x y (record { p = p; q = []; linked = linked })
   received-keeps end x y p (m ∷ q) linked name format room = go (isKept (answerNumber (receivedOf (x .self) (bytesIn m) name format room .answer))) refl
     where
       go : (t : Bool) → isKept (answerNumber (receivedOf (x .self) (bytesIn m) name format room .answer)) ≡ t
-        → Invariant flow limit serverFlow
-        (cond t (joined end x y) (joined end (afterBundle end x (bytesIn m) (receivedOf (x .self) (bytesIn m) name format room)) (withQueue y (map bytesIn q))))
+          → Invariant flow limit serverFlow
+          (cond t (joined end x y) (joined end (afterBundle end x (bytesIn m) (receivedOf (x .self) (bytesIn m) name format room)) (withQueue y (map bytesIn q))))
       go true kept = seen-as end x y (record { p = p; q = m ∷ q; linked = linked })
       go false taken =
           subst (λ (received : Received). Invariant flow limit serverFlow (joined end (afterBundle end x (bytesIn m) received) (withQueue y (map bytesIn q))))
@@ -196,12 +196,12 @@ module _ (flow limit serverFlow : ℕ) where
 
   -- a send, accepted or refused
   sent-keeps : (end : End) (x y : Side Endpoint) (p q : List Packet) → Linked flow limit serverFlow end x y p q → (call : Call) (room : ℕ) → Fits call
-    → Invariant flow limit serverFlow (joined end (afterSend end x call room) y)
+      → Invariant flow limit serverFlow (joined end (afterSend end x call room) y)
   unfolding afterSend
   sent-keeps end x y p q linked call room fits = go (eqb (sendOf (x .self) call room .number) 0) refl
     where
       go : (t : Bool) → eqb (sendOf (x .self) call room .number) 0 ≡ t
-        → Invariant flow limit serverFlow (joined end (cond t (having end x call (written (x .self) call) (sendOf (x .self) call room .next)) x) y)
+          → Invariant flow limit serverFlow (joined end (cond t (having end x call (written (x .self) call) (sendOf (x .self) call room .next)) x) y)
       go true number =
           seen-as end _ y
           (record { p = p ++ (Called (x .self) call room ∷ []); q = q; linked = sent-linked flow limit serverFlow end x y p q linked call room fits (eqb-true _ _ number) })

@@ -23,7 +23,7 @@ module _ {A : Type 0} (taken : Packet → List A) where
 module _ {entries : List Entry} {p q : List Packet} {b : Standing} where
   -- an end sends, and awaits what it asks for
   pub sends-awaits : (s : Stage) (a : Standing) (m : Packet) (after : List Entry) → (IsOpen a → after ≡ entries ++ askedIn m)
-    → Awaits (At s) entries p b q → Awaits a after (p ++ (m ∷ [])) b q
+      → Awaits (At s) entries p b q → Awaits a after (p ++ (m ∷ [])) b q
   sends-awaits s a m after asks c =
       record {
         rest = c .rest ++ askedIn m;
@@ -33,13 +33,13 @@ module _ {entries : List Entry} {p q : List Packet} {b : Standing} where
 
   -- an end hears a packet that confirms its oldest entries, and writes packets that ask for nothing
   pub hears-awaits : (was a : Standing) (m : Packet) (r : List Packet) (after : List Entry) → collect askedIn r ≡ []
-    → (c : Awaits was entries p b (m ∷ q)) → (IsOpen a → after ≡ collect confirmedIn q ++ c .rest) → Awaits a after (p ++ r) b q
+      → (c : Awaits was entries p b (m ∷ q)) → (IsOpen a → after ≡ collect confirmedIn q ++ c .rest) → Awaits a after (p ++ r) b q
   hears-awaits was a m r after none c keeps =
       record { rest = c .rest; held = keeps; due = λ is-open. c .due is-open ∙ sym (collect-none askedIn p r none) }
 
   -- an end that has closed awaits nothing
   pub gone-awaits : (a : Standing) (m : Packet) (r : List Packet) (after : List Entry) → collect askedIn r ≡ []
-    → Awaits a entries p b (m ∷ q) → Awaits Gone after (p ++ r) b q
+      → Awaits a entries p b (m ∷ q) → Awaits Gone after (p ++ r) b q
   gone-awaits a m r after none c =
       record { rest = c .rest; held = λ is-open. absurd is-open; due = λ is-open. c .due is-open ∙ sym (collect-none askedIn p r none) }
 
@@ -55,7 +55,7 @@ module _ {entries : List Entry} {p q : List Packet} {b : Standing} where
 module _ {entries : List Entry} {p q : List Packet} where
   -- the other end hears a packet, and writes packets that confirm what it asks for
   pub across-hears-awaits : (a b : Standing) (s : Stage) (m : Packet) (r : List Packet) → collect confirmedIn r ≡ askedIn m
-    → Awaits a entries (m ∷ p) (At s) q → Awaits a entries p b (q ++ r)
+      → Awaits a entries (m ∷ p) (At s) q → Awaits a entries p b (q ++ r)
   across-hears-awaits a b s m r confirms c =
       record {
         rest = collect askedIn p;
@@ -70,7 +70,7 @@ module _ {entries : List Entry} {p q : List Packet} where
 
   -- the other end closes, and writes packets that confirm nothing
   pub across-gone-awaits : (a b : Standing) (m : Packet) (r : List Packet) → collect confirmedIn r ≡ []
-    → Awaits a entries (m ∷ p) b q → Awaits a entries p Gone (q ++ r)
+      → Awaits a entries (m ∷ p) b q → Awaits a entries p Gone (q ++ r)
   across-gone-awaits a b m r none c =
       record {
         rest = c .rest;

@@ -90,7 +90,7 @@ module _ (flow limit serverFlow : ℕ) (end : End) (x : Side Endpoint) (e : Endp
       simp (alive, back .read, small, call-leads e call r phase n leads, heard)
 
   -- and then it closes, and says so
-  closes-by : (number code : ℕ) → hearOf r s name format ≡ refused r number 1 → silent r number 1 ≡ false → closeCode r number 1 ≡ code → code < 256 ^ 2 → Understood x s name format room (Refused number) → OpenRefused x s name format room
+  closes-by : (number code : ℕ) → hearOf r s name format ≡ refused r number 1 → silent r number 1 ≡ false → closeCode r number 1 ≡ code → code < 256 ^ 2 → Understood x s name format room number → OpenRefused x s name format room
   unfolding refused
   closes-by number code heard speaks coded small understood =
       record {

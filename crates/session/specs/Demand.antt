@@ -14,10 +14,7 @@ use Rattle.open_write.specs.Frame.{socketOf}
 use Rattle.endpoint.specs.declared.Endpoint.{Endpoint}
 use Rattle.endpoint.specs.declared.Given.the-variants.{Good}
 use Rattle.endpoint.specs.Record.{fresh, offer, batch, shut, givenOf}
-use Rattle.receiving.specs.declared.Heard.{Heard}
-use Rattle.receiving.specs.declared.Answer.{Answer}
-use Rattle.receiving.specs.declared.Answer.the-variants.{Heard as Answer·Heard, Refused}
-use Rattle.receiving.specs.Receiving.{receivedOf}
+use Rattle.receiving.specs.Receiving.{answerNumber, receivedOf}
 use Rattle.sending.specs.Calls.{Call, OPEN, READY, DATA, NOOP, CLOSE, written}
 use Rattle.sending.specs.Sending.{sendOf}
 use Rattle.session.specs.World.{End, across, Client, Datum, WroteClose, HeardClose, Side, World, side, start, Event, AllFit, run}
@@ -26,14 +23,14 @@ use Rattle.session.specs.Turns.{producing, turn}
 -- "neither refuses the other's message": what an end answers to the bundle s, offering this pipe name and format. It hears it, unless it is an
 -- OPEN for another pipe name or socket, or for another format; or the end has itself closed; or its own output is too short for any reply,
 -- which leaves the message where it is.
-pub data Understood (x : Side Endpoint) (s name format : List ℕ) (room : ℕ) : Answer → Type 0 where
-  heard : (message : Heard) → Understood x s name format room (Answer·Heard message)
+pub data Understood (x : Side Endpoint) (s name format : List ℕ) (room : ℕ) : ℕ → Type 0 where
+  heard : Understood x s name format room 0
   other-pipe : (e : Endpoint) (asked wanted : List ℕ) → s ≡ written e (OPEN asked wanted)
-    → same asked name && eqb (socketOf (e .flow)) (offeredSocket (x .self .flow)) ≡ false → Understood x s name format room (Refused 21)
+      → same asked name && eqb (socketOf (e .flow)) (offeredSocket (x .self .flow)) ≡ false → Understood x s name format room 21
   other-format : (e : Endpoint) (asked wanted : List ℕ) → s ≡ written e (OPEN asked wanted)
-    → eqb (length wanted) 0 || same wanted format ≡ false → Understood x s name format room (Refused 22)
-  after-own-close : x .ending ≡ WroteClose → Understood x s name format room (Refused 3)
-  short-output : room < 14 → Understood x s name format room (Refused 2)
+      → eqb (length wanted) 0 || same wanted format ≡ false → Understood x s name format room 22
+  after-own-close : x .ending ≡ WroteClose → Understood x s name format room 3
+  short-output : room < 14 → Understood x s name format room 2
 
 -- "the batches agreed": the sum of their counts, and the count of the newest
 abbrev pub sum : List ℕ → ℕ
@@ -72,7 +69,7 @@ pub record Speaks (e : Endpoint) (call : Call) : Type 0 where
 pub record Holds (w : World Endpoint) : Type 0 where
   -- "neither refuses the other's message"
   pub understood : (end : End) (s : List ℕ) (rest : List (List ℕ)) → side w (across end) .queue ≡ s ∷ rest
-    → (name format : List ℕ) (room : ℕ) → Understood (side w end) s name format room (receivedOf (side w end .self) s name format room .answer)
+      → (name format : List ℕ) (room : ℕ) → Understood (side w end) s name format room (answerNumber (receivedOf (side w end .self) s name format room .answer))
   -- and nothing at all arrives at an end that heard a CLOSE
   pub silent : (end : End) → side w end .ending ≡ HeardClose → side w (across end) .queue ≡ []
   -- "data accepted is always a prefix of data sent"
@@ -82,7 +79,7 @@ pub record Holds (w : World Endpoint) : Type 0 where
   pub within-each : (end : End) → length (side w end .batch) ≤ newest (side w end .agreed)
   -- "while neither has closed and nothing is in transit, one end may still send something other than NOOP and CLOSE"
   pub goes-on : (w .client .self .phase ≡ shut → ⊥) → (w .server .self .phase ≡ shut → ⊥) → w .client .queue ≡ [] → w .server .queue ≡ []
-    → Speaks (side w (nextEnd w) .self) (nextCall (w .client .self .phase) (w .client .self .n))
+      → Speaks (side w (nextEnd w) .self) (nextCall (w .client .self .phase) (w .client .self .n))
 
 -- for a client and a server of any flow and any limit that making accepts, and every list of calls
 abbrev pub Demand : Type 0

@@ -3,3 +3,4 @@ pub mod World
 pub mod Turns
 pub mod Demand
 pub mod Invariant
+pub mod Blocks

@@ -1,0 +1,112 @@
+-- The same for the C entries: two 64-byte blocks, each changed only by `fbdp_make_client`, `fbdp_make_server`, the sends and `fbdp_receive`, with
+-- outputs of any length. What is queued are the bytes that an entry wrote to its output, and what is noted is read off the numbers that it gave.
+use Prim.Native.Nat.{ℕ}
+use mathlib.Core.Path.{_≡_}
+use mathlib.Core.List.{List, [], _∷_}
+use mathlib.Core.Bool.{true, cond, not, _&&_, _||_}
+use lib.ListN.{length, getD, take}
+use lib.Dec.{eqb}
+use Rattle.bytes_be.specs.Part.{part}
+use Rattle.control.specs.declared.MessageType.the-variants.{Ready, Data, Close}
+use Rattle.control.specs.Frame.{ackReply, typeOf}
+use Rattle.endpoint.specs.declared.Endpoint.{Endpoint}
+use Rattle.endpoint.specs.Record.{freshClient, freshServer}
+use Rattle.endpoint.specs.Block.{isGood, loadOf}
+use Rattle.sending.specs.Calls.{Call}
+use Rattle.fbdp.specs.Blocks.{MakeAnswer, SendAnswer, ReceiveAnswer}
+use Rattle.session.specs.World.{End, Client, Server, across, Datum, Ending, HeardClose, WroteClose, Side, World, side, joined, untried, having, taking, withQueue, agreement, isKept, Event, sends, receives, AllFit}
+use Rattle.session.specs.Demand.{Holds}
+
+-- the same end with its block as it is now
+abbrev pub withBlock : Side (List ℕ) → List ℕ → Side (List ℕ)
+withBlock x block =
+    record {
+      self = block;
+      queue = x .queue;
+      sent = x .sent;
+      accepted = x .accepted;
+      agreed = x .agreed;
+      batch = x .batch;
+      ending = x .ending;
+    }
+
+-- an end after a send that gave this number and count, and left this block and output
+abbrev pub afterEntry : End → Side (List ℕ) → Call → ℕ → ℕ → List ℕ → List ℕ → Side (List ℕ)
+afterEntry end x call number count block out =
+    cond (eqb number 0) (having end x call (take count out) block) (withBlock x block)
+
+-- the slots of `struct fbdp_heard`: type, flags, type-data, the length of the reply, and the place of a body
+abbrev pub slot : List ℕ → ℕ → ℕ
+slot slots i = getD slots i 0
+
+-- "DATA that is no confirmation: its body"
+abbrev pub dataTold : List ℕ → List ℕ → List Datum
+dataTold s slots =
+    cond (eqb (slot slots 0) (typeOf Data) && not (eqb (slot slots 1) ackReply))
+    (record { type-data = slot slots 2; body = part s (slot slots 12) (slot slots 13) } ∷ [])
+    []
+
+abbrev pub agreementTold : End → List ℕ → List ℕ
+agreementTold end slots = cond (eqb (slot slots 0) (typeOf Ready)) (agreement (across end) Ready (slot slots 2)) []
+
+abbrev pub repliesTold : List ℕ → List ℕ → List (List ℕ)
+repliesTold slots out = cond (eqb (slot slots 3) 0) [] (take (slot slots 3) out ∷ [])
+
+-- a CLOSE is heard, or written as the reply of a refusal
+abbrev pub endingTold : ℕ → List ℕ → Ending → Ending
+endingTold number slots ending =
+    cond (eqb (slot slots 0) (typeOf Close)) HeardClose
+    (cond (eqb number 0 || eqb (slot slots 3) 0) ending WroteClose)
+
+-- the two ends after a receive that gave this number and these slots, and left this block and output
+abbrev pub afterReceived : End → Side (List ℕ) → Side (List ℕ) → List ℕ → List (List ℕ) → ℕ → List ℕ → List ℕ → List ℕ → World (List ℕ)
+afterReceived end x y s rest number slots block out =
+    cond (isKept number)
+    (joined end (withBlock x block) y)
+    (joined end
+    (taking x (dataTold s slots) (agreementTold end slots) (repliesTold slots out) (endingTold number slots (x .ending)) block)
+    (withQueue y rest))
+
+-- one call of an entry whose answer meets its contract
+pub data Calls (w : World (List ℕ)) : Event → World (List ℕ) → Type 0 where
+  sent : (end : End) (call : Call) (out : List ℕ) (number count : ℕ) (block′ out′ : List ℕ)
+      → SendAnswer call (side w end .self) out number count block′ out′
+      → Calls w (sends end call (length out)) (joined end (afterEntry end (side w end) call number count block′ out′) (side w (across end)))
+  received : (end : End) (s : List ℕ) (rest : List (List ℕ)) (name format out : List ℕ) (number : ℕ) (slots block′ out′ : List ℕ)
+      → side w (across end) .queue ≡ s ∷ rest → ReceiveAnswer s name format (side w end .self) out number slots block′ out′
+      → Calls w (receives end name format (length out)) (afterReceived end (side w end) (side w (across end)) s rest number slots block′ out′)
+  nothing-there : (end : End) (name format : List ℕ) (room : ℕ) → side w (across end) .queue ≡ [] → Calls w (receives end name format room) w
+
+-- and any number of them
+pub data Runs : World (List ℕ) → List Event → World (List ℕ) → Type 0 where
+  none : {w : World (List ℕ)} → Runs w [] w
+  more : {w between after : World (List ℕ)} {event : Event} {rest : List Event} → Calls w event between → Runs between rest after → Runs w (event ∷ rest) after
+
+-- the world of the records that the blocks hold
+abbrev pub loadedSide : Side (List ℕ) → Side Endpoint
+loadedSide x =
+    record {
+      self = loadOf (x .self);
+      queue = x .queue;
+      sent = x .sent;
+      accepted = x .accepted;
+      agreed = x .agreed;
+      batch = x .batch;
+      ending = x .ending;
+    }
+
+abbrev pub loaded : World (List ℕ) → World Endpoint
+loaded w = record { client = loadedSide (w .client); server = loadedSide (w .server) }
+
+-- demand 3 holds of every two blocks that were made, after any calls of the entries, and both blocks are good
+pub record HoldsOnBlocks (w : World (List ℕ)) : Type 0 where
+  pub holds : Holds (loaded w)
+  pub good : (end : End) → isGood (side w end .self) ≡ true
+
+abbrev pub DemandOnBlocks : Type 0
+DemandOnBlocks =
+    (flow limit serverFlow : ℕ) (memory client-block other-memory server-block : List ℕ)
+    → MakeAnswer (freshClient flow limit) memory 0 client-block → MakeAnswer (freshServer serverFlow) other-memory 0 server-block
+    → (events : List Event) → AllFit events
+    → (after : World (List ℕ)) → Runs (record { client = untried client-block; server = untried server-block }) events after
+    → HoldsOnBlocks after
