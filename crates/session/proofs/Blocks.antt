@@ -1,6 +1,6 @@
 -- Demand 3 holds of every two blocks that were made, after any calls of the entries, and both blocks are good. Assumes nothing.
 use mathlib.Core.Path.{_≡_, _∙_, ap, refl, subst, sym}
-use Prim.Native.Nat.{ℕ}
+use Prim.Native.Nat.{ℕ, _≤_}
 use mathlib.Core.List.{List, [], _∷_}
 use native.Mathlib.Omega.{arith}
 use lib.Dec.{eqb}
@@ -10,14 +10,17 @@ use Rattle.bytes_be.proofs.Tests.{took-first}
 use Rattle.endpoint.specs.declared.Endpoint.{Endpoint}
 use Rattle.endpoint.specs.declared.Given.{Given}
 use Rattle.endpoint.specs.declared.Given.the-variants.{Good, Bad}
-use Rattle.endpoint.specs.Record.{freshClient, freshOf, freshServer, givenNumber, givenOf}
+use Rattle.endpoint.specs.Record.{shut, freshClient, freshOf, freshServer, givenNumber, givenOf}
 use Rattle.endpoint.specs.Block.{loadOf}
 use Rattle.endpoint.proofs.Round.{loaded-good}
-use Rattle.fbdp.specs.Blocks.{MakeAnswer, makeNumber, stored}
+use Rattle.sending.specs.Calls.{written}
+use Rattle.sending.specs.Sending.{sendOf}
+use Rattle.fbdp.specs.Blocks.{MakeAnswer, SendAnswer, ReceiveAnswer, makeNumber, stored}
 use Rattle.machine.specs.Good.{Sound}
-use Rattle.session.specs.World.{Client, Server, World, start, untried, Event, sends, receives, AllFit, step}
+use Rattle.session.specs.World.{End, Client, Server, across, World, side, start, untried, Event, sends, receives, AllFit, step}
+use Rattle.session.specs.Demand.{Understood, nextEnd, Speaks, Holds}
 use Rattle.session.specs.Invariant.{Invariant}
-use Rattle.session.specs.Blocks.{DemandOnBlocks, HoldsOnBlocks, Runs, none, more, loaded}
+use Rattle.session.specs.Blocks.{DemandOnBlocks, HoldsOnBlocks, Runs, none, more, loadedSide, loaded, phaseAt, nextHere}
 use Rattle.session.proofs.Step.{step-keeps}
 use Rattle.session.proofs.Demand.{start-keeps, invariant-holds}
 use Rattle.session.proofs.Entries.{AllSound, block-sound, call-loads, stored-back}
@@ -56,6 +59,27 @@ made-good made memory block answer =
 made-loads : (made : Endpoint) (memory block : List ℕ) → MadeGood made memory block → Sound made → loadOf block ≡ made
 made-loads made memory block good sound = ap loadOf (good .kept) ∙ stored-back made sound memory (good .full)
 
+-- demand 3 of the records says what the entries answer
+
+module _ (w : World (List ℕ)) (holds : Holds (loaded w)) where
+  block-understood : (end : End) (s : List ℕ) (rest : List (List ℕ)) → side w (across end) .queue ≡ s ∷ rest → (name format out : List ℕ) (number : ℕ) (slots block′ out′ : List ℕ)
+      → ReceiveAnswer s name format (side w end .self) out number slots block′ out′ → Understood (loadedSide (side w end)) s name format (length out) number
+  block-understood Client s rest queued name format out number slots block′ out′ answer =
+      subst (Understood (loadedSide (w .client)) s name format (length out)) (sym (answer .numbered)) (holds .understood Client s rest queued name format (length out))
+  block-understood Server s rest queued name format out number slots block′ out′ answer =
+      subst (Understood (loadedSide (w .server)) s name format (length out)) (sym (answer .numbered)) (holds .understood Server s rest queued name format (length out))
+
+  block-goes-on : (phaseAt (w .client .self) ≡ shut → ⊥) → (phaseAt (w .server .self) ≡ shut → ⊥) → w .client .queue ≡ [] → w .server .queue ≡ []
+      → (out : List ℕ) (number count : ℕ) (block′ out′ : List ℕ) → SendAnswer (nextHere w) (side w (nextEnd (loaded w)) .self) out number count block′ out′
+      → length (written (loadOf (side w (nextEnd (loaded w)) .self)) (nextHere w)) ≤ length out → number ≡ 0
+  block-goes-on client-open server-open empty empty-back out number count block′ out′ answer enough =
+      answer .finished .numbered ∙ at (nextEnd (loaded w)) (holds .goes-on client-open server-open empty empty-back) enough
+    where
+      at : (end : End) → Speaks (side (loaded w) end .self) (nextHere w) → length (written (loadOf (side w end .self)) (nextHere w)) ≤ length out
+          → sendOf (loadOf (side w end .self)) (nextHere w) (length out) .number ≡ 0
+      at Client speaks room = speaks .sent (length out) room
+      at Server speaks room = speaks .sent (length out) room
+
 module _ (flow limit serverFlow : ℕ) where
   both-sound : (w : World Endpoint) → Invariant flow limit serverFlow w → AllSound w
   both-sound w invariant Client = invariant .linked .here .sound
@@ -73,9 +97,12 @@ module _ (flow limit serverFlow : ℕ) where
 
   holds-on : (w : World (List ℕ)) → Invariant flow limit serverFlow (loaded w) → HoldsOnBlocks w
   holds-on w invariant =
+      let holds = invariant-holds flow limit serverFlow (loaded w) invariant in
       record {
-        holds = invariant-holds flow limit serverFlow (loaded w) invariant;
         good = λ end. sym (loaded-good _) ∙ block-sound w (both-sound (loaded w) invariant) end .is-good;
+        holds = holds;
+        understood = block-understood w holds;
+        goes-on = block-goes-on w holds;
       }
 
 pub demand-on-blocks : DemandOnBlocks

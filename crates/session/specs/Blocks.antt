@@ -1,6 +1,6 @@
 -- The same for the C entries: two 64-byte blocks, each changed only by `fbdp_make_client`, `fbdp_make_server`, the sends and `fbdp_receive`, with
 -- outputs of any length. What is queued are the bytes that an entry wrote to its output, and what is noted is read off the numbers that it gave.
-use Prim.Native.Nat.{ℕ}
+use Prim.Native.Nat.{ℕ, _≤_}
 use mathlib.Core.Path.{_≡_}
 use mathlib.Core.List.{List, [], _∷_}
 use mathlib.Core.Bool.{true, cond, not, _&&_, _||_}
@@ -10,12 +10,12 @@ use Rattle.bytes_be.specs.Part.{part}
 use Rattle.control.specs.declared.MessageType.the-variants.{Ready, Data, Close}
 use Rattle.control.specs.Frame.{ackReply, typeOf}
 use Rattle.endpoint.specs.declared.Endpoint.{Endpoint}
-use Rattle.endpoint.specs.Record.{freshClient, freshServer}
+use Rattle.endpoint.specs.Record.{shut, freshClient, freshServer}
 use Rattle.endpoint.specs.Block.{isGood, loadOf}
-use Rattle.sending.specs.Calls.{Call}
+use Rattle.sending.specs.Calls.{Call, written}
 use Rattle.fbdp.specs.Blocks.{MakeAnswer, SendAnswer, ReceiveAnswer}
 use Rattle.session.specs.World.{End, Client, Server, across, Datum, Ending, HeardClose, WroteClose, Side, World, side, joined, untried, having, taking, withQueue, agreement, isKept, Event, sends, receives, AllFit}
-use Rattle.session.specs.Demand.{Holds}
+use Rattle.session.specs.Demand.{Understood, nextCall, nextEnd, Holds}
 
 -- the same end with its block as it is now
 abbrev pub withBlock : Side (List ℕ) → List ℕ → Side (List ℕ)
@@ -98,11 +98,28 @@ loadedSide x =
 abbrev pub loaded : World (List ℕ) → World Endpoint
 loaded w = record { client = loadedSide (w .client); server = loadedSide (w .server) }
 
--- demand 3 holds of every two blocks that were made, after any calls of the entries, and both blocks are good
-pub record HoldsOnBlocks (w : World (List ℕ)) : Type 0 where
-  pub holds : Holds (loaded w)
-  pub good : (end : End) → isGood (side w end .self) ≡ true
+-- byte 2 of a block is its phase
+abbrev pub phaseAt : List ℕ → ℕ
+phaseAt block = loadOf block .phase
 
+-- the call that is named at rest
+abbrev pub nextHere : World (List ℕ) → Call
+nextHere w = nextCall (phaseAt (w .client .self)) (loadOf (w .client .self) .n)
+
+-- what holds of two blocks: demand 3 of the records that they hold, and so
+pub record HoldsOnBlocks (w : World (List ℕ)) : Type 0 where
+  pub good : (end : End) → isGood (side w end .self) ≡ true
+  pub holds : Holds (loaded w)
+  -- the number that `fbdp_receive` gives for the head of the other's queue is that of a message understood
+  pub understood : (end : End) (s : List ℕ) (rest : List (List ℕ)) → side w (across end) .queue ≡ s ∷ rest
+      → (name format out : List ℕ) (number : ℕ) (slots block′ out′ : List ℕ) → ReceiveAnswer s name format (side w end .self) out number slots block′ out′
+      → Understood (loadedSide (side w end)) s name format (length out) number
+  -- and at rest the call that is named gets 0 in every output with room for it
+  pub goes-on : (phaseAt (w .client .self) ≡ shut → ⊥) → (phaseAt (w .server .self) ≡ shut → ⊥) → w .client .queue ≡ [] → w .server .queue ≡ []
+      → (out : List ℕ) (number count : ℕ) (block′ out′ : List ℕ) → SendAnswer (nextHere w) (side w (nextEnd (loaded w)) .self) out number count block′ out′
+      → length (written (loadOf (side w (nextEnd (loaded w)) .self)) (nextHere w)) ≤ length out → number ≡ 0
+
+-- for every client and server that was made, and any calls of the entries
 abbrev pub DemandOnBlocks : Type 0
 DemandOnBlocks =
     (flow limit serverFlow : ℕ) (memory client-block other-memory server-block : List ℕ)
