@@ -1,7 +1,7 @@
 -- What an end sends or hears is counted: what was sent and accepted, with what is left of the batch, stays within what was agreed. Assumes
 -- nothing.
 use mathlib.Core.Path.{_≡_, refl}
-use Prim.Native.Nat.{ℕ, _+_, _-_, _≤_}
+use Prim.Native.Nat.{ℕ, _+_, _≤_}
 use mathlib.Core.List.{List, [], _++_}
 use mathlib.Core.Bool.{true, cond, _&&_, _||_}
 use native.Mathlib.Omega.{arith}

@@ -2,31 +2,28 @@
 -- nothing.
 use mathlib.Core.Path.{_≡_, refl, sym, _∙_, ap, subst}
 use Prim.Native.Nat.{ℕ, _+_, _≤_}
-use mathlib.Core.List.{List, [], _∷_, _++_, map}
+use mathlib.Core.List.{List, [], _∷_, map}
 use mathlib.Core.Bool.{Bool, true, false, cond, _&&_, _||_}
 use native.Mathlib.Omega.{arith}
 use lib.Dec.{eqb, ltb}
 use lib.ListN.{length, length-append}
-use borrow.Author.Tests.{eqb-true, eqb-false, eq-eqb, ne-eqb, ltb-true}
+use borrow.Author.Tests.{eqb-true, eqb-false, ltb-true}
 use Rattle.bytes_be.proofs.Tests.{took-first}
 use Rattle.double.specs.Limit.{mostLimit, inLimits}
 use Rattle.endpoint.specs.declared.Endpoint.{Endpoint}
-use Rattle.endpoint.specs.declared.Given.the-variants.{Good, Bad}
+use Rattle.endpoint.specs.declared.Given.the-variants.{Good}
 use Rattle.endpoint.specs.Record.{fresh, opening, idle, offer, batch, shut, goodFlow, givenOf, freshOf, freshClient, freshServer}
 use Rattle.endpoint.proofs.StaysGood.{fresh-good, fresh-sized}
-use Rattle.receiving.specs.declared.Answer.{Answer}
-use Rattle.receiving.specs.declared.Answer.the-variants.{Refused}
 use Rattle.receiving.specs.declared.Received.{Received}
 use Rattle.receiving.specs.Receiving.{answerNumber, receivedOf}
 use Rattle.receiving.specs.Refusing.{unchanged}
 use Rattle.sending.specs.Calls.{OPEN, READY, DATA}
 use Rattle.machine.specs.Good.{Sound}
-use Rattle.session.specs.World.{End, Client, Server, across, Datum, Ending, Going, HeardClose, WroteClose, Side, World, side, start, Event, sends, receives, AllFit, step, run}
-use Rattle.session.specs.Turns.{Packet, bytesIn, Stage, Standing, At, Shut, stands, standing, producing, turn, ahead, empty, nothing}
+use Rattle.session.specs.World.{End, Client, Server, across, Ending, Going, HeardClose, WroteClose, Side, World, side, start, Event, sends, receives, AllFit, step, run}
+use Rattle.session.specs.Turns.{Packet, bytesIn, Stage, stands, producing, turn, ahead, empty, nothing}
 use Rattle.session.specs.Demand.{Understood, short-output, Speaks, nextCall, nextEnd, Holds, Demand, sum}
 use Rattle.session.specs.Invariant.{Ends, Invariant, InvariantHolds, Linked, source}
 use Rattle.session.proofs.Turns.{rests-meets, shut-meets}
-use Rattle.session.proofs.Ends.{is-going}
 use Rattle.session.proofs.Speaking.{opens-first, offers-one, takes-all, gives-data}
 use Rattle.session.proofs.Step.{received-heard, received-short, seen-from, head-delivered, step-keeps}
 

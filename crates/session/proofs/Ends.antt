@@ -1,23 +1,22 @@
 -- One end that sends, hears or refuses: its part of the invariant holds afterwards. Assumes nothing.
-use mathlib.Core.Path.{_≡_, refl, sym, _∙_, ap, subst}
+use mathlib.Core.Path.{_≡_, refl, sym, _∙_, ap}
 use Prim.Native.Nat.{ℕ, _≤_, _<_, _^_}
 use mathlib.Core.List.{List, [], _∷_, _++_, map, map-append}
-use mathlib.Core.Bool.{Bool, true, false, cond}
+use mathlib.Core.Bool.{true, false}
 use native.Mathlib.Omega.{arith}
 use Rattle.control.specs.declared.MessageType.{MessageType}
 use Rattle.control.specs.declared.MessageType.the-variants.{Open, Ready, Noop, Data, Close}
-use Rattle.control.specs.Frame.{ackReply}
 use Rattle.endpoint.specs.declared.Endpoint.{Endpoint}
 use Rattle.endpoint.specs.Record.{opening, batch, shut, closed}
 use Rattle.table.specs.Table.{other}
-use Rattle.sending.specs.Calls.{Call, OPEN, READY, DATA, NOOP, CLOSE, messageOf, typeDataOf, askOf, written}
+use Rattle.sending.specs.Calls.{Call, OPEN, READY, DATA, NOOP, CLOSE, messageOf, typeDataOf, written}
 use Rattle.sending.specs.Sending.{sendOf}
 use Rattle.machine.specs.Good.{Fits}
 use Rattle.machine.proofs.Rows.{closed-sound}
 use Rattle.session.specs.World.{End, Client, Server, across, Ending, Going, HeardClose, WroteClose, Side, having, taking, agreement, closedBy, closedTo}
-use Rattle.session.specs.Turns.{Packet, Called, Confirms, Closes, bytesIn, movesLike, typeDataIn, dataIn, Standing, At, stands, standing, roleOf, producing}
+use Rattle.session.specs.Turns.{Packet, Called, Confirms, Closes, bytesIn, movesLike, typeDataIn, dataIn, roleOf, producing}
 use Rattle.session.specs.Invariant.{Ends, Knows, Terms, source, AllProper, Proper, Sides}
-use Rattle.session.proofs.Table.{Begun, nothing, something, Moved, opens, offers, takes, gives, rests, closes, row-moved, landing}
+use Rattle.session.proofs.Table.{Begun, nothing, something, Moved, opens, offers, takes, gives, rests, closes, row-moved}
 use Rattle.session.proofs.Counts.{sent-counted, heard-counted, closed-counted}
 use Rattle.session.proofs.Packets.{SentOn, Comes, answersIn, limitAfter}
 

@@ -19,15 +19,13 @@ use Rattle.endpoint.specs.declared.Entry.{Entry}
 use Rattle.endpoint.specs.Record.{producer, idle, batch, shut, awaited, closed}
 use Rattle.table.specs.declared.Row.the-variants.{To}
 use Rattle.table.specs.Table.{other, rowOf}
-use Rattle.receiving.specs.declared.Answer.{Answer}
-use Rattle.receiving.specs.declared.Answer.the-variants.{Heard as Answer·Heard}
 use Rattle.receiving.specs.Hearing.{hearOf}
 use Rattle.sending.specs.Calls.{OPEN, READY, DATA, NOOP, CLOSE}
 use Rattle.session.specs.World.{End, Client, Server, across, Ending, Going, WroteClose, Side, taking, withQueue, agreement, closedTo, afterBundle}
 use Rattle.session.specs.Turns.{Packet, Called, Confirms, Closes, bytesIn, movesLike, typeDataIn, askedIn, confirmedIn, dataIn, collect, Token, Quiet, Closing, kindOf, Stage, Standing, At, Shut, Gone, IsOpen, stands, standing, roleOf, producing, turn, rests, Hears, moved, rested, closed as Hears·closed, Meets}
-use Rattle.session.specs.Invariant.{Knows, Terms, source, flowAt, Proper, Awaits, Delivers, Sides, Linked}
+use Rattle.session.specs.Invariant.{Knows, source, Proper, Sides, Linked}
 use Rattle.session.proofs.Table.{Moved, opens, gives, row-moved, row-hears, other-role, phaseIn, nIn, leads-alive, leads-active}
-use Rattle.session.proofs.Turns.{sends-meets, hears-meets, refuses-meets}
+use Rattle.session.proofs.Turns.{sends-meets, refuses-meets}
 use Rattle.session.proofs.Streams.{hears-awaits, gone-awaits, across-hears-awaits, across-gone-awaits, writes-delivers, hears-delivers, gone-delivers}
 use Rattle.session.proofs.Packets.{Comes, Taken, answersIn, limitAfter, offeredIn}
 use Rattle.session.proofs.Taking.{packet-taken}

@@ -1,29 +1,24 @@
 -- Two ends: an accepted send, a packet that is heard, an OPEN that is refused and a packet that comes after an own close keep what links them.
 -- Assumes nothing.
 use mathlib.Core.Path.{_≡_, refl, sym, _∙_, ap, subst}
-use Prim.Native.Nat.{ℕ, _≤_, _<_, _^_}
-use mathlib.Core.List.{List, [], _∷_, _++_, map, append-assoc, append-nil}
-use mathlib.Core.Bool.{Bool, true, false, cond}
+use Prim.Native.Nat.{ℕ, _≤_}
+use mathlib.Core.List.{List, [], _∷_, _++_}
 use native.Mathlib.Omega.{arith}
-use lib.Dec.{eqb}
 use borrow.Author.Tests.{eq-eqb}
 use Rattle.control.specs.declared.MessageType.{MessageType}
-use Rattle.control.specs.declared.MessageType.the-variants.{Open, Ready, Noop, Data, Close}
 use Rattle.endpoint.specs.declared.Endpoint.{Endpoint}
-use Rattle.endpoint.specs.declared.Entry.{Entry}
-use Rattle.endpoint.specs.Record.{producer, batch, shut, awaited, closed}
-use Rattle.sending.specs.Calls.{Call, OPEN, READY, DATA, NOOP, CLOSE, messageOf, typeDataOf, written}
+use Rattle.endpoint.specs.Record.{producer, batch, shut}
+use Rattle.sending.specs.Calls.{Call, messageOf, typeDataOf, written}
 use Rattle.sending.specs.Sending.{sendOf}
 use Rattle.machine.specs.Good.{Fits}
-use Rattle.session.specs.World.{End, across, Ending, Going, WroteClose, Side, having, taking, withQueue, agreement, closedBy, closedTo}
-use Rattle.session.specs.Turns.{Packet, Called, Confirms, Closes, bytesIn, movesLike, typeDataIn, askedIn, confirmedIn, dataIn, collect, Token, Quiet, Closing, kindOf, Stage, Standing, At, Shut, Gone, IsOpen, stands, standing, roleOf, producing, Sends, Hears, moved, rested, Meets}
-use Rattle.session.specs.Turns.{rests as Sends·rests, closed as Hears·closed}
-use Rattle.session.specs.Invariant.{Awaits, Delivers, Sides, Linked, source}
-use Rattle.session.proofs.Table.{Begun, Moved, opens, offers, takes, gives, rests, closes, row-moved, row-sends, landing, landing-at, phaseIn, nIn, leads-alive, leads-active}
-use Rattle.session.proofs.Turns.{across-meets, across-twice, sends-meets, hears-meets, refuses-meets}
-use Rattle.session.proofs.Streams.{sends-awaits, hears-awaits, gone-awaits, across-awaits, across-hears-awaits, across-gone-awaits, sends-delivers, writes-delivers, across-delivers, hears-delivers, gone-delivers}
-use Rattle.session.proofs.Packets.{SentOn, Comes, answersIn, limitAfter, sent-on}
-use Rattle.session.proofs.Ends.{is-going, moved-low, begun-low, sender-knows, sent-sides, heard-sides, refused-sides}
+use Rattle.session.specs.World.{End, across, Ending, Going, Side, having, closedBy}
+use Rattle.session.specs.Turns.{Packet, Called, At, IsOpen, stands, standing, roleOf, producing}
+use Rattle.session.specs.Invariant.{Sides, Linked, source}
+use Rattle.session.proofs.Table.{Moved, opens, offers, takes, gives, rests, closes, row-moved, row-sends, landing, landing-at}
+use Rattle.session.proofs.Turns.{across-meets, across-twice, sends-meets}
+use Rattle.session.proofs.Streams.{sends-awaits, across-awaits, sends-delivers, across-delivers}
+use Rattle.session.proofs.Packets.{SentOn, sent-on}
+use Rattle.session.proofs.Ends.{is-going, moved-low, begun-low, sender-knows, sent-sides}
 
 -- where an end stands that sent a message
 

@@ -1,15 +1,13 @@
 -- Every call keeps the invariant, and a fresh client and a fresh server have it. Assumes nothing.
-use mathlib.Core.Path.{_≡_, refl, sym, _∙_, ap, subst}
+use mathlib.Core.Path.{_≡_, refl, sym, ap, subst}
 use Prim.Native.Nat.{ℕ}
 use mathlib.Core.List.{List, [], _∷_, _++_, map, append-nil}
-use mathlib.Core.Bool.{Bool, true, false, cond, not}
+use mathlib.Core.Bool.{Bool, true, false, cond}
 use native.Mathlib.Omega.{arith}
 use lib.Dec.{eqb, ltb}
-use borrow.Author.Tests.{eqb-true, eq-eqb, ltb-true}
-use Rattle.control.specs.declared.MessageType.the-variants.{Open}
+use borrow.Author.Tests.{eqb-true, eq-eqb}
 use Rattle.endpoint.specs.declared.Endpoint.{Endpoint}
-use Rattle.endpoint.specs.Record.{good, server, shut, closed}
-use Rattle.receiving.specs.declared.Answer.{Answer}
+use Rattle.endpoint.specs.Record.{server, shut, closed}
 use Rattle.receiving.specs.declared.Answer.the-variants.{Refused}
 use Rattle.receiving.specs.declared.Received.{Received}
 use Rattle.receiving.specs.Hearing.{hearOf}
@@ -19,8 +17,8 @@ use Rattle.sending.specs.Calls.{Call, OPEN, READY, DATA, NOOP, CLOSE, written}
 use Rattle.sending.specs.Sending.{sendOf}
 use Rattle.machine.specs.Good.{Sound, Fits}
 use Rattle.session.specs.World.{End, Client, Server, across, Ending, Going, HeardClose, WroteClose, Side, World, side, joined, having, taking, withQueue, Event, sends, receives, AllFit, afterSend, afterBundle, isKept, afterReceive, step}
-use Rattle.session.specs.Turns.{Packet, Called, Confirms, Closes, bytesIn, movesLike, Standing, At, Shut, Gone, stands, standing, roleOf, Hears, late, Meets}
-use Rattle.session.specs.Demand.{Understood, heard, after-own-close, short-output}
+use Rattle.session.specs.Turns.{Packet, Called, Confirms, Closes, bytesIn, Standing, At, Shut, Gone, stands, standing, Hears, late, Meets}
+use Rattle.session.specs.Demand.{Understood, heard, after-own-close}
 use Rattle.session.specs.Invariant.{Ends, source, Linked, Invariant, StepKeeps}
 use Rattle.session.proofs.Table.{phaseIn, nIn}
 use Rattle.session.proofs.Turns.{hears-meets}

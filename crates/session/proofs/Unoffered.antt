@@ -23,7 +23,6 @@ use Rattle.endpoint.specs.Record.{server}
 use Rattle.endpoint.proofs.Told.{good-told}
 use Rattle.table.specs.declared.Row.the-variants.{To}
 use Rattle.table.specs.Table.{other, rowOf}
-use Rattle.receiving.specs.declared.Answer.the-variants.{Refused}
 use Rattle.receiving.specs.Hearing.{carriedBy, hearMessage, hearOf, openAt}
 use Rattle.receiving.specs.Refusing.{closeCode, refused, silent}
 use Rattle.sending.specs.Calls.{OPEN, outgoing, written}

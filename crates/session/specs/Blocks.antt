@@ -14,7 +14,7 @@ use Rattle.endpoint.specs.Record.{shut, freshClient, freshServer}
 use Rattle.endpoint.specs.Block.{isGood, loadOf}
 use Rattle.sending.specs.Calls.{Call, written}
 use Rattle.fbdp.specs.Blocks.{MakeAnswer, SendAnswer, ReceiveAnswer}
-use Rattle.session.specs.World.{End, Client, Server, across, Datum, Ending, HeardClose, WroteClose, Side, World, side, joined, untried, having, taking, withQueue, agreement, isKept, Event, sends, receives, AllFit}
+use Rattle.session.specs.World.{End, across, Datum, Ending, HeardClose, WroteClose, Side, World, side, joined, untried, having, taking, withQueue, agreement, isKept, Event, sends, receives, AllFit}
 use Rattle.session.specs.Demand.{Understood, nextCall, nextEnd, Holds}
 
 -- the same end with its block as it is now

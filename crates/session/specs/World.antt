@@ -11,7 +11,6 @@ use Rattle.endpoint.specs.declared.Endpoint.{Endpoint}
 use Rattle.endpoint.specs.Record.{freshClient, freshServer}
 use Rattle.receiving.specs.declared.Content.{Content}
 use Rattle.receiving.specs.declared.Content.the-variants.{Nothing, Opening, Body}
-use Rattle.receiving.specs.declared.Heard.{Heard}
 use Rattle.receiving.specs.declared.Answer.{Answer}
 use Rattle.receiving.specs.declared.Answer.the-variants.{Heard as Answer·Heard, Refused}
 use Rattle.receiving.specs.declared.Reply.{Reply}
