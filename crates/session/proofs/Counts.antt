@@ -18,8 +18,7 @@ use Rattle.sending.specs.Calls.{Call, messageOf, typeDataOf, OPEN, READY, DATA,
 use Rattle.machine.specs.Good.{Sound}
 use Rattle.session.specs.World.{End, Client, Server, across, Datum, Ending, Side, having, taking, dataSent, agreement, since}
 use Rattle.session.specs.Turns.{Packet, Called, Confirms, Closes, movesLike, typeDataIn, dataIn, roleOf}
-use Rattle.session.specs.Demand.{sum, newest}
-use Rattle.session.specs.Invariant.{left, Counted}
+use Rattle.session.specs.Invariant.{left, Within}
 use Rattle.session.proofs.Table.{Begun, nothing, something, Moved, opens, offers, takes, gives, rests, closes}
 
 -- how many data a message carries
@@ -50,11 +49,6 @@ batch-left (something some) = refl
 
 all-left : (phase n : ℕ) → phase ≡ batch → left phase n ≡ n
 all-left phase n batching = simp (eq-eqb phase batch batching)
-
--- of all batches and of the newest one: so many data, with what is left, within what is agreed
-record Within (agreed : List ℕ) (all : ℕ) (since-agreed : ℕ) (phase n : ℕ) : Type 0 where
-  in-all : all + left phase n ≤ sum agreed
-  in-newest : since-agreed + left phase n ≤ newest agreed
 
 module _ (agreed : List ℕ) (batched : List Datum) (all : ℕ) where
   -- the row of a message that the end `writer` writes leads its writer and its hearer from within to within
@@ -91,15 +85,16 @@ batch-some e sound batching =
     let counts : cond (eqb (e .phase) offer || eqb (e .phase) batch) (leb 1 (e .n) && leb (e .n) 65535) (eqb (e .n) 0) ≡ true = good-told e (sound .is-good) .counted in
     leb-true 1 (e .n) (both-true (leb 1 (e .n)) (leb (e .n) 65535) (rw batching at counts) .0)
 
-module _ (end : End) (x : Side Endpoint) (sound : Sound (x .self)) (counted : Counted x) (next : Endpoint) (phase n : ℕ) (phased : next .phase ≡ phase) (numbered : next .n ≡ n) where
-  within : Within (x .agreed) (length (x .sent) + length (x .accepted)) (length (x .batch)) (x .self .phase) (x .self .n)
-  within = record { in-all = counted .in-all; in-newest = counted .in-newest }
+-- what the invariant says of an end
+abbrev pub Counted : Side Endpoint → Type 0
+Counted x = Within (x .agreed) (length (x .sent) + length (x .accepted)) (length (x .batch)) (x .self .phase) (x .self .n)
 
+module _ (end : End) (x : Side Endpoint) (sound : Sound (x .self)) (counted : Counted x) (next : Endpoint) (phase n : ℕ) (phased : next .phase ≡ phase) (numbered : next .n ≡ n) where
   -- an end sends
   pub sent-counted : (flow : ℕ) (call : Call) (bytes : List ℕ) → Moved (roleOf end) flow (x .self .phase) (x .self .n) (messageOf call) (typeDataOf call) phase n
       → Counted (having end x call bytes next)
   sent-counted flow call bytes moves =
-      let after = row-within (x .agreed) (x .batch) (length (x .sent) + length (x .accepted)) end moves (batch-some (x .self) sound) within in
+      let after = row-within (x .agreed) (x .batch) (length (x .sent) + length (x .accepted)) end moves (batch-some (x .self) sound) counted in
       let carries = carried-count (Called (x .self) call 0) in
       record {
         in-all = rw (phased, numbered) (omega (arith, after .in-all, carries, length-append (x .sent) (dataSent call)));
@@ -111,7 +106,7 @@ module _ (end : End) (x : Side Endpoint) (sound : Sound (x .self)) (counted : Co
       → Moved (roleOf (across end)) flow (x .self .phase) (x .self .n) (movesLike m) (typeDataIn m) phase n
       → Counted (taking x (dataIn m) (agreement (across end) (movesLike m) (typeDataIn m)) replied ending next)
   heard-counted flow m replied ending moves =
-      let after = row-within (x .agreed) (x .batch) (length (x .sent) + length (x .accepted)) (across end) moves (batch-some (x .self) sound) within in
+      let after = row-within (x .agreed) (x .batch) (length (x .sent) + length (x .accepted)) (across end) moves (batch-some (x .self) sound) counted in
       let carries = carried-count m in
       let batched = length-append (since (agreement (across end) (movesLike m) (typeDataIn m)) (x .batch)) (dataIn m) in
       record {

@@ -5,7 +5,6 @@ use mathlib.Core.List.{List, [], _∷_, _++_, map, map-append}
 use mathlib.Core.Bool.{true, false}
 use native.Mathlib.Omega.{arith}
 use Rattle.control.specs.declared.MessageType.{MessageType}
-use Rattle.control.specs.declared.MessageType.the-variants.{Open, Ready, Noop, Data, Close}
 use Rattle.endpoint.specs.declared.Endpoint.{Endpoint}
 use Rattle.endpoint.specs.Record.{opening, batch, shut, closed}
 use Rattle.table.specs.Table.{other}
@@ -13,12 +12,12 @@ use Rattle.sending.specs.Calls.{Call, OPEN, READY, DATA, NOOP, CLOSE, messageOf
 use Rattle.sending.specs.Sending.{sendOf}
 use Rattle.machine.specs.Good.{Fits}
 use Rattle.machine.proofs.Rows.{closed-sound}
-use Rattle.session.specs.World.{End, Client, Server, across, Ending, Going, HeardClose, WroteClose, Side, having, taking, agreement, closedBy, closedTo}
+use Rattle.session.specs.World.{End, Client, Server, across, Ending, Going, HeardClose, WroteClose, Side, having, taking, agreement, endedBy}
 use Rattle.session.specs.Turns.{Packet, Called, Confirms, Closes, bytesIn, movesLike, typeDataIn, dataIn, roleOf, producing}
 use Rattle.session.specs.Invariant.{Ends, Knows, Terms, source, AllProper, Proper, Sides}
 use Rattle.session.proofs.Table.{Begun, nothing, something, Moved, opens, offers, takes, gives, rests, closes, row-moved}
 use Rattle.session.proofs.Counts.{sent-counted, heard-counted, closed-counted}
-use Rattle.session.proofs.Packets.{SentOn, Comes, answersIn, limitAfter}
+use Rattle.session.proofs.Packets.{SentOn, Comes, answersIn, limitAfter, isOpen, Sort, an-open, another, sort}
 
 -- no row leads on from phase 5
 pub moved-low : {role flow phase n type-data next count : ℕ} {message : MessageType} → Moved role flow phase n message type-data next count → phase ≤ batch
@@ -41,47 +40,33 @@ pub begun-low : {begins count next m : ℕ} → begins ≤ batch → Begun begin
 begun-low low (nothing none) = omega arith
 begun-low low (something some) = low
 
-writer-ends : {role flow phase n type-data next count : ℕ} {message : MessageType} → Moved role flow phase n message type-data next count → Ends (closedBy message Going) next
-writer-ends (opens role begins) = omega arith
-writer-ends (offers differs low high begins) = begun-low (omega arith) begins
-writer-ends (takes role offered few begins) = begun-low (omega arith) begins
-writer-ends (gives produces batched begins) = begun-low (omega arith) begins
-writer-ends (rests low high) = high
-writer-ends (closes low high) = refl
-
-hearer-ends : {role flow phase n type-data next count : ℕ} {message : MessageType} → Moved role flow phase n message type-data next count → Ends (closedTo message Going) next
-hearer-ends (opens role begins) = omega arith
-hearer-ends (offers differs low high begins) = begun-low (omega arith) begins
-hearer-ends (takes role offered few begins) = begun-low (omega arith) begins
-hearer-ends (gives produces batched begins) = begun-low (omega arith) begins
-hearer-ends (rests low high) = high
-hearer-ends (closes low high) = refl
+moved-ends : (how : Ending) → Ends how shut → {role flow phase n type-data next count : ℕ} {message : MessageType} → Moved role flow phase n message type-data next count
+    → Ends (endedBy how message Going) next
+moved-ends how closing (opens role begins) = omega arith
+moved-ends how closing (offers differs low high begins) = begun-low (omega arith) begins
+moved-ends how closing (takes role offered few begins) = begun-low (omega arith) begins
+moved-ends how closing (gives produces batched begins) = begun-low (omega arith) begins
+moved-ends how closing (rests low high) = high
+moved-ends how closing (closes low high) = closing
 
 -- a message other than OPEN leads on only an open server
-server-knows : {role flow phase n type-data next count : ℕ} {message : MessageType} → (message ≡ Open → ⊥) → Moved role flow phase n message type-data next count → (opening ≤ phase) × (phase ≤ batch)
-server-knows later (opens role begins) = absurd (later refl)
-server-knows later (offers differs low high begins) = (low, omega arith)
-server-knows later (takes role offered few begins) = (omega arith, omega arith)
-server-knows later (gives produces batched begins) = (omega arith, omega arith)
-server-knows later (rests low high) = (omega arith, high)
-server-knows later (closes low high) = (low, high)
+server-knows : {role flow phase n type-data next count : ℕ} {message : MessageType} → isOpen message ≡ false → Moved role flow phase n message type-data next count
+    → (opening ≤ phase) × (phase ≤ batch)
+server-knows other (opens role begins) = let z : _≡_ {A = ℕ} 0 1 = cc in absurd (omega arith)
+server-knows other (offers differs low high begins) = (low, omega arith)
+server-knows other (takes role offered few begins) = (omega arith, omega arith)
+server-knows other (gives produces batched begins) = (omega arith, omega arith)
+server-knows other (rests low high) = (omega arith, high)
+server-knows other (closes low high) = (low, high)
 
 -- and a server sends no OPEN
-server-sends : {flow phase n type-data next count : ℕ} {message : MessageType} → Moved (roleOf Server) flow phase n message type-data next count → message ≡ Open → ⊥
-server-sends (opens role begins) same = omega (arith, role)
-server-sends (offers differs low high begins) same = let z : _≡_ {A = ℕ} 0 1 = cc in omega arith
-server-sends (takes role offered few begins) same = let z : _≡_ {A = ℕ} 0 1 = cc in omega arith
-server-sends (gives produces batched begins) same = let z : _≡_ {A = ℕ} 0 1 = cc in omega arith
-server-sends (rests low high) same = let z : _≡_ {A = ℕ} 0 1 = cc in omega arith
-server-sends (closes low high) same = let z : _≡_ {A = ℕ} 0 1 = cc in omega arith
-
--- a message is an OPEN, or another
-by-open : (message : MessageType) (P : Type 0) → (message ≡ Open → P) → ((message ≡ Open → ⊥) → P) → P
-by-open Open P is other = is refl
-by-open Ready P is other = other (λ same. let z : _≡_ {A = ℕ} 0 1 = cc in omega arith)
-by-open Noop P is other = other (λ same. let z : _≡_ {A = ℕ} 0 1 = cc in omega arith)
-by-open Data P is other = other (λ same. let z : _≡_ {A = ℕ} 0 1 = cc in omega arith)
-by-open Close P is other = other (λ same. let z : _≡_ {A = ℕ} 0 1 = cc in omega arith)
+server-sends : {flow phase n type-data next count : ℕ} {message : MessageType} → Moved (roleOf Server) flow phase n message type-data next count → isOpen message ≡ false
+server-sends (opens role begins) = absurd (omega (arith, role))
+server-sends (offers differs low high begins) = refl
+server-sends (takes role offered few begins) = refl
+server-sends (gives produces batched begins) = refl
+server-sends (rests low high) = refl
+server-sends (closes low high) = refl
 
 -- who sends knows the terms
 pub sender-knows : (end : End) {flow phase n type-data next count : ℕ} {message : MessageType} → Moved (roleOf end) flow phase n message type-data next count → Knows end phase
@@ -89,9 +74,10 @@ sender-knows Client moves = tt
 sender-knows Server moves = server-knows (server-sends moves) moves
 
 -- and so does who hears anything but an OPEN
-pub hearer-knows : (end : End) {role flow phase n type-data next count : ℕ} {message : MessageType} → (message ≡ Open → ⊥) → Moved role flow phase n message type-data next count → Knows end phase
-hearer-knows Client later moves = tt
-hearer-knows Server later moves = server-knows later moves
+pub hearer-knows : (end : End) {role flow phase n type-data next count : ℕ} {message : MessageType} → isOpen message ≡ false → Moved role flow phase n message type-data next count
+    → Knows end phase
+hearer-knows Client other moves = tt
+hearer-knows Server other moves = server-knows other moves
 
 module _ (flow limit serverFlow : ℕ) where
   pub proper-append : (end : End) (p q : List Packet) → AllProper flow limit serverFlow end p → AllProper flow limit serverFlow end q → AllProper flow limit serverFlow end (p ++ q)
@@ -132,7 +118,7 @@ module _ (flow limit serverFlow : ℕ) where
           sound = comes .sound;
           role = comes .role ∙ here .role;
           flows = comes .flow ∙ here .flows;
-          ends = rw (going, comes .phased) (writer-ends moves);
+          ends = rw (going, comes .phased) (moved-ends WroteClose refl moves);
           queued = queued-append x p (Called (x .self) call room ∷ []) (written (x .self) call ∷ []) (here .queued) refl;
           proper =
               proper-append end p (Called (x .self) call room ∷ []) (here .proper)
@@ -142,42 +128,36 @@ module _ (flow limit serverFlow : ℕ) where
                 limited = comes .limited ∙ here .terms knows .limited;
                 agreed = ap (producing end) (comes .flow) ∙ here .terms knows .agreed;
               };
-          counted = sent-counted end x (here .sound) (here .counted) _ (sent .phase) (sent .n) (comes .phased) (comes .counted) (x .self .flow) call (written (x .self) call) moves;
+          counted = sent-counted end x (here .sound) (here .counted) (sendOf (x .self) call room .next) (sent .phase) (sent .n) (comes .phased) (comes .counted) (x .self .flow) call (written (x .self) call) moves;
         }
-
-    -- the limit of an end that hears a packet
-    heard-limit : (m : Packet) → Proper flow limit serverFlow (across end) m → ((movesLike m ≡ Open → ⊥) → x .self .limit ≡ limit) → limitAfter m (x .self .limit) ≡ limit
-    heard-limit (Called e (OPEN name format) room) proper later = proper .limited
-    heard-limit (Called e (READY count) room) proper later = later (λ same. let z : _≡_ {A = ℕ} 0 1 = cc in omega arith)
-    heard-limit (Called e (DATA type-data ask body) room) proper later = later (λ same. let z : _≡_ {A = ℕ} 0 1 = cc in omega arith)
-    heard-limit (Called e (NOOP type-data ask) room) proper later = later (λ same. let z : _≡_ {A = ℕ} 0 1 = cc in omega arith)
-    heard-limit (Called e (CLOSE code) room) proper later = later (λ same. let z : _≡_ {A = ℕ} 0 1 = cc in omega arith)
-    heard-limit (Confirms message type-data) proper later = later (λ same. let z : _≡_ {A = ℕ} 0 1 = cc in omega arith)
-    heard-limit (Closes code) proper later = later (λ same. let z : _≡_ {A = ℕ} 0 1 = cc in omega arith)
 
     -- an end that has not closed heard a packet, whose row leads to this phase and n; an OPEN only where it is for who produces
     pub heard-sides : (m : Packet) (phase n : ℕ) (next : Endpoint) → Proper flow limit serverFlow (across end) m
         → Moved (roleOf (across end)) (other (x .self .flow)) (x .self .phase) (x .self .n) (movesLike m) (typeDataIn m) phase n
-        → (movesLike m ≡ Open → producing end (x .self .flow) ≡ source flow limit serverFlow) → Comes (x .self) phase n (limitAfter m (x .self .limit)) next
+        → (isOpen (movesLike m) ≡ true → producing end (x .self .flow) ≡ source flow limit serverFlow) → Comes (x .self) phase n (limitAfter m (x .self .limit)) next
         → Sides flow limit serverFlow end
-        (taking x (dataIn m) (agreement (across end) (movesLike m) (typeDataIn m)) (map bytesIn (answersIn m)) (closedTo (movesLike m) Going) next)
+        (taking x (dataIn m) (agreement (across end) (movesLike m) (typeDataIn m)) (map bytesIn (answersIn m)) (endedBy HeardClose (movesLike m) Going) next)
         (p ++ answersIn m)
     heard-sides m phase n next proper moves produces comes =
-        let knows : (movesLike m ≡ Open → ⊥) → Terms flow limit serverFlow end (x .self) = λ later. here .terms (hearer-knows end later moves) in
         record {
           sound = comes .sound;
           role = comes .role ∙ here .role;
           flows = comes .flow ∙ here .flows;
-          ends = rw (comes .phased) (hearer-ends moves);
+          ends = rw (comes .phased) (moved-ends HeardClose refl moves);
           queued = queued-append x p (answersIn m) (map bytesIn (answersIn m)) (here .queued) refl;
           proper = proper-append end p (answersIn m) (here .proper) (answers-proper end m proper);
-          terms =
-              λ still. record {
-                limited = comes .limited ∙ heard-limit m proper (λ later. knows later .limited);
-                agreed = ap (producing end) (comes .flow) ∙ by-open (movesLike m) _ produces (λ later. knows later .agreed);
-              };
-          counted = heard-counted end x (here .sound) (here .counted) next phase n (comes .phased) (comes .counted) (other (x .self .flow)) m (map bytesIn (answersIn m)) (closedTo (movesLike m) Going) moves;
+          terms = λ known. record { limited = comes .limited ∙ terms-there .0; agreed = ap (producing end) (comes .flow) ∙ terms-there .1 };
+          counted = heard-counted end x (here .sound) (here .counted) next phase n (comes .phased) (comes .counted) (other (x .self .flow)) m (map bytesIn (answersIn m)) (endedBy HeardClose (movesLike m) Going) moves;
         }
+      where
+        -- an OPEN brings the terms, and any other packet comes to an end that knows them
+        by-sort : (m : Packet) → Sort m → Proper flow limit serverFlow (across end) m → (isOpen (movesLike m) ≡ true → producing end (x .self .flow) ≡ source flow limit serverFlow)
+            → (isOpen (movesLike m) ≡ false → Terms flow limit serverFlow end (x .self)) → (limitAfter m (x .self .limit) ≡ limit) × (producing end (x .self .flow) ≡ source flow limit serverFlow)
+        by-sort _ (an-open e asked wanted room) made brings knows = (made .limited, brings refl)
+        by-sort _ (another later offered stays) made brings knows = (stays (x .self .limit) ∙ knows later .limited, knows later .agreed)
+
+        terms-there : (limitAfter m (x .self .limit) ≡ limit) × (producing end (x .self .flow) ≡ source flow limit serverFlow)
+        terms-there = by-sort m (sort m) proper produces (λ later. here .terms (hearer-knows end later moves))
 
     -- an end that refused an OPEN
     pub refused-sides : (code : ℕ) → code < 256 ^ 2 → Sides flow limit serverFlow end (taking x [] [] (map bytesIn (Closes code ∷ [])) WroteClose (closed (x .self))) (p ++ (Closes code ∷ []))

@@ -20,47 +20,41 @@ use Rattle.endpoint.specs.Record.{producer, idle, batch, shut, awaited, closed}
 use Rattle.table.specs.declared.Row.the-variants.{To}
 use Rattle.table.specs.Table.{other, rowOf}
 use Rattle.receiving.specs.Hearing.{hearOf}
-use Rattle.sending.specs.Calls.{OPEN, READY, DATA, NOOP, CLOSE}
-use Rattle.session.specs.World.{End, Client, Server, across, Ending, Going, WroteClose, Side, taking, withQueue, agreement, closedTo, afterBundle}
-use Rattle.session.specs.Turns.{Packet, Called, Confirms, Closes, bytesIn, movesLike, typeDataIn, askedIn, confirmedIn, dataIn, collect, Token, Quiet, Closing, kindOf, Stage, Standing, At, Shut, Gone, IsOpen, stands, standing, roleOf, producing, turn, rests, Hears, moved, rested, closed as Hears·closed, Meets}
+use Rattle.sending.specs.Calls.{OPEN, READY, DATA, NOOP, CLOSE, askOf, messageOf, typeDataOf}
+use Rattle.session.specs.World.{End, Client, Server, across, Ending, Going, WroteClose, Side, taking, withQueue, agreement, afterBundle, endedBy, HeardClose}
+use Rattle.session.specs.Turns.{Packet, Called, Confirms, Closes, bytesIn, movesLike, typeDataIn, entryFor, askedIn, confirmedIn, dataIn, collect, Kind, Token, Quiet, Closing, kindOf, Stage, Standing, At, Gone, IsOpen, stands, standing, roleOf, producing, turn, rests, Hears, moved, rested, closed as Hears·closed, Meets}
 use Rattle.session.specs.Invariant.{Knows, source, Proper, Sides, Linked}
 use Rattle.session.proofs.Table.{Moved, opens, gives, row-moved, row-hears, other-role, phaseIn, nIn, leads-alive, leads-active}
 use Rattle.session.proofs.Turns.{sends-meets, refuses-meets}
 use Rattle.session.proofs.Streams.{hears-awaits, gone-awaits, across-hears-awaits, across-gone-awaits, writes-delivers, hears-delivers, gone-delivers}
-use Rattle.session.proofs.Packets.{Comes, Taken, answersIn, limitAfter, offeredIn}
+use Rattle.session.proofs.Packets.{Comes, Taken, answersIn, limitAfter, offeredIn, isOpen, Sort, an-open, another, sort}
 use Rattle.session.proofs.Taking.{packet-taken}
 use Rattle.session.proofs.Ends.{hearer-knows, heard-sides, refused-sides}
 
 -- where an end stands that heard a message
 
-token-stays : (message : MessageType) → kindOf message ≡ Token → closedTo message Going ≡ Going
-token-stays Open token = refl
-token-stays Ready token = refl
-token-stays Noop token = let z : _≡_ {A = ℕ} 0 1 = cc in absurd (omega arith)
-token-stays Data token = refl
-token-stays Close token = let z : _≡_ {A = ℕ} 0 1 = cc in absurd (omega arith)
+abbrev endingOf : Ending → Kind → Ending
+endingOf how Token = Going
+endingOf how Quiet = Going
+endingOf how Closing = how
 
-quiet-stays : (message : MessageType) → kindOf message ≡ Quiet → closedTo message Going ≡ Going
-quiet-stays Open still = let z : _≡_ {A = ℕ} 0 1 = cc in absurd (omega arith)
-quiet-stays Ready still = let z : _≡_ {A = ℕ} 0 1 = cc in absurd (omega arith)
-quiet-stays Noop still = refl
-quiet-stays Data still = let z : _≡_ {A = ℕ} 0 1 = cc in absurd (omega arith)
-quiet-stays Close still = let z : _≡_ {A = ℕ} 0 1 = cc in absurd (omega arith)
+ended-kind : (how : Ending) (message : MessageType) → endedBy how message Going ≡ endingOf how (kindOf message)
+ended-kind how Open = refl
+ended-kind how Ready = refl
+ended-kind how Noop = refl
+ended-kind how Data = refl
+ended-kind how Close = refl
 
-closing-shuts : (message : MessageType) (e : Endpoint) → kindOf message ≡ Closing → stands (closedTo message Going) e ≡ Shut
-closing-shuts Open e closing = let z : _≡_ {A = ℕ} 0 1 = cc in absurd (omega arith)
-closing-shuts Ready e closing = let z : _≡_ {A = ℕ} 0 1 = cc in absurd (omega arith)
-closing-shuts Noop e closing = let z : _≡_ {A = ℕ} 0 1 = cc in absurd (omega arith)
-closing-shuts Data e closing = let z : _≡_ {A = ℕ} 0 1 = cc in absurd (omega arith)
-closing-shuts Close e closing = refl
+heard-ending : (message : MessageType) {kind : Kind} → kindOf message ≡ kind → endedBy HeardClose message Going ≡ endingOf HeardClose kind
+heard-ending message same = ended-kind HeardClose message ∙ ap (endingOf HeardClose) same
 
 hearer-stands : (from end : End) (s : Stage) (m : Packet) (a : Standing) (e : Endpoint) → Hears from end (At s) m a → e .phase ≡ phaseIn a → e .n ≡ nIn a
-    → stands (closedTo (movesLike m) Going) e ≡ a
+    → stands (endedBy HeardClose (movesLike m) Going) e ≡ a
 hearer-stands from end s m (At t) e (moved token theirs leads) phased counted =
-    ap (λ (ending : Ending). stands ending e) (token-stays (movesLike m) token) ∙ rw (phased, counted) refl
+    ap (λ (ending : Ending). stands ending e) (heard-ending (movesLike m) token) ∙ rw (phased, counted) refl
 hearer-stands from end s m _ e (rested still active) phased counted =
-    ap (λ (ending : Ending). stands ending e) (quiet-stays (movesLike m) still) ∙ rw (phased, counted) refl
-hearer-stands from end s m _ e (Hears·closed closing alive) phased counted = closing-shuts (movesLike m) e closing
+    ap (λ (ending : Ending). stands ending e) (heard-ending (movesLike m) still) ∙ rw (phased, counted) refl
+hearer-stands from end s m _ e (Hears·closed closing alive) phased counted = ap (λ (ending : Ending). stands ending e) (heard-ending (movesLike m) closing)
 
 -- an end that is still open is not in phase 5
 hearer-low : (from end : End) (s : Stage) (m : Packet) (a : Standing) → Hears from end (At s) m a → IsOpen a → phaseIn a ≡ shut → ⊥
@@ -71,35 +65,29 @@ hearer-low from end s m _ (Hears·closed closing alive) is-open is-shut = is-ope
 -- what the confirmation of a packet asks for, confirms and carries
 
 answers-ask : (m : Packet) → collect askedIn (answersIn m) ≡ []
-answers-ask (Called e (OPEN name format) room) = refl
-answers-ask (Called e (READY count) room) = refl
-answers-ask (Called e (DATA type-data true body) room) = refl
-answers-ask (Called e (DATA type-data false body) room) = refl
-answers-ask (Called e (NOOP type-data true) room) = refl
-answers-ask (Called e (NOOP type-data false) room) = refl
-answers-ask (Called e (CLOSE code) room) = refl
+answers-ask (Called e call room) = go (askOf call)
+  where
+    go : (ask : Bool) → collect askedIn (cond ask (Confirms (messageOf call) (typeDataOf call) ∷ []) []) ≡ []
+    go true = refl
+    go false = refl
 answers-ask (Confirms message type-data) = refl
 answers-ask (Closes code) = refl
 
 answers-confirm : (m : Packet) → collect confirmedIn (answersIn m) ≡ askedIn m
-answers-confirm (Called e (OPEN name format) room) = refl
-answers-confirm (Called e (READY count) room) = refl
-answers-confirm (Called e (DATA type-data true body) room) = refl
-answers-confirm (Called e (DATA type-data false body) room) = refl
-answers-confirm (Called e (NOOP type-data true) room) = refl
-answers-confirm (Called e (NOOP type-data false) room) = refl
-answers-confirm (Called e (CLOSE code) room) = refl
+answers-confirm (Called e call room) = go (askOf call)
+  where
+    go : (ask : Bool) → collect confirmedIn (cond ask (Confirms (messageOf call) (typeDataOf call) ∷ []) []) ≡ cond ask (entryFor (messageOf call) (typeDataOf call) ∷ []) []
+    go true = refl
+    go false = refl
 answers-confirm (Confirms message type-data) = refl
 answers-confirm (Closes code) = refl
 
 answers-carry : (m : Packet) → collect dataIn (answersIn m) ≡ []
-answers-carry (Called e (OPEN name format) room) = refl
-answers-carry (Called e (READY count) room) = refl
-answers-carry (Called e (DATA type-data true body) room) = refl
-answers-carry (Called e (DATA type-data false body) room) = refl
-answers-carry (Called e (NOOP type-data true) room) = refl
-answers-carry (Called e (NOOP type-data false) room) = refl
-answers-carry (Called e (CLOSE code) room) = refl
+answers-carry (Called e call room) = go (askOf call)
+  where
+    go : (ask : Bool) → collect dataIn (cond ask (Confirms (messageOf call) (typeDataOf call) ∷ []) []) ≡ []
+    go true = refl
+    go false = refl
 answers-carry (Confirms message type-data) = refl
 answers-carry (Closes code) = refl
 
@@ -160,19 +148,14 @@ module _ (flow limit serverFlow : ℕ) where
   from = source flow limit serverFlow
 
   -- and so agrees on who produces
-  open-source : (end : End) (r : Endpoint) (m : Packet) (name format : List ℕ) {seen phase n next count : ℕ} → Proper flow limit serverFlow (across end) m
-      → Moved (roleOf (across end)) seen phase n (movesLike m) (typeDataIn m) next count → offeredIn m r name format ≡ true → movesLike m ≡ Open → producing end (r .flow) ≡ from
-  open-source Client r (Called e (OPEN asked wanted) room) name format made moves offers is-open = absurd (clients-open moves)
-  open-source Server r (Called e (OPEN asked wanted) room) name format made moves offers is-open =
-      let all = both-true (same asked name && eqb (socketOf (e .flow)) (offeredSocket (r .flow))) (eqb (length wanted) 0 || same wanted format) offers in
+  open-source : (end : End) (r : Endpoint) (m : Packet) → Sort m → (name format : List ℕ) {seen phase n next count : ℕ} → Proper flow limit serverFlow (across end) m
+      → Moved (roleOf (across end)) seen phase n (movesLike m) (typeDataIn m) next count → offeredIn m r name format ≡ true → isOpen (movesLike m) ≡ true → producing end (r .flow) ≡ from
+  open-source Client r _ (an-open e asked wanted room) name format made moves offered is = absurd (clients-open moves)
+  open-source Server r _ (an-open e asked wanted room) name format made moves offered is =
+      let all = both-true (same asked name && eqb (socketOf (e .flow)) (offeredSocket (r .flow))) (eqb (length wanted) 0 || same wanted format) offered in
       let pipe = both-true (same asked name) (eqb (socketOf (e .flow)) (offeredSocket (r .flow))) (all .0) in
       offered-source (r .flow) (e .flow) (eqb-true _ _ (pipe .1)) ∙ ap (producing Client) (made .flows)
-  open-source end r (Called e (READY count) room) name format made moves offers is-open = let z : _≡_ {A = ℕ} 0 1 = cc in absurd (omega arith)
-  open-source end r (Called e (DATA type-data ask body) room) name format made moves offers is-open = let z : _≡_ {A = ℕ} 0 1 = cc in absurd (omega arith)
-  open-source end r (Called e (NOOP type-data ask) room) name format made moves offers is-open = let z : _≡_ {A = ℕ} 0 1 = cc in absurd (omega arith)
-  open-source end r (Called e (CLOSE code) room) name format made moves offers is-open = let z : _≡_ {A = ℕ} 0 1 = cc in absurd (omega arith)
-  open-source end r (Confirms message type-data) name format made moves offers is-open = let z : _≡_ {A = ℕ} 0 1 = cc in absurd (omega arith)
-  open-source end r (Closes code) name format made moves offers is-open = let z : _≡_ {A = ℕ} 0 1 = cc in absurd (omega arith)
+  open-source end r m (another later offers stays) name format made moves offered is = let z : _≡_ {A = ℕ} 0 1 = cc in absurd (omega arith)
 
   module _ (end : End) (x y : Side Endpoint) (p q : List Packet) (m : Packet) (linked : Linked flow limit serverFlow end x y p (m ∷ q)) where
     abbrev stage : Stage
@@ -190,7 +173,7 @@ module _ (flow limit serverFlow : ℕ) where
           queued = refl;
           proper = there .proper .1;
           terms = there .terms;
-          counted = record { in-all = there .counted .in-all; in-newest = there .counted .in-newest };
+          counted = there .counted;
         }
 
     module _ (going : x .ending ≡ Going) where
@@ -214,7 +197,7 @@ module _ (flow limit serverFlow : ℕ) where
         moves = row-moved (roleOf (across end)) (other (x .self .flow)) (x .self .phase) (x .self .n) (movesLike m) (typeDataIn m) (phaseIn a) (nIn a) (rw (other-role end) leads)
 
         data-limit : movesLike m ≡ Data → x .self .limit ≡ limit
-        data-limit bears = linked .here .terms (hearer-knows end (λ is-open. let z : _≡_ {A = ℕ} 0 1 = cc in omega arith) moves) .limited
+        data-limit bears = linked .here .terms (hearer-knows end (ap isOpen bears) moves) .limited
 
         pub head-taken : (name format : List ℕ) → offeredIn m (x .self) name format ≡ true → Taken end (x .self) m name format (phaseIn a) (nIn a) later
         head-taken name format offers =
@@ -229,10 +212,10 @@ module _ (flow limit serverFlow : ℕ) where
             })
 
         -- a packet that was heard
-        taken-linked : (next : Endpoint) → Meets from end a p (standing y) q → (movesLike m ≡ Open → producing end (x .self .flow) ≡ from)
+        taken-linked : (next : Endpoint) → Meets from end a p (standing y) q → (isOpen (movesLike m) ≡ true → producing end (x .self .flow) ≡ from)
             → Comes (x .self) (phaseIn a) (nIn a) (limitAfter m (x .self .limit)) next → ((phaseIn a ≡ shut → ⊥) → awaited next ≡ later)
             → Linked flow limit serverFlow end
-            (taking x (dataIn m) (agreement (across end) (movesLike m) (typeDataIn m)) (map bytesIn (answersIn m)) (closedTo (movesLike m) Going) next)
+            (taking x (dataIn m) (agreement (across end) (movesLike m) (typeDataIn m)) (map bytesIn (answersIn m)) (endedBy HeardClose (movesLike m) Going) next)
             (withQueue y (map bytesIn q)) (p ++ answersIn m) q
         taken-linked next meets produces comes awaits =
             let after = hearer-stands from end stage m a next hears (comes .phased) (comes .counted) in
@@ -252,7 +235,7 @@ module _ (flow limit serverFlow : ℕ) where
         -- what the world notes of it
         taken-noted : (name format : List ℕ) → Taken end (x .self) m name format (phaseIn a) (nIn a) later
             → afterBundle end x (bytesIn m) (hearOf (x .self) (bytesIn m) name format)
-            ≡ taking x (dataIn m) (agreement (across end) (movesLike m) (typeDataIn m)) (map bytesIn (answersIn m)) (closedTo (movesLike m) Going) (hearOf (x .self) (bytesIn m) name format .next)
+            ≡ taking x (dataIn m) (agreement (across end) (movesLike m) (typeDataIn m)) (map bytesIn (answersIn m)) (endedBy HeardClose (movesLike m) Going) (hearOf (x .self) (bytesIn m) name format .next)
         taken-noted name format taken = simp (taken .answered, taken .carried, taken .agrees, taken .replied, going, taken .ends Going)
 
         pub heard-linked : (name format : List ℕ) → offeredIn m (x .self) name format ≡ true → Meets from end a p (standing y) q
@@ -260,7 +243,7 @@ module _ (flow limit serverFlow : ℕ) where
         heard-linked name format offered meets =
             let taken = head-taken name format offered in
             subst (λ (after : Side Endpoint). Linked flow limit serverFlow end after (withQueue y (map bytesIn q)) (p ++ answersIn m) q) (sym (taken-noted name format taken))
-            (taken-linked (hearOf (x .self) (bytesIn m) name format .next) meets (open-source end (x .self) m name format (linked .there .proper .0) moves offered) (taken .comes) (taken .awaits))
+            (taken-linked (hearOf (x .self) (bytesIn m) name format .next) meets (open-source end (x .self) m (sort m) name format (linked .there .proper .0) moves offered) (taken .comes) (taken .awaits))
 
       -- an OPEN that was refused, with the code of its CLOSE
       pub refused-linked : (code : ℕ) → code < 256 ^ 2 → kindOf (movesLike m) ≡ Token

@@ -11,7 +11,7 @@ use Rattle.endpoint.specs.Record.{producer, batch, shut}
 use Rattle.sending.specs.Calls.{Call, messageOf, typeDataOf, written}
 use Rattle.sending.specs.Sending.{sendOf}
 use Rattle.machine.specs.Good.{Fits}
-use Rattle.session.specs.World.{End, across, Ending, Going, Side, having, closedBy}
+use Rattle.session.specs.World.{End, across, Ending, Going, Side, having, endedBy, WroteClose}
 use Rattle.session.specs.Turns.{Packet, Called, At, IsOpen, stands, standing, roleOf, producing}
 use Rattle.session.specs.Invariant.{Sides, Linked, source}
 use Rattle.session.proofs.Table.{Moved, opens, offers, takes, gives, rests, closes, row-moved, row-sends, landing, landing-at}
@@ -26,7 +26,7 @@ at-lands : (e : Endpoint) {next count : ℕ} → e .phase ≡ next → e .n ≡ 
 at-lands e {next} {count} phased counted low = rw (phased, counted) (landing-at next count low)
 
 writer-stands : (e : Endpoint) {role flow phase n type-data next count : ℕ} {message : MessageType} → e .phase ≡ next → e .n ≡ count
-    → Moved role flow phase n message type-data next count → stands (closedBy message Going) e ≡ landing next count
+    → Moved role flow phase n message type-data next count → stands (endedBy WroteClose message Going) e ≡ landing next count
 writer-stands e phased counted (opens role begins) = at-lands e phased counted (omega arith)
 writer-stands e phased counted (offers differs low high begins) = at-lands e phased counted (begun-low (omega arith) begins)
 writer-stands e phased counted (takes role offered few begins) = at-lands e phased counted (begun-low (omega arith) begins)
@@ -69,7 +69,7 @@ module _ (flow limit serverFlow : ℕ) where
         let moves = row-moved (roleOf end) (x .self .flow) (x .self .phase) (x .self .n) (messageOf call) (typeDataOf call) (sent .phase) (sent .n) leads in
         let going = is-going (x .ending) (x .self .phase) (here .ends) (moved-low moves) in
         let knows = here .terms (sender-knows end moves) in
-        let after : stands (closedBy (messageOf call) (x .ending)) (sendOf (x .self) call room .next) ≡ landing (sent .phase) (sent .n) =
+        let after : stands (endedBy WroteClose (messageOf call) (x .ending)) (sendOf (x .self) call room .next) ≡ landing (sent .phase) (sent .n) =
         rw going (writer-stands (sendOf (x .self) call room .next) (sent .comes .phased) (sent .comes .counted) moves) in
         let was : standing x ≡ At (record { phase = x .self .phase; n = x .self .n }) = ap (λ (ending : Ending). stands ending (x .self)) going in
         let was-open : IsOpen (standing x) = rw was tt in

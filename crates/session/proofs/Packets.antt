@@ -30,7 +30,7 @@ use Rattle.machine.specs.Good.{Sound, Fits}
 use Rattle.machine.specs.Round.{isOffered}
 use Rattle.machine.proofs.Good.{sent-good}
 use Rattle.machine.proofs.Rows.{row-sound}
-use Rattle.session.specs.World.{End, across, Ending, WroteClose, Side, agreement, agreementHeard, closedTo, endingHeard, endingReplied, dataHeard, replies}
+use Rattle.session.specs.World.{End, across, Ending, WroteClose, Side, agreement, agreementHeard, endingHeard, endingReplied, dataHeard, replies, endedBy, HeardClose}
 use Rattle.session.specs.Turns.{Packet, Called, Confirms, Closes, bytesIn, movesLike, typeDataIn, askedIn, confirmedIn, dataIn, entryFor}
 use Rattle.session.specs.Demand.{Understood}
 use Rattle.session.specs.Invariant.{Proper}
@@ -74,13 +74,36 @@ offeredIn (Called e call room) r name format = isOffered e call r name format
 offeredIn (Confirms message type-data) r name format = true
 offeredIn (Closes code) r name format = true
 
+-- a packet is an OPEN, or another one, which is always offered and leaves the limit as it is
+
+abbrev pub isOpen : MessageType → Bool
+isOpen Open = true
+isOpen Ready = false
+isOpen Noop = false
+isOpen Data = false
+isOpen Close = false
+
+pub data Sort : Packet → Type 0 where
+  an-open : (e : Endpoint) (asked wanted : List ℕ) (room : ℕ) → Sort (Called e (OPEN asked wanted) room)
+  another : {m : Packet} → isOpen (movesLike m) ≡ false → ((r : Endpoint) (name format : List ℕ) → offeredIn m r name format ≡ true) → ((limit : ℕ) → limitAfter m limit ≡ limit)
+      → Sort m
+
+pub sort : (m : Packet) → Sort m
+sort (Called e (OPEN name format) room) = an-open e name format room
+sort (Called e (READY count) room) = another refl (λ r name format. refl) (λ limit. refl)
+sort (Called e (DATA type-data ask body) room) = another refl (λ r name format. refl) (λ limit. refl)
+sort (Called e (NOOP type-data ask) room) = another refl (λ r name format. refl) (λ limit. refl)
+sort (Called e (CLOSE code) room) = another refl (λ r name format. refl) (λ limit. refl)
+sort (Confirms message type-data) = another refl (λ r name format. refl) (λ limit. refl)
+sort (Closes code) = another refl (λ r name format. refl) (λ limit. refl)
+
 -- a packet that is heard: the data, the agreement and the ending that the world notes, the confirmation written, and the record afterwards
 pub record Taken (end : End) (r : Endpoint) (m : Packet) (name format : List ℕ) (phase n : ℕ) (rest : List Entry) : Type 0 where
   pub message : Heard
   pub answered : hearOf r (bytesIn m) name format .answer ≡ Answer·Heard message
   pub carried : dataHeard (bytesIn m) (Answer·Heard message) ≡ dataIn m
   pub agrees : agreementHeard end (Answer·Heard message) ≡ agreement (across end) (movesLike m) (typeDataIn m)
-  pub ends : (ending : Ending) → endingReplied (hearOf r (bytesIn m) name format .reply) (endingHeard (Answer·Heard message) ending) ≡ closedTo (movesLike m) ending
+  pub ends : (ending : Ending) → endingReplied (hearOf r (bytesIn m) name format .reply) (endingHeard (Answer·Heard message) ending) ≡ endedBy HeardClose (movesLike m) ending
   pub replied : replies (hearOf r (bytesIn m) name format .reply) ≡ map bytesIn (answersIn m)
   pub comes : Comes r phase n (limitAfter m (r .limit)) (hearOf r (bytesIn m) name format .next)
   pub awaits : (phase ≡ shut → ⊥) → awaited (hearOf r (bytesIn m) name format .next) ≡ rest

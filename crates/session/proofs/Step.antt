@@ -1,5 +1,5 @@
 -- Every call keeps the invariant, and a fresh client and a fresh server have it. Assumes nothing.
-use mathlib.Core.Path.{_≡_, refl, sym, ap, subst}
+use mathlib.Core.Path.{_≡_, refl, sym, _∙_, ap, subst}
 use Prim.Native.Nat.{ℕ}
 use mathlib.Core.List.{List, [], _∷_, _++_, map, append-nil}
 use mathlib.Core.Bool.{Bool, true, false, cond}
@@ -13,16 +13,16 @@ use Rattle.receiving.specs.declared.Received.{Received}
 use Rattle.receiving.specs.Hearing.{hearOf}
 use Rattle.receiving.specs.Receiving.{answerNumber, receivedOf}
 use Rattle.receiving.specs.Refusing.{unchanged}
-use Rattle.sending.specs.Calls.{Call, OPEN, READY, DATA, NOOP, CLOSE, written}
+use Rattle.sending.specs.Calls.{Call, OPEN, written}
 use Rattle.sending.specs.Sending.{sendOf}
 use Rattle.machine.specs.Good.{Sound, Fits}
 use Rattle.session.specs.World.{End, Client, Server, across, Ending, Going, HeardClose, WroteClose, Side, World, side, joined, having, taking, withQueue, Event, sends, receives, AllFit, afterSend, afterBundle, isKept, afterReceive, step}
-use Rattle.session.specs.Turns.{Packet, Called, Confirms, Closes, bytesIn, Standing, At, Shut, Gone, stands, standing, Hears, late, Meets}
+use Rattle.session.specs.Turns.{Packet, Called, Closes, bytesIn, Standing, At, Shut, Gone, stands, standing, Hears, late, Meets}
 use Rattle.session.specs.Demand.{Understood, heard, after-own-close}
 use Rattle.session.specs.Invariant.{Ends, source, Linked, Invariant, StepKeeps}
 use Rattle.session.proofs.Table.{phaseIn, nIn}
 use Rattle.session.proofs.Turns.{hears-meets}
-use Rattle.session.proofs.Packets.{OpenRefused, answersIn, offeredIn}
+use Rattle.session.proofs.Packets.{OpenRefused, answersIn, offeredIn, Sort, an-open, another, sort}
 use Rattle.session.proofs.Unoffered.{open-refused}
 use Rattle.session.proofs.Link.{across-linked, sent-linked}
 use Rattle.session.proofs.Hearing.{leads, clients-open, moves, head-taken, heard-linked, refused-linked, late-linked}
@@ -143,21 +143,18 @@ module _ (flow limit serverFlow : ℕ) where
         }
 
   -- a packet that is not offered is an OPEN to a server
-  unoffered-delivered : (end : End) (x y : Side Endpoint) (p q : List Packet) (m : Packet) (linked : Linked flow limit serverFlow end x y p (m ∷ q)) (name format : List ℕ)
+  unoffered-delivered : (end : End) (x y : Side Endpoint) (p q : List Packet) (m : Packet) → Sort m → (linked : Linked flow limit serverFlow end x y p (m ∷ q)) (name format : List ℕ)
       → (going : x .ending ≡ Going) → (a : Standing) → Hears from end (At (record { phase = x .self .phase; n = x .self .n })) m a
       → offeredIn m (x .self) name format ≡ false → Delivered end x y m q name format
-  unoffered-delivered Client x y p q (Called e (OPEN asked wanted) room) linked name format going a hears other =
-      absurd (clients-open (moves flow limit serverFlow Client x y p q (Called e (OPEN asked wanted) room) linked going a hears))
-  unoffered-delivered Server x y p q (Called e (OPEN asked wanted) sent-room) linked name format going a hears other =
+  unoffered-delivered Client x y p q m (an-open e asked wanted sent-room) linked name format going a hears other = absurd (clients-open (moves flow limit serverFlow Client x y p q m linked going a hears))
+  unoffered-delivered Server x y p q m (an-open e asked wanted sent-room) linked name format going a hears other =
       open-delivered Server x y p q name format e asked wanted sent-room linked going
       (λ room. open-refused flow limit serverFlow Client x e asked wanted sent-room name format room (phaseIn a) (nIn a) (linked .here .sound) (linked .here .role) (linked .there .proper .0)
-      (rw (linked .here .role) (leads flow limit serverFlow Server x y p q (Called e (OPEN asked wanted) sent-room) linked going a hears)) other)
-  unoffered-delivered end x y p q (Called e (READY count) room) linked name format going a hears other = let z : _≡_ {A = ℕ} 0 1 = cc in absurd (omega arith)
-  unoffered-delivered end x y p q (Called e (DATA type-data ask body) room) linked name format going a hears other = let z : _≡_ {A = ℕ} 0 1 = cc in absurd (omega arith)
-  unoffered-delivered end x y p q (Called e (NOOP type-data ask) room) linked name format going a hears other = let z : _≡_ {A = ℕ} 0 1 = cc in absurd (omega arith)
-  unoffered-delivered end x y p q (Called e (CLOSE code) room) linked name format going a hears other = let z : _≡_ {A = ℕ} 0 1 = cc in absurd (omega arith)
-  unoffered-delivered end x y p q (Confirms message type-data) linked name format going a hears other = let z : _≡_ {A = ℕ} 0 1 = cc in absurd (omega arith)
-  unoffered-delivered end x y p q (Closes code) linked name format going a hears other = let z : _≡_ {A = ℕ} 0 1 = cc in absurd (omega arith)
+      (rw (linked .here .role) (leads flow limit serverFlow Server x y p q m linked going a hears)) other)
+  unoffered-delivered end x y p q m (another later offers stays) linked name format going a hears other =
+      let clash : true ≡ false = sym (offers (x .self) name format) ∙ other in
+      let z : _≡_ {A = ℕ} 0 1 = cc in
+      absurd (omega arith)
 
   module _ (end : End) (x y : Side Endpoint) (p q : List Packet) (m : Packet) (linked : Linked flow limit serverFlow end x y p (m ∷ q)) (name format : List ℕ) where
     pub head-delivered : Delivered end x y m q name format
@@ -168,7 +165,7 @@ module _ (flow limit serverFlow : ℕ) where
         by-offer : x .ending ≡ Going → (a : Standing) → Hears from end (At (record { phase = x .self .phase; n = x .self .n })) m a → Meets from end a p (standing y) q
             → (t : Bool) → offeredIn m (x .self) name format ≡ t → Delivered end x y m q name format
         by-offer going a hears meets true offered = heard-delivered end x y p q m linked name format going a hears meets offered
-        by-offer going a hears meets false other = unoffered-delivered end x y p q m linked name format going a hears other
+        by-offer going a hears meets false other = unoffered-delivered end x y p q m (sort m) linked name format going a hears other
 
         by-ending : (ending : Ending) → x .ending ≡ ending → (a : Standing) → Hears from end (stands ending (x .self)) m a → Meets from end a p (standing y) q
             → Delivered end x y m q name format

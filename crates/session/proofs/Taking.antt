@@ -34,7 +34,7 @@ use Rattle.machine.specs.Good.{Sound}
 use Rattle.machine.specs.Round.{ContentSent, afterHearing, confirmation, isReply, messageSent, messageWith}
 use Rattle.machine.proofs.Replies.{replies-heard}
 use Rattle.machine.proofs.Round.{heard-as-sent, own-flags}
-use Rattle.session.specs.World.{End, Client, Server, across, Ending, agreement, closedTo, dataAt, dataSent, endingReplied, replies}
+use Rattle.session.specs.World.{End, Client, Server, across, Ending, agreement, dataAt, dataSent, endingReplied, replies, endedBy, HeardClose}
 use Rattle.session.specs.Turns.{Called, Closes, Confirms, Packet, bytesIn, entryFor}
 use Rattle.session.proofs.Packets.{Comes, MayTake, Taken, answersIn, limitAfter, row-awaited, row-comes}
 
@@ -74,7 +74,7 @@ call-data e (CLOSE code) content sent = simp sent
 
 -- a confirmation ends nothing
 
-confirming-ends : (call : Call) (ending : Ending) → endingReplied (confirmation call) (closedTo (messageOf call) ending) ≡ closedTo (messageOf call) ending
+confirming-ends : (call : Call) (ending : Ending) → endingReplied (confirmation call) (endedBy HeardClose (messageOf call) ending) ≡ endedBy HeardClose (messageOf call) ending
 confirming-ends (OPEN name format) ending = refl
 confirming-ends (READY count) ending = refl
 confirming-ends (DATA type-data true body) ending = refl
@@ -129,7 +129,7 @@ reply-small r sound Close flags type-data reply = refl
 record Quiets (message : MessageType) : Type 0 where
   confirming : confirms message ackReply ≡ true
   agrees : (end : End) (type-data : ℕ) → agreement end message type-data ≡ agreement end Noop type-data
-  ends : (ending : Ending) → closedTo message ending ≡ ending
+  ends : (ending : Ending) → endedBy HeardClose message ending ≡ ending
 
 nothing-agreed : (end : End) (type-data : ℕ) → agreement end Data type-data ≡ agreement end Noop type-data
 nothing-agreed Client type-data = refl

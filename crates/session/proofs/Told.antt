@@ -37,7 +37,7 @@ use Rattle.receiving.specs.Refusing.{closeCode, refused, silent, unchanged}
 use Rattle.fbdp.specs.Blocks.{answerSlots, heardSlots, replyLength}
 use Rattle.machine.specs.Refusals.{Closing, Staying}
 use Rattle.machine.proofs.Stages.{Passed, received-holds}
-use Rattle.session.specs.World.{End, Client, Server, across, Ending, HeardClose, WroteClose, agreement, agreementHeard, closedBy, closedTo, dataAt, dataHeard, endingHeard, endingReplied, replies}
+use Rattle.session.specs.World.{End, Client, Server, across, Ending, HeardClose, WroteClose, agreement, agreementHeard, dataAt, dataHeard, endingHeard, endingReplied, replies, endedBy}
 use Rattle.session.specs.Blocks.{agreementTold, dataTold, endingTold, repliesTold}
 
 -- the slots of what a receive came to
@@ -90,15 +90,15 @@ agreement-told end heard reply = go end (heard .message)
 -- an end is told by its type, and a confirmation ends nothing
 ending-told : (m : Message) (content : Content) (reply : ℕ) (before : Ending) →
     endingTold 0 (heardSlots (record { message = m .message; flags = m .flags; «type_data» = m .«type_data»; frames = m .frames; content = content }) reply) before
-    ≡ endingReplied (replyTo m) (closedTo (m .message) before)
+    ≡ endingReplied (replyTo m) (endedBy HeardClose (m .message) before)
 unfolding heardSlots replyTo
 ending-told m content reply before = go (m .message)
   where
-    chosen : (message : MessageType) (t : Bool) → before ≡ closedBy message before → before ≡ endingReplied (cond t (Frame message ackReply (m .«type_data»)) Nothing) before
+    chosen : (message : MessageType) (t : Bool) → before ≡ endedBy WroteClose message before → before ≡ endingReplied (cond t (Frame message ackReply (m .«type_data»)) Nothing) before
     chosen message true stays = stays
     chosen message false stays = refl
 
-    go : (message : MessageType) → cond (eqb (typeOf message) (typeOf Close)) HeardClose before ≡ endingReplied (cond (asks message (m .flags)) (Frame message ackReply (m .«type_data»)) Nothing) (closedTo message before)
+    go : (message : MessageType) → cond (eqb (typeOf message) (typeOf Close)) HeardClose before ≡ endingReplied (cond (asks message (m .flags)) (Frame message ackReply (m .«type_data»)) Nothing) (endedBy HeardClose message before)
     go Open = refl
     go Ready = refl
     go Noop = chosen Noop (eqb (m .flags) ackRequest) refl

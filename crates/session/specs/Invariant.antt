@@ -36,9 +36,10 @@ Ends WroteClose phase = phase ≡ shut
 abbrev pub left : ℕ → ℕ → ℕ
 left phase n = cond (eqb phase batch) n 0
 
-pub record Counted (x : Side Endpoint) : Type 0 where
-  pub in-all : length (x .sent) + length (x .accepted) + left (x .self .phase) (x .self .n) ≤ sum (x .agreed)
-  pub in-newest : length (x .batch) + left (x .self .phase) (x .self .n) ≤ newest (x .agreed)
+-- of all batches that were agreed, and of the newest: so many data, with what is left, are no more
+pub record Within (agreed : List ℕ) (all recent phase n : ℕ) : Type 0 where
+  pub in-all : all + left phase n ≤ sum agreed
+  pub in-newest : recent + left phase n ≤ newest agreed
 
 -- an end at a that wrote p awaits these entries: first those that q confirms, which the one at b wrote, and then those that p asks for; once
 -- the other has closed, the latter are lost
@@ -97,7 +98,7 @@ module _ (flow limit serverFlow : ℕ) where
     pub queued : x .queue ≡ map bytesIn p
     pub proper : AllProper end p
     pub terms : Knows end (x .self .phase) → Terms end (x .self)
-    pub counted : Counted x
+    pub counted : Within (x .agreed) (length (x .sent) + length (x .accepted)) (length (x .batch)) (x .self .phase) (x .self .n)
 
   -- an end x that wrote p, and y across from it that wrote q
   pub record Linked (end : End) (x y : Side Endpoint) (p q : List Packet) : Type 0 where

@@ -102,29 +102,21 @@ abbrev pub since : List ℕ → List Datum → List Datum
 since [] batch = batch
 since (count ∷ rest) batch = []
 
--- the end of a message's writer
-abbrev pub closedBy : MessageType → Ending → Ending
-closedBy Open ending = ending
-closedBy Ready ending = ending
-closedBy Noop ending = ending
-closedBy Data ending = ending
-closedBy Close ending = WroteClose
+-- a CLOSE ends the one who wrote it and the one who heard it
+abbrev pub endedBy : Ending → MessageType → Ending → Ending
+endedBy how Open before = before
+endedBy how Ready before = before
+endedBy how Noop before = before
+endedBy how Data before = before
+endedBy how Close before = how
 
 abbrev pub endingReplied : Reply → Ending → Ending
-endingReplied Reply·Nothing ending = ending
-endingReplied (Frame message flags type-data) ending = closedBy message ending
-
--- and of its hearer
-abbrev pub closedTo : MessageType → Ending → Ending
-closedTo Open ending = ending
-closedTo Ready ending = ending
-closedTo Noop ending = ending
-closedTo Data ending = ending
-closedTo Close ending = HeardClose
+endingReplied Reply·Nothing before = before
+endingReplied (Frame message flags type-data) before = endedBy WroteClose message before
 
 abbrev pub endingHeard : Answer → Ending → Ending
-endingHeard (Answer·Heard heard) ending = closedTo (heard .message) ending
-endingHeard (Refused number) ending = ending
+endingHeard (Answer·Heard heard) before = endedBy HeardClose (heard .message) before
+endingHeard (Refused number) before = before
 
 -- the bundles of a reply
 abbrev pub replies : Reply → List (List ℕ)
@@ -155,7 +147,7 @@ module _ {A : Type 0} where
         accepted = x .accepted;
         agreed = agreement end (messageOf call) (typeDataOf call) ++ x .agreed;
         batch = since (agreement end (messageOf call) (typeDataOf call)) (x .batch);
-        ending = closedBy (messageOf call) (x .ending);
+        ending = endedBy WroteClose (messageOf call) (x .ending);
       }
 
   -- an end that accepted these data, agreed to these batches and replied with these bundles, and is another one since
