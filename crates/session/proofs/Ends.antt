@@ -15,18 +15,9 @@ use Rattle.machine.proofs.Rows.{closed-sound}
 use Rattle.session.specs.World.{End, Client, Server, across, Ending, Going, HeardClose, WroteClose, Side, having, taking, agreement, endedBy}
 use Rattle.session.specs.Turns.{Packet, Called, Confirms, Closes, bytesIn, movesLike, typeDataIn, dataIn, roleOf, producing}
 use Rattle.session.specs.Invariant.{Ends, Knows, Terms, source, AllProper, Proper, Sides}
-use Rattle.session.proofs.Table.{Begun, nothing, something, Moved, opens, offers, takes, gives, rests, closes, row-moved}
+use Rattle.session.proofs.Table.{Moved, opens, offers, takes, gives, rests, closes, row-moved, begun-low, moved-low}
 use Rattle.session.proofs.Counts.{sent-counted, heard-counted, closed-counted}
 use Rattle.session.proofs.Packets.{SentOn, Comes, answersIn, limitAfter, isOpen, Sort, an-open, another, sort}
-
--- no row leads on from phase 5
-pub moved-low : {role flow phase n type-data next count : ℕ} {message : MessageType} → Moved role flow phase n message type-data next count → phase ≤ batch
-moved-low (opens role begins) = omega arith
-moved-low (offers differs low high begins) = omega arith
-moved-low (takes role offered few begins) = omega arith
-moved-low (gives produces batched begins) = omega arith
-moved-low (rests low high) = high
-moved-low (closes low high) = high
 
 -- an end that is not in phase 5 has not closed
 pub is-going : (ending : Ending) (phase : ℕ) → Ends ending phase → phase ≤ batch → ending ≡ Going
@@ -35,10 +26,6 @@ is-going HeardClose phase ends low = absurd (omega (arith, ends))
 is-going WroteClose phase ends low = absurd (omega (arith, ends))
 
 -- where a row leads, the writer and the hearer of its message have closed in phase 5 and nowhere else
-
-pub begun-low : {begins count next m : ℕ} → begins ≤ batch → Begun begins count next m → next ≤ batch
-begun-low low (nothing none) = omega arith
-begun-low low (something some) = low
 
 moved-ends : (how : Ending) → Ends how shut → {role flow phase n type-data next count : ℕ} {message : MessageType} → Moved role flow phase n message type-data next count
     → Ends (endedBy how message Going) next

@@ -14,11 +14,11 @@ use Rattle.machine.specs.Good.{Fits}
 use Rattle.session.specs.World.{End, across, Ending, Going, Side, having, endedBy, WroteClose}
 use Rattle.session.specs.Turns.{Packet, Called, At, IsOpen, stands, standing, roleOf, producing}
 use Rattle.session.specs.Invariant.{Sides, Linked, source}
-use Rattle.session.proofs.Table.{Moved, opens, offers, takes, gives, rests, closes, row-moved, row-sends, landing, landing-at}
+use Rattle.session.proofs.Table.{Moved, opens, offers, takes, gives, rests, closes, row-moved, row-sends, begun-low, moved-low, landing, landing-at}
 use Rattle.session.proofs.Turns.{across-meets, across-twice, sends-meets}
 use Rattle.session.proofs.Streams.{sends-awaits, across-awaits, sends-delivers, across-delivers}
 use Rattle.session.proofs.Packets.{SentOn, sent-on}
-use Rattle.session.proofs.Ends.{is-going, moved-low, begun-low, sender-knows, sent-sides}
+use Rattle.session.proofs.Ends.{is-going, sender-knows, sent-sides}
 
 -- where an end stands that sent a message
 

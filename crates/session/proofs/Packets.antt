@@ -1,31 +1,30 @@
 -- What a send puts on its way, and what an end makes of the packet that it receives: the bytes of calls, confirmations and CLOSEs. Assumes
 -- nothing.
 use mathlib.Core.Path.{_≡_, _∙_, ap, refl, subst, sym}
-use Prim.Native.Nat.{ℕ, _+_, _*_, _-_, _<_, _≤_, _^_}
+use Prim.Native.Nat.{ℕ, _+_, _*_, _<_, _^_}
 use mathlib.Core.List.{List, [], _∷_, _++_, append-nil, map}
-use mathlib.Core.Bool.{Bool, true, false, cond, _&&_, _||_}
+use mathlib.Core.Bool.{Bool, true, false, cond, _&&_}
 use native.Mathlib.Omega.{arith}
 use lib.Dec.{eqb, leb, ltb}
-use borrow.Author.Tests.{eqb-false, eqb-true, leb-false, leb-true, ne-eqb}
+use borrow.Author.Tests.{eqb-true, leb-false, ne-eqb}
 use Rattle.bytes_be.specs.Part.{putAt}
-use Rattle.bytes_be.proofs.Tests.{both-true}
 use Rattle.control.specs.declared.MessageType.{MessageType}
 use Rattle.control.specs.declared.MessageType.the-variants.{Open, Ready, Noop, Data, Close}
 use Rattle.endpoint.specs.declared.Endpoint.{Endpoint}
 use Rattle.endpoint.specs.declared.Entry.{Entry}
-use Rattle.endpoint.specs.Record.{asked, atPhase, awaited, batch, capacity, client, closed, entryBytes, fresh, idle, offer, opening, producer, shut}
+use Rattle.endpoint.specs.Record.{asked, atPhase, awaited, capacity, closed, entryBytes, shut}
 use Rattle.endpoint.proofs.Awaited.{asked-awaited, phase-awaited}
 use Rattle.table.specs.declared.Row.{Row}
 use Rattle.table.specs.declared.Row.the-variants.{NotAllowed, AboveOffer, To}
-use Rattle.table.specs.Table.{aboveOffer, allowed, atRow, begun, closeRow, dataRow, moved, noopRow, notAllowed, openRow, other, readyRow, rowOf, upTo}
+use Rattle.table.specs.Table.{aboveOffer, allowed, atRow, moved, notAllowed, other, rowOf}
 use Rattle.receiving.specs.declared.Heard.{Heard}
 use Rattle.receiving.specs.declared.Answer.the-variants.{Heard as Answer·Heard, Refused}
 use Rattle.receiving.specs.Hearing.{hearOf}
 use Rattle.sending.specs.declared.Outgoing.{Outgoing}
 use Rattle.sending.specs.declared.Sent.{Sent}
 use Rattle.sending.specs.Calls.{Call, OPEN, READY, DATA, NOOP, CLOSE, messageOf, typeDataOf, askOf, outgoing}
-use Rattle.sending.specs.Sending.{askedBy, isFull, numberFor, sendOf, sendRow, sentBy, unsent}
-use Rattle.sending.proofs.Decided.{accepted-passed}
+use Rattle.sending.specs.Sending.{askedBy, isFull, sendOf, sendRow}
+use Rattle.sending.proofs.Decided.{accepted-passed, accepted-sent}
 use Rattle.machine.specs.Good.{Sound, Fits}
 use Rattle.machine.specs.Round.{isOffered}
 use Rattle.machine.proofs.Good.{sent-good}
@@ -34,6 +33,7 @@ use Rattle.session.specs.World.{End, across, Ending, WroteClose, Side, a
 use Rattle.session.specs.Turns.{Packet, Called, Confirms, Closes, bytesIn, movesLike, typeDataIn, askedIn, confirmedIn, dataIn, entryFor}
 use Rattle.session.specs.Demand.{Understood}
 use Rattle.session.specs.Invariant.{Proper}
+use Rattle.session.proofs.Table.{row-moved, moved-empties}
 
 -- the limit of an end that has heard a packet
 abbrev pub limitAfter : Packet → ℕ → ℕ
@@ -130,41 +130,6 @@ pub record OpenRefused (x : Side Endpoint) (s name format : List ℕ) (room : �
 
 -- ---- where a row leads
 
--- a row that leads to phase 5 leaves no n
-abbrev Emptied : Row → Type 0
-Emptied NotAllowed = Unit
-Emptied AboveOffer = Unit
-Emptied (To phase n) = phase ≡ shut → n ≡ 0
-
-allowed-emptied : (t : Bool) (row : Row) → (t ≡ true → Emptied row) → Emptied (allowed t row)
-allowed-emptied true row there = there refl
-allowed-emptied false row there = tt
-
-up-to-emptied : (t : Bool) (row : Row) → Emptied row → Emptied (upTo t row)
-up-to-emptied true row there = there
-up-to-emptied false row there = tt
-
-begun-emptied : (phase count : ℕ) → phase ≤ batch → Emptied (begun phase count)
-unfolding begun
-begun-emptied phase count early = go (eqb count 0)
-  where
-    go : (t : Bool) → Emptied (cond t (To idle 0) (To phase count))
-    go true = λ same. refl
-    go false = λ same. absurd (omega arith)
-
-row-emptied : (role flow phase n : ℕ) (message : MessageType) (type-data : ℕ) → Emptied (rowOf role flow phase n message type-data)
-unfolding openRow readyRow dataRow noopRow closeRow
-row-emptied role flow phase n Open type-data = allowed-emptied (eqb role client && eqb phase fresh) (To opening 0) (λ there same. refl)
-row-emptied role flow phase n Ready type-data = go (eqb role client)
-  where
-    go : (t : Bool) → Emptied (cond t (allowed (eqb phase offer) (upTo (leb type-data n) (begun batch type-data))) (allowed (eqb phase opening || eqb phase idle) (begun offer type-data)))
-    go true = allowed-emptied (eqb phase offer) _ (λ there. up-to-emptied (leb type-data n) _ (begun-emptied batch type-data (omega arith)))
-    go false = allowed-emptied (eqb phase opening || eqb phase idle) _ (λ there. begun-emptied offer type-data (omega arith))
-row-emptied role flow phase n Noop type-data =
-    allowed-emptied (leb idle phase && leb phase batch) (To phase n) (λ there same. absurd (omega (arith, leb-true phase batch (both-true (leb idle phase) (leb phase batch) there .1))))
-row-emptied role flow phase n Data type-data = allowed-emptied (eqb flow producer && eqb phase batch) _ (λ there. begun-emptied batch (n - 1) (omega arith))
-row-emptied role flow phase n Close type-data = allowed-emptied (leb opening phase && leb phase batch) (To shut 0) (λ there same. refl)
-
 module _ (e : Endpoint) (sound : Sound e) (role flow : ℕ) (message : MessageType) (type-data phase n : ℕ) (few : type-data < 256 ^ 2)
     (leads : rowOf role flow (e .phase) (e .n) message type-data ≡ To phase n) where
   -- an endpoint comes to the phase and n of its row, and stays the same in role, flow and limit
@@ -175,7 +140,7 @@ module _ (e : Endpoint) (sound : Sound e) (role flow : ℕ) (message : MessageTy
       go : (t : Bool) → eqb phase shut ≡ t → Sound (cond t (closed e) (atPhase e phase n)) → Comes e phase n (e .limit) (cond t (closed e) (atPhase e phase n))
       go true ends good =
           let same = eqb-true phase shut ends in
-          let none = subst Emptied leads (row-emptied role flow (e .phase) (e .n) message type-data) same in
+          let none = moved-empties (row-moved role flow (e .phase) (e .n) message type-data phase n leads) same in
           record { sound = good; phased = sym same; counted = sym none; role = refl; flow = refl; limited = refl }
       go false goes good = record { sound = good; phased = refl; counted = refl; role = refl; flow = refl; limited = refl }
 
@@ -201,17 +166,6 @@ leads-on : (row : Row) → notAllowed row ≡ false → aboveOffer row ≡ false
 leads-on NotAllowed barred below = let z : _≡_ {A = ℕ} 0 1 = cc in absurd (omega arith)
 leads-on AboveOffer passes above = let z : _≡_ {A = ℕ} 0 1 = cc in absurd (omega arith)
 leads-on (To phase n) passes below = record { phase = phase; n = n; leads = refl }
-
--- the endpoint after a call that was accepted
-next-sent : (e : Endpoint) (o : Outgoing) (room : ℕ) → sentBy e o room .number ≡ 0 → sentBy e o room .next ≡ askedBy (moved e (sendRow e o)) o
-unfolding sentBy
-next-sent e o room = go (eqb (numberFor e o (sendRow e o) room) 0) refl
-  where
-    go : (t : Bool) → eqb (numberFor e o (sendRow e o) room) 0 ≡ t →
-        cond {A = Sent} t (record { number = 0; next = askedBy (moved e (sendRow e o)) o; written = o .length }) (unsent e (numberFor e o (sendRow e o) room)) .number ≡ 0 →
-        cond {A = Sent} t (record { number = 0; next = askedBy (moved e (sendRow e o)) o; written = o .length }) (unsent e (numberFor e o (sendRow e o) room)) .next ≡ askedBy (moved e (sendRow e o)) o
-    go true zero-number none = refl
-    go false differs none = absurd (eqb-false _ 0 differs none)
 
 module _ (e after : Endpoint) (phase n limit : ℕ) (comes : Comes e phase n limit after) (entry : Entry) where
   -- an ask changes the confirmations awaited alone
@@ -244,7 +198,7 @@ sent-on e call room sound fits zero-number =
     let on = leads-on (sendRow e o) (passed .allowed) (passed .below) in
     let after : Endpoint = atRow e (on .phase) (on .n) in
     let next : sendOf e call room .next ≡ cond (askOf call) (asked after entry) after =
-    next-sent e o room zero-number ∙ ap (λ (row : Row). askedBy (moved e row) o) (on .leads) in
+    ap (λ (s : Sent). s .next) (accepted-sent e o room zero-number) ∙ ap (λ (row : Row). askedBy (moved e row) o) (on .leads) in
     let comes = row-comes e sound (e .role) (e .flow) (messageOf call) (typeDataOf call) (on .phase) (on .n) fits (on .leads) in
     record {
       phase = on .phase;

@@ -4,16 +4,13 @@ use Prim.Native.Nat.{ℕ, zero, suc, _-_, _≤_}
 use mathlib.Core.List.{[], _∷_}
 use mathlib.Core.Bool.{Bool, true, false, cond}
 use native.Mathlib.Omega.{arith}
-use lib.Dec.{eqb, leb}
+use lib.Dec.{eqb}
 use lib.ListN.{length}
-use borrow.Author.Tests.{eqb-true, le-ltb, leb-true, ne-eqb}
-use Rattle.bytes_be.proofs.Tests.{both-true}
+use borrow.Author.Tests.{eqb-true, le-ltb, ne-eqb}
 use Rattle.utf8.specs.Text.{table, dueBehind, rest, wellFormed}
-use Rattle.double.specs.Limit.{leastLimit, mostLimit}
 use Rattle.open_write.specs.Frame.{goodName, goodFormat, isGood}
 use Rattle.endpoint.specs.declared.Endpoint.{Endpoint}
 use Rattle.endpoint.specs.Record.{producer, fresh, opening, idle, offer, batch, shut}
-use Rattle.endpoint.proofs.Told.{good-told}
 use Rattle.table.specs.declared.Row.the-variants.{To}
 use Rattle.table.specs.Table.{rowOf}
 use Rattle.sending.specs.Calls.{Call, OPEN, READY, DATA, messageOf, typeDataOf, askOf, aboveLimit, misgiven, miscoded, outgoing, written}
@@ -23,6 +20,7 @@ use Rattle.machine.specs.Good.{Sound}
 use Rattle.session.specs.World.{End, Client, Server, across}
 use Rattle.session.specs.Turns.{roleOf, producing}
 use Rattle.session.specs.Demand.{Speaks}
+use Rattle.session.proofs.Taking.{limit-least}
 use Rattle.session.proofs.Table.{Begun, nothing, something, opens, offers, takes, gives, moved-row}
 
 -- a call that does not ask, is within the limit, and is given well, is accepted where its row leads on and the output has room
@@ -101,10 +99,9 @@ module _ (end : End) (e : Endpoint) (sound : Sound e) (role : e .role ≡ roleOf
   pub gives-data : producing end (e .flow) ≡ end → e .phase ≡ batch → Speaks e (DATA 0 false [])
   gives-data mine batching =
       let begins = begun-any batch (e .n - 1) in
-      let least = leb-true leastLimit (e .limit) (both-true (leb leastLimit (e .limit)) (leb (e .limit) mostLimit) (good-told e (sound .is-good) .bounded) .0) in
       record {
         going-on = refl;
         sent =
             accepted e sound (rw batching refl) (DATA 0 false []) (begins .0) (begins .1)
-            (moved-row {role = e .role} {flow = e .flow} {phase = e .phase} {n = e .n} {type-data = 0} (gives (is-producer end (e .flow) mine) batching (begins .2))) refl (le-ltb (e .limit) 8 (omega arith)) refl refl;
+            (moved-row {role = e .role} {flow = e .flow} {phase = e .phase} {n = e .n} {type-data = 0} (gives (is-producer end (e .flow) mine) batching (begins .2))) refl (le-ltb (e .limit) 8 (omega (arith, limit-least e sound))) refl refl;
       }

@@ -116,6 +116,29 @@ pub row-moved : (role flow phase n : ℕ) (message : MessageType) (type-data nex
 row-moved role flow phase n message type-data next count leads =
     subst (Where (Moved role flow phase n message type-data)) leads (row-where role flow phase n message type-data)
 
+-- no row leads on from phase 5
+pub moved-low : {role flow phase n type-data next count : ℕ} {message : MessageType} → Moved role flow phase n message type-data next count → phase ≤ batch
+moved-low (opens role begins) = omega arith
+moved-low (offers differs low high begins) = omega arith
+moved-low (takes role offered few begins) = omega arith
+moved-low (gives produces batched begins) = omega arith
+moved-low (rests low high) = high
+moved-low (closes low high) = high
+
+-- a batch or an offer that begins is no phase 5
+pub begun-low : {begins count next m : ℕ} → begins ≤ batch → Begun begins count next m → next ≤ batch
+begun-low low (nothing none) = omega arith
+begun-low low (something some) = low
+
+-- and a row that leads there leaves no n
+pub moved-empties : {role flow phase n type-data next count : ℕ} {message : MessageType} → Moved role flow phase n message type-data next count → next ≡ shut → count ≡ 0
+moved-empties (opens role begins) is-shut = refl
+moved-empties (offers differs low high begins) is-shut = absurd (omega (arith, is-shut, begun-low {begins = offer} (omega arith) begins))
+moved-empties (takes role offered few begins) is-shut = absurd (omega (arith, is-shut, begun-low {begins = batch} (omega arith) begins))
+moved-empties (gives produces batched begins) is-shut = absurd (omega (arith, is-shut, begun-low {begins = batch} (omega arith) begins))
+moved-empties (rests low high) is-shut = absurd (omega (arith, is-shut, high))
+moved-empties (closes low high) is-shut = refl
+
 -- and each of these leads on
 
 begun-row : {phase count next m : ℕ} → Begun phase count next m → begun phase count ≡ To next m

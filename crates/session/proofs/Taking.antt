@@ -48,7 +48,7 @@ call-leads e call r phase n leads = simp (own-flags call .0) leads
 
 module _ (r : Endpoint) (sound : Sound r) where
   -- a good endpoint's limit is at least a million
-  limit-least : leastLimit ≤ r .limit
+  pub limit-least : leastLimit ≤ r .limit
   limit-least = leb-true leastLimit (r .limit) (both-true (leb leastLimit (r .limit)) (leb (r .limit) mostLimit) (good-told r (sound .is-good) .bounded) .0)
 
   -- what an end may send is not too large for another of its limit, and only data can be
