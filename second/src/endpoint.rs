@@ -3,11 +3,13 @@
 
 mod copies;
 mod receive;
+mod rest;
 mod send;
 mod state;
 
 pub use copies::{made, received, sent};
 pub use receive::{receive, Heard};
+pub use rest::send_at_rest;
 pub use send::{send, Send};
 pub use state::{Awaited, Entry, Flow, Phase, Role, State, BLOCK, LIMITS, MOST_AWAITED};
 

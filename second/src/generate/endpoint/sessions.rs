@@ -5,15 +5,15 @@
 //! first answer that differs, so it is also the one that the library gave.
 //!
 //! On the way it is watched that the two ends understand each other: neither refuses a message of the other, but for an
-//! OPEN for what is not offered and for what comes after its own close; the data accepted are the first of those sent,
-//! and no more than the client has agreed to; and while neither has closed and nothing is on its way, one of them may
-//! still send something other than NOOP and CLOSE.
+//! OPEN for what is not offered and for what comes after its own close; nothing comes to an end that heard a CLOSE; the
+//! data accepted are the first of those sent, and in each batch no more than the client has agreed to; and while
+//! neither has closed and nothing is on its way, one of them may still send something other than NOOP and CLOSE.
 
 use std::collections::VecDeque;
 
 use super::{blocks, reply_room, room_for, sends, REPLY};
 use crate::calls::{Make, Receive, SendMessage};
-use crate::endpoint::{self, Flow, Phase, Role, Send, State, ACK_REPLY, BLOCK, DATA};
+use crate::endpoint::{self, Flow, Heard, Phase, Role, Send, State, ACK_REPLY, BLOCK, CLOSE, DATA, OPEN, READY};
 use crate::generate::open::{other_text, short_text};
 use crate::generate::{add, Calls};
 use crate::open::{NOT_OFFERED, OTHER_FORMAT};
@@ -49,14 +49,23 @@ struct Temper {
 const NEVER: u64 = u64::MAX;
 const EVEN: Temper = Temper { strangers: 10, waits: 3, no_ask: 2, closes: 150, errs: 12, long: 20, large: NEVER };
 
-/// An end: its block, the messages that are on their way to it, and whether it wrote a CLOSE.
+/// An end: its block, the messages that are on their way to it, and whether it wrote or heard a CLOSE.
 struct End {
     block: Vec<u8>,
     inbox: VecDeque<Vec<u8>>,
     has_closed: bool,
+    heard_close: bool,
+    /// How many data it may still accept in its batch: the client's READY sets it, at the client where it is sent and
+    /// at the server where it is heard.
+    left: u64,
 }
 
 impl End {
+    /// An end to which nothing has come.
+    fn new(block: Vec<u8>) -> End {
+        End { block, inbox: VecDeque::new(), has_closed: false, heard_close: false, left: 0 }
+    }
+
     fn state(&self) -> State {
         State::read(&self.block).expect("a block that an endpoint leaves is good")
     }
@@ -77,7 +86,6 @@ struct Session<'a> {
     meets: bool,
     sent: Vec<Item>,
     accepted: usize,
-    agreed: usize,
 }
 
 impl<'a> Session<'a> {
@@ -103,11 +111,11 @@ impl<'a> Session<'a> {
             let (number, block) = endpoint::made(&make.block, role, flow as u8, limit);
             assert_eq!(number, 0);
             add(calls, make);
-            End { block, inbox: VecDeque::new(), has_closed: false }
+            End::new(block)
         });
         let (opened, flows_meet) = ((name, format), server_flow != flow);
-        let (sent, accepted, agreed) = (Vec::new(), 0, 0);
-        Session { random, calls, temper, ends, opened, offered, flows_meet, meets: false, sent, accepted, agreed }
+        let (sent, accepted) = (Vec::new(), 0);
+        Session { random, calls, temper, ends, opened, offered, flows_meet, meets: false, sent, accepted }
     }
 
     fn phase(&self, end: usize) -> Phase {
@@ -129,7 +137,7 @@ impl<'a> Session<'a> {
     /// Notes what the watch needs to know of a send.
     fn note(&mut self, end: usize, send: &Send) {
         match send {
-            Send::Ready { count } if end == CLIENT => self.agreed += usize::from(*count),
+            Send::Ready { count } if end == CLIENT => self.ends[end].left = u64::from(*count),
             Send::Data { type_data, body, .. } => self.sent.push((*type_data, body.clone())),
             Send::Close { .. } => self.ends[end].has_closed = true,
             Send::Open { name, format } => {
@@ -147,7 +155,8 @@ impl<'a> Session<'a> {
         self.send_into(end, send, room);
     }
 
-    /// Delivers the oldest message to an end, into a room that is mostly long enough for the reply.
+    /// Delivers the oldest message to an end, into a room that is mostly long enough for the reply; else the end is as
+    /// before, and the message is delivered again later.
     fn deliver(&mut self, end: usize) {
         let Some(message) = self.ends[end].inbox.front().cloned() else {
             return;
@@ -157,7 +166,11 @@ impl<'a> Session<'a> {
         let block = self.ends[end].block.clone();
         let received = endpoint::received(&block, &message, &name, &format, &vec![0; room]);
         add(self.calls, Receive { block, message: message.clone(), name, format, room });
-        if received.number == endpoint::SHORT_OUTPUT {
+        let is_short = received.number == endpoint::SHORT_OUTPUT;
+        assert_eq!(is_short, room < REPLY, "an output is too short just where no reply fits into it");
+        if is_short {
+            let is_unheard = received.block == self.ends[end].block && received.heard == [0; 16];
+            assert!(is_unheard, "an output that is too short leaves the end as it was");
             return;
         }
         self.ends[end].inbox.pop_front();
@@ -169,9 +182,9 @@ impl<'a> Session<'a> {
     }
 
     /// Watches what came of a message.
-    fn watch(&mut self, end: usize, message: &[u8], number: u64, heard: &[u64; 16]) {
+    fn watch(&mut self, end: usize, message: &[u8], number: u64, heard: &Heard) {
         match number {
-            0 => self.watch_data(message, heard),
+            0 => self.watch_heard(end, message, heard),
             endpoint::IS_CLOSED => assert!(self.ends[end].has_closed, "only an end that has closed hears nothing"),
             NOT_OFFERED | OTHER_FORMAT => {
                 assert!(end == SERVER && !self.meets, "an OPEN for what is offered is heard");
@@ -181,20 +194,37 @@ impl<'a> Session<'a> {
         }
     }
 
-    /// Watches the data that are accepted: the next that was sent, and no more than was agreed to.
-    fn watch_data(&mut self, message: &[u8], heard: &[u64; 16]) {
-        if heard[0] != u64::from(DATA) || heard[1] & u64::from(ACK_REPLY) != 0 {
-            return;
+    /// Watches a message that is heard.
+    fn watch_heard(&mut self, end: usize, message: &[u8], heard: &Heard) {
+        let is_confirmation = heard[1] & u64::from(ACK_REPLY) != 0;
+        match heard[0] as u8 {
+            OPEN => assert!(self.meets, "an OPEN for what is not offered is refused"),
+            READY if end == SERVER => self.ends[end].left = heard[2],
+            DATA if !is_confirmation => self.watch_data(end, message, heard),
+            CLOSE => self.ends[end].heard_close = true,
+            _ => {}
         }
+    }
+
+    /// Watches the data that are accepted: the next that was sent, and in each batch no more than was agreed to.
+    fn watch_data(&mut self, end: usize, message: &[u8], heard: &Heard) {
         let body = &message[heard[12] as usize..][..heard[13] as usize];
         let (type_data, sent) = &self.sent[self.accepted];
         assert!(heard[2] == u64::from(*type_data) && body == sent, "data are accepted as they were sent");
         self.accepted += 1;
-        assert!(self.accepted <= self.agreed, "no more data are accepted than were agreed to");
+        let left = &mut self.ends[end].left;
+        *left = left.checked_sub(1).expect("in a batch no more data are accepted than were agreed to");
     }
 
-    /// Where neither end has closed and nothing is on its way, one of them may still send something other than NOOP and
-    /// CLOSE, and they agree on phase, count and limit, and await no confirmation.
+    /// Watches what holds after every step.
+    fn watch_step(&mut self) {
+        let is_quiet = |end: &End| !end.heard_close || end.inbox.is_empty();
+        assert!(self.ends.iter().all(is_quiet), "nothing is on its way to an end that heard a CLOSE");
+        self.watch_progress();
+    }
+
+    /// Where neither end has closed and nothing is on its way, they agree on phase, count and limit and await no
+    /// confirmation, and the send with which they go on is accepted.
     fn watch_progress(&mut self) {
         let closed = ENDS.iter().any(|end| self.phase(*end) == Phase::Closed);
         if closed || self.ends.iter().any(|end| !end.inbox.is_empty()) {
@@ -204,21 +234,12 @@ impl<'a> Session<'a> {
         assert_eq!((client.phase, client.n), (server.phase, server.n));
         assert!(client.phase == Phase::Fresh || client.limit == server.limit, "one limit holds for both");
         assert!(client.awaited.is_empty() && server.awaited.is_empty(), "all that was asked is confirmed");
-        let (name, format) = self.opened.clone();
-        let sends =
-            [Send::Open { name, format }, Send::Ready { count: 1 }, Send::Data { type_data: 0, ask: 0, body: vec![] }];
-        let told = self.random.one_in(3);
-        for (end, send) in ENDS.iter().flat_map(|end| sends.iter().map(move |send| (*end, send))) {
-            let block = self.ends[end].block.clone();
-            let number = endpoint::sent(&block, send, &[0; ENOUGH]).number;
-            if told {
-                add(self.calls, SendMessage { block, send: send.clone(), room: ENOUGH });
-            }
-            if number == 0 {
-                return;
-            }
-        }
-        panic!("neither end may send anything but NOOP and CLOSE in phase {:?}", client.phase);
+        let (role, send) = endpoint::send_at_rest(&client);
+        let end = if role == Role::Client { CLIENT } else { SERVER };
+        let block = self.ends[end].block.clone();
+        let number = endpoint::sent(&block, &send, &[0; ENOUGH]).number;
+        assert_eq!(number, 0, "in phase {:?} the {role:?} may send {send:?}", client.phase);
+        add(self.calls, SendMessage { block, send, room: ENOUGH });
     }
 
     /// An ask for a confirmation, or none.
@@ -308,7 +329,7 @@ impl<'a> Session<'a> {
             let send = self.next_send(end);
             self.send(end, &send);
         }
-        self.watch_progress();
+        self.watch_step();
     }
 
     /// Goes on for so many steps, but not long after both ends are closed.
@@ -337,7 +358,7 @@ impl<'a> Session<'a> {
         while self.ends.iter().any(|end| !end.inbox.is_empty()) {
             let end = self.random.choose(&ENDS);
             self.deliver(end);
-            self.watch_progress();
+            self.watch_step();
         }
     }
 }

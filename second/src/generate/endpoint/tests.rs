@@ -4,8 +4,9 @@ use std::collections::{BTreeMap, BTreeSet};
 
 use super::*;
 use crate::calls::{Argument, Call, Written};
-use crate::endpoint::State;
+use crate::endpoint::{self, Phase, State};
 use crate::generate::Calls;
+use crate::open::NOT_OFFERED;
 
 /// The number that the model answers to a call, and the block before and afterwards.
 fn answered(call: &dyn Call) -> (u64, Vec<u8>, Vec<u8>) {
@@ -107,6 +108,43 @@ fn sessions_go_through_every_phase_up_to_every_confirmation() {
         assert!(numbers.contains(&("fbdp_receive", number)));
     }
     assert!(numbers.contains(&("fbdp_send_noop", 32)) && numbers.contains(&("fbdp_send_data", 32)));
+}
+
+/// Whether a server of the other flow hears the message of a receive.
+fn other_flow_hears(receive: &dyn Call) -> bool {
+    let arguments = receive.arguments();
+    let bytes = arguments.iter().filter_map(|(_, argument)| match argument {
+        Argument::InPlace(bytes) | Argument::Input(bytes) => Some(*bytes),
+        _ => None,
+    });
+    let lent: Vec<&[u8]> = bytes.collect();
+    let [block, message, name, format] = lent[..] else {
+        unreachable!("a receive is lent its block, the message, the name and the format");
+    };
+    let mut state = State::read(block).expect("a session's blocks are good");
+    state.flow = state.flow.other();
+    endpoint::received(&state.block(), message, name, format, &[0; REPLY]).number == 0
+}
+
+/// Data are accepted at either role, and OPENs refused at either flow that only the flow keeps from being heard.
+#[test]
+fn sessions_carry_data_both_ways_and_have_ends_of_the_same_flow() {
+    let mut random = Random::new(12);
+    let (mut accepting, mut refusing) = (BTreeSet::new(), BTreeSet::new());
+    for call in (0..40).flat_map(|_| sessions::sessions(&mut random)) {
+        if call.function().name() != "fbdp_receive" {
+            continue;
+        }
+        let (number, before, after) = answered(call.as_ref());
+        let [before, after] = [before, after].map(|block| State::read(&block).expect("a session's blocks are good"));
+        if number == 0 && before.phase == Phase::Batch && after.phase != Phase::Closed && after.n < before.n {
+            accepting.insert(before.role as u8);
+        }
+        if number == NOT_OFFERED && other_flow_hears(call.as_ref()) {
+            refusing.insert(before.flow as u8);
+        }
+    }
+    assert_eq!((accepting, refusing), (BTreeSet::from([1, 2]), BTreeSet::from([1, 2])));
 }
 
 #[test]
