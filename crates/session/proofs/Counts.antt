@@ -2,7 +2,7 @@
 -- nothing.
 use mathlib.Core.Path.{_≡_, refl}
 use Prim.Native.Nat.{ℕ, _+_, _≤_}
-use mathlib.Core.List.{List, [], _++_}
+use mathlib.Core.List.{List, [], _∷_, _++_, append-nil}
 use mathlib.Core.Bool.{true, cond, _&&_, _||_}
 use native.Mathlib.Omega.{arith}
 use lib.Dec.{eqb, leb}
@@ -16,9 +16,11 @@ use Rattle.endpoint.specs.Record.{offer, batch, countFits, closed}
 use Rattle.endpoint.proofs.Told.{good-told}
 use Rattle.sending.specs.Calls.{Call, messageOf, typeDataOf, OPEN, READY, DATA, NOOP, CLOSE}
 use Rattle.machine.specs.Good.{Sound}
-use Rattle.session.specs.World.{End, Client, Server, across, Datum, Ending, Side, having, taking, dataSent, agreement, since}
-use Rattle.session.specs.Turns.{Packet, Called, Confirms, Closes, movesLike, typeDataIn, dataIn, roleOf}
-use Rattle.session.specs.Invariant.{left, Within}
+use Rattle.session.specs.World.{End, across, Datum, Ending, History, agreed, dataSent, readyCount, batchAfter, afterCall, afterMessage, Client, Server}
+use Rattle.session.specs.Packets.{Packet, movesLike, typeDataIn, dataIn, readyIn, Called, Confirms, Closes}
+use Rattle.session.specs.Turns.{roleOf}
+use Rattle.session.specs.Demand.{sum, newest}
+use Rattle.session.specs.Invariant.{left, Within, Counted}
 use Rattle.session.proofs.Table.{Begun, nothing, something, Moved, opens, offers, takes, gives, rests, closes}
 
 -- how many data a message carries
@@ -50,33 +52,49 @@ batch-left (something some) = refl
 all-left : (phase n : ℕ) → phase ≡ batch → left phase n ≡ n
 all-left phase n batching = simp (eq-eqb phase batch batching)
 
-module _ (agreed : List ℕ) (batched : List Datum) (all : ℕ) where
+-- a count that is agreed last
+
+sum-last : (counts : List ℕ) (count : ℕ) → sum (counts ++ (count ∷ [])) ≡ sum counts + count
+sum-last [] count = omega arith
+sum-last (first ∷ rest) count = omega (arith, sum-last rest count)
+
+newest-last : (counts : List ℕ) (count : ℕ) → newest (counts ++ (count ∷ [])) ≡ count
+newest-last [] count = refl
+newest-last (first ∷ []) count = refl
+newest-last (first ∷ second ∷ rest) count = newest-last (second ∷ rest) count
+
+-- the batch that a message agrees to: that of a READY of the client
+abbrev agreement : End → MessageType → ℕ → List ℕ
+agreement Client message count = readyCount message count
+agreement Server message count = []
+
+module _ (counts : List ℕ) (batched : List Datum) (all : ℕ) where
   -- the row of a message that the end `writer` writes leads its writer and its hearer from within to within
   row-within : (writer : End) {flow phase n type-data next m : ℕ} {message : MessageType} → Moved (roleOf writer) flow phase n message type-data next m
-      → (phase ≡ batch → 1 ≤ n) → Within agreed all (length batched) phase n
-      → Within (agreement writer message type-data ++ agreed) (all + dataCount message) (length (since (agreement writer message type-data) batched) + dataCount message) next m
-  row-within Client (opens is-client begins) some w = record { in-all = omega (arith, w .in-all); in-newest = omega (arith, w .in-newest) }
+      → (phase ≡ batch → 1 ≤ n) → Within counts all (length batched) phase n
+      → Within (counts ++ agreement writer message type-data) (all + dataCount message) (length (batchAfter writer (readyCount message type-data) batched) + dataCount message) next m
+  row-within Client (opens is-client begins) some w = rw append-nil (record { in-all = omega (arith, w .in-all); in-newest = omega (arith, w .in-newest) })
   row-within Client (offers differs low high begins) some w = absurd (differs refl)
-  row-within Client (takes is-client offered few begins) some w =
+  row-within Client {type-data = count} (takes is-client offered few begins) some w =
       let whole = batch-left begins in
-      record { in-all = omega (arith, w .in-all, whole); in-newest = omega (arith, whole) }
+      record { in-all = omega (arith, w .in-all, whole, sum-last counts count); in-newest = omega (arith, whole, newest-last counts count) }
   row-within Client {phase = phase} {n = n} (gives produces batching begins) some w =
       let rest = batch-left begins in
       let whole = all-left phase n batching in
-      record { in-all = omega (arith, w .in-all, rest, whole, some batching); in-newest = omega (arith, w .in-newest, rest, whole, some batching) }
-  row-within Client (rests low high) some w = record { in-all = omega (arith, w .in-all); in-newest = omega (arith, w .in-newest) }
-  row-within Client (closes low high) some w = record { in-all = omega (arith, w .in-all); in-newest = omega (arith, w .in-newest) }
-  row-within Server (opens is-client begins) some w = record { in-all = omega (arith, w .in-all); in-newest = omega (arith, w .in-newest) }
+      rw append-nil (record { in-all = omega (arith, w .in-all, rest, whole, some batching); in-newest = omega (arith, w .in-newest, rest, whole, some batching) })
+  row-within Client (rests low high) some w = rw append-nil (record { in-all = omega (arith, w .in-all); in-newest = omega (arith, w .in-newest) })
+  row-within Client (closes low high) some w = rw append-nil (record { in-all = omega (arith, w .in-all); in-newest = omega (arith, w .in-newest) })
+  row-within Server (opens is-client begins) some w = rw append-nil (record { in-all = omega (arith, w .in-all); in-newest = omega (arith, w .in-newest) })
   row-within Server (offers differs low high begins) some w =
       let whole = offer-left begins in
-      record { in-all = omega (arith, w .in-all, whole); in-newest = omega (arith, w .in-newest, whole) }
+      rw append-nil (record { in-all = omega (arith, w .in-all, whole); in-newest = omega (arith, w .in-newest, whole) })
   row-within Server (takes is-client offered few begins) some w = let z : _≡_ {A = ℕ} 0 1 = cc in absurd (omega arith)
   row-within Server {phase = phase} {n = n} (gives produces batching begins) some w =
       let rest = batch-left begins in
       let whole = all-left phase n batching in
-      record { in-all = omega (arith, w .in-all, rest, whole, some batching); in-newest = omega (arith, w .in-newest, rest, whole, some batching) }
-  row-within Server (rests low high) some w = record { in-all = omega (arith, w .in-all); in-newest = omega (arith, w .in-newest) }
-  row-within Server (closes low high) some w = record { in-all = omega (arith, w .in-all); in-newest = omega (arith, w .in-newest) }
+      rw append-nil (record { in-all = omega (arith, w .in-all, rest, whole, some batching); in-newest = omega (arith, w .in-newest, rest, whole, some batching) })
+  row-within Server (rests low high) some w = rw append-nil (record { in-all = omega (arith, w .in-all); in-newest = omega (arith, w .in-newest) })
+  row-within Server (closes low high) some w = rw append-nil (record { in-all = omega (arith, w .in-all); in-newest = omega (arith, w .in-newest) })
 
 -- "n is 1..65,535 in phases 3 and 4"
 batch-some : (e : Endpoint) → Sound e → e .phase ≡ batch → 1 ≤ e .n
@@ -85,40 +103,53 @@ batch-some e sound batching =
     let counts : cond (eqb (e .phase) offer || eqb (e .phase) batch) (leb 1 (e .n) && leb (e .n) 65535) (eqb (e .n) 0) ≡ true = good-told e (sound .is-good) .counted in
     leb-true 1 (e .n) (both-true (leb 1 (e .n)) (leb (e .n) 65535) (rw batching at counts) .0)
 
--- what the invariant says of an end
-abbrev pub Counted : Side Endpoint → Type 0
-Counted x = Within (x .agreed) (length (x .sent) + length (x .accepted)) (length (x .batch)) (x .self .phase) (x .self .n)
+-- what was agreed after a call, and after a message was heard
 
-module _ (end : End) (x : Side Endpoint) (sound : Sound (x .self)) (counted : Counted x) (next : Endpoint) (phase n : ℕ) (phased : next .phase ≡ phase) (numbered : next .n ≡ n) where
+called-agreed : (end : End) (past : History) (call : Call) → agreed end (afterCall end past call) ≡ agreed end past ++ agreement end (messageOf call) (typeDataOf call)
+called-agreed Client past call = refl
+called-agreed Server past call = rw append-nil refl
+
+heard-agreed : (end : End) (past : History) (m : Packet) (arrived : List Datum) (ending : Ending)
+    → agreed end (afterMessage end past arrived (readyIn m) ending) ≡ agreed end past ++ agreement (across end) (movesLike m) (typeDataIn m)
+heard-agreed Client past m arrived ending = rw append-nil refl
+heard-agreed Server past m arrived ending = refl
+
+module _ (end : End) (e : Endpoint) (sound : Sound e) (past : History) (counted : Counted end past e) (next : Endpoint) (phase n : ℕ) (phased : next .phase ≡ phase) (numbered : next .n ≡ n) where
   -- an end sends
-  pub sent-counted : (flow : ℕ) (call : Call) (bytes : List ℕ) → Moved (roleOf end) flow (x .self .phase) (x .self .n) (messageOf call) (typeDataOf call) phase n
-      → Counted (having end x call bytes next)
-  sent-counted flow call bytes moves =
-      let after = row-within (x .agreed) (x .batch) (length (x .sent) + length (x .accepted)) end moves (batch-some (x .self) sound) counted in
-      let carries = carried-count (Called (x .self) call 0) in
-      record {
-        in-all = rw (phased, numbered) (omega (arith, after .in-all, carries, length-append (x .sent) (dataSent call)));
-        in-newest = rw (phased, numbered) (omega (arith, after .in-newest));
-      }
+  pub sent-counted : (flow : ℕ) (call : Call) → Moved (roleOf end) flow (e .phase) (e .n) (messageOf call) (typeDataOf call) phase n → Counted end (afterCall end past call) next
+  sent-counted flow call moves =
+      let after = row-within (agreed end past) (past .batch) (length (past .sent) + length (past .accepted)) end moves (batch-some e sound) counted in
+      let carries = carried-count (Called e call 0) in
+      rw (called-agreed end past call, phased, numbered)
+      (record {
+        in-all = omega (arith, after .in-all, carries, length-append (past .sent) (dataSent call));
+        in-newest = omega (arith, after .in-newest);
+      })
 
   -- an end hears what the other wrote
-  pub heard-counted : (flow : ℕ) (m : Packet) (replied : List (List ℕ)) (ending : Ending)
-      → Moved (roleOf (across end)) flow (x .self .phase) (x .self .n) (movesLike m) (typeDataIn m) phase n
-      → Counted (taking x (dataIn m) (agreement (across end) (movesLike m) (typeDataIn m)) replied ending next)
-  heard-counted flow m replied ending moves =
-      let after = row-within (x .agreed) (x .batch) (length (x .sent) + length (x .accepted)) (across end) moves (batch-some (x .self) sound) counted in
+  pub heard-counted : (flow : ℕ) (m : Packet) (ending : Ending) → Moved (roleOf (across end)) flow (e .phase) (e .n) (movesLike m) (typeDataIn m) phase n
+      → Counted end (afterMessage end past (dataIn m) (readyIn m) ending) next
+  heard-counted flow m ending moves =
+      let after = row-within (agreed end past) (past .batch) (length (past .sent) + length (past .accepted)) (across end) moves (batch-some e sound) counted in
       let carries = carried-count m in
-      let batched = length-append (since (agreement (across end) (movesLike m) (typeDataIn m)) (x .batch)) (dataIn m) in
-      record {
-        in-all = rw (phased, numbered) (omega (arith, after .in-all, carries, length-append (x .accepted) (dataIn m)));
-        in-newest = rw (phased, numbered) (omega (arith, after .in-newest, carries, batched));
-      }
+      let batched = length-append (batchAfter (across end) (readyIn m) (past .batch)) (dataIn m) in
+      rw (heard-agreed end past m (dataIn m) ending, phased, numbered)
+      (record {
+        in-all = omega (arith, after .in-all, carries, length-append (past .accepted) (dataIn m));
+        in-newest = omega (arith, after .in-newest, carries, batched);
+      })
 
 -- an end closes
-pub closed-counted : (x : Side Endpoint) → Counted x → (replied : List (List ℕ)) (ending : Ending) → Counted (taking x [] [] replied ending (closed (x .self)))
+
+nothing-agreed : (end : End) (past : History) (ending : Ending) → agreed end (afterMessage end past [] [] ending) ≡ agreed end past
+nothing-agreed Client past ending = refl
+nothing-agreed Server past ending = append-nil (past .readies-heard)
+
+pub closed-counted : (end : End) (e : Endpoint) (past : History) → Counted end past e → (ending : Ending) → Counted end (afterMessage end past [] [] ending) (closed e)
 unfolding closed
-closed-counted x counted replied ending =
-    record {
-      in-all = omega (arith, counted .in-all, length-append (x .accepted) []);
-      in-newest = omega (arith, counted .in-newest, length-append (x .batch) []);
-    }
+closed-counted end e past counted ending =
+    rw (nothing-agreed end past ending)
+    (record {
+      in-all = omega (arith, counted .in-all, length-append (past .accepted) []);
+      in-newest = omega (arith, counted .in-newest, length-append (past .batch) []);
+    })

@@ -1,31 +1,31 @@
 -- Demand 3: a fresh client and a fresh server have the invariant, so every list of calls leaves it, and where it holds the demand does. Assumes
 -- nothing.
 use mathlib.Core.Path.{_≡_, refl, sym, _∙_, ap, subst}
-use Prim.Native.Nat.{ℕ, _+_, _≤_}
-use mathlib.Core.List.{List, [], _∷_, map}
+use Prim.Native.Nat.{ℕ, _+_, _≤_, _<_}
+use mathlib.Core.List.{List, [], _∷_, map, flatMap}
 use mathlib.Core.Bool.{Bool, true, false, cond, _&&_, _||_}
 use native.Mathlib.Omega.{arith}
-use lib.Dec.{eqb, ltb}
+use lib.Dec.{eqb}
 use lib.ListN.{length, length-append}
-use borrow.Author.Tests.{eqb-true, eqb-false, ltb-true}
+use borrow.Author.Tests.{eqb-true, eqb-false, le-ltb, lt-ltb}
 use Rattle.bytes_be.proofs.Tests.{took-first}
 use Rattle.double.specs.Limit.{mostLimit, inLimits}
 use Rattle.endpoint.specs.declared.Endpoint.{Endpoint}
 use Rattle.endpoint.specs.declared.Given.the-variants.{Good}
-use Rattle.endpoint.specs.Record.{fresh, opening, idle, offer, batch, shut, goodFlow, givenOf, freshOf, freshClient, freshServer}
+use Rattle.endpoint.specs.Record.{fresh, opening, idle, offer, batch, goodFlow, givenOf, freshOf, freshClient, freshServer}
 use Rattle.endpoint.proofs.StaysGood.{fresh-good, fresh-sized}
-use Rattle.receiving.specs.declared.Received.{Received}
 use Rattle.receiving.specs.Receiving.{answerNumber, receivedOf}
 use Rattle.receiving.specs.Refusing.{unchanged}
 use Rattle.sending.specs.Calls.{OPEN, READY, DATA}
 use Rattle.machine.specs.Good.{Sound}
-use Rattle.session.specs.World.{End, Client, Server, across, Ending, Going, HeardClose, WroteClose, Side, World, side, start, Event, sends, receives, AllFit, step, run}
-use Rattle.session.specs.Turns.{Packet, bytesIn, Stage, stands, producing, turn, ahead, empty, nothing}
-use Rattle.session.specs.Demand.{Understood, short-output, Speaks, nextCall, nextEnd, Holds, Demand, sum}
-use Rattle.session.specs.Invariant.{Ends, Invariant, InvariantHolds, Linked, source}
+use Rattle.session.specs.World.{End, across, Ending, agreed, Side, World, Event, AllFit, side, joined, start, afterReceive, step, run, Client, Server, Going, receives}
+use Rattle.session.specs.Packets.{Packet, bytesIn}
+use Rattle.session.specs.Turns.{producing, turn, Stage, stands, nothing, empty, ahead}
+use Rattle.session.specs.Demand.{MayAnswer, PhaseFits, sum, nextEnd, nextCall, MaySend, Holds, Demand}
+use Rattle.session.specs.Invariant.{source, Linked, Invariant, StartKeeps, InvariantHolds}
 use Rattle.session.proofs.Turns.{rests-meets, shut-meets}
 use Rattle.session.proofs.Speaking.{opens-first, offers-one, takes-all, gives-data}
-use Rattle.session.proofs.Step.{received-heard, received-short, seen-from, head-delivered, step-keeps}
+use Rattle.session.proofs.Step.{received-heard, received-short, short-stays, seen-from, head-delivered, step-keeps}
 
 -- what making accepts
 given-well : (flow limit : ℕ) → givenOf flow limit ≡ Good → goodFlow flow && inLimits limit ≡ true
@@ -36,86 +36,95 @@ given-well flow limit given = took-first (goodFlow flow && inLimits limit) (λ s
 between : (phase : ℕ) → phase ≤ batch → (phase ≡ fresh → ⊥) → (phase ≡ offer → ⊥) → (phase ≡ batch → ⊥) → (opening ≤ phase) × (phase ≤ idle)
 between phase low later neither not-batch = (omega (arith, later), omega (arith, low, neither, not-batch))
 
+-- the two ends of a world, joined again, are that world
+pub joined-sides : {A : Type 0} (w : World A) (end : End) → joined end (side w end) (side w (across end)) ≡ w
+joined-sides w Client = refl
+joined-sides w Server = refl
+
 -- where nothing is queued, nothing is on its way
 none-queued : (q : List Packet) → map bytesIn q ≡ [] → q ≡ []
 none-queued [] none = refl
 none-queued (m ∷ q) none = let z : _≡_ {A = ℕ} 0 1 = cc in absurd (omega arith)
 
-module _ (flow limit serverFlow : ℕ) where
-  -- a fresh client and a fresh server
-  pub start-keeps : givenOf flow limit ≡ Good → givenOf serverFlow mostLimit ≡ Good → Invariant flow limit serverFlow (start flow limit serverFlow)
-  unfolding freshOf
-  start-keeps given server-given =
-      let client-sound : Sound (freshClient flow limit) = record { sized = fresh-sized 1 flow limit; is-good = fresh-good 1 flow limit refl (given-well flow limit given) } in
-      let server-sound : Sound (freshServer serverFlow) = record { sized = fresh-sized 2 serverFlow mostLimit; is-good = fresh-good 2 serverFlow mostLimit refl (given-well serverFlow mostLimit server-given) } in
-      record {
-        p = [];
-        q = [];
-        linked =
-            record {
-              here =
-                  record {
-                    sound = client-sound;
-                    role = refl;
-                    flows = refl;
-                    ends = omega arith;
-                    queued = refl;
-                    proper = tt;
-                    terms = λ known. record { limited = refl; agreed = refl };
-                    counted = record { in-all = omega arith; in-newest = omega arith };
-                  };
-              there =
-                  record {
-                    sound = server-sound;
-                    role = refl;
-                    flows = refl;
-                    ends = omega arith;
-                    queued = refl;
-                    proper = tt;
-                    terms = λ known. absurd (omega (arith, known .0));
-                    counted = record { in-all = omega arith; in-newest = omega arith };
-                  };
-              meets = ahead nothing empty;
-              awaits = record { rest = []; held = λ is-open. refl; due = λ is-open. refl };
-              awaits-across = record { rest = []; held = λ is-open. refl; due = λ is-open. refl };
-              delivers = record { rest = []; whole = refl; due = λ is-open. refl };
-              delivers-across = record { rest = []; whole = refl; due = λ is-open. refl };
-            };
-      }
+-- a fresh client and a fresh server
+pub start-keeps : StartKeeps
+unfolding freshOf flatMap
+start-keeps flow limit serverFlow given server-given =
+    let client-sound : Sound (freshClient flow limit) = record { sized = fresh-sized 1 flow limit; is-good = fresh-good 1 flow limit refl (given-well flow limit given) } in
+    let server-sound : Sound (freshServer serverFlow) = record { sized = fresh-sized 2 serverFlow mostLimit; is-good = fresh-good 2 serverFlow mostLimit refl (given-well serverFlow mostLimit server-given) } in
+    record {
+      from-client = [];
+      from-server = [];
+      linked =
+          record {
+            here =
+                record {
+                  sound = client-sound;
+                  role = refl;
+                  flows = refl;
+                  ends = omega arith;
+                  queued = refl;
+                  proper = tt;
+                  terms = λ known. record { limited = refl; produced = refl };
+                  counted = record { in-all = omega arith; in-newest = omega arith };
+                };
+            there =
+                record {
+                  sound = server-sound;
+                  role = refl;
+                  flows = refl;
+                  ends = omega arith;
+                  queued = refl;
+                  proper = tt;
+                  terms = λ known. absurd (omega (arith, known .0));
+                  counted = record { in-all = omega arith; in-newest = omega arith };
+                };
+            meets = ahead nothing empty;
+            awaits = record { rest = []; held = λ is-open. refl; due = λ is-open. refl };
+            awaits-across = record { rest = []; held = λ is-open. refl; due = λ is-open. refl };
+            delivers = record { rest = []; whole = refl; due = λ is-open. refl };
+            delivers-across = record { rest = []; whole = refl; due = λ is-open. refl };
+            readies = record { rest = []; whole = refl; due = λ is-open. refl };
+            readies-across = record { rest = []; whole = refl; due = λ is-open. refl };
+          };
+    }
 
+module _ (flow limit serverFlow : ℕ) where
   pub run-keeps : (w : World Endpoint) (events : List Event) → AllFit events → Invariant flow limit serverFlow w → Invariant flow limit serverFlow (run w events)
   unfolding run
   run-keeps w [] fit holds = holds
-  run-keeps w (sends end call room ∷ rest) fit holds =
-      run-keeps (step w (sends end call room)) rest (fit .1) (step-keeps flow limit serverFlow w (sends end call room) (fit .0, tt) holds)
-  run-keeps w (receives end name format room ∷ rest) fit holds =
-      run-keeps (step w (receives end name format room)) rest fit (step-keeps flow limit serverFlow w (receives end name format room) tt holds)
+  run-keeps w (event ∷ rest) fit holds = run-keeps (step w event) rest (fit .1) (step-keeps flow limit serverFlow w event (fit .0) holds)
 
   module _ (w : World Endpoint) (holds : Invariant flow limit serverFlow w) where
     -- "neither refuses the other's message"
-    head-understood : (end : End) (x y : Side Endpoint) (p q : List Packet) → Linked flow limit serverFlow end x y p q → (s : List ℕ) (rest : List (List ℕ)) → map bytesIn q ≡ s ∷ rest
-        → (name format : List ℕ) (room : ℕ) → Understood x s name format room (answerNumber (receivedOf (x .self) s name format room .answer))
-    unfolding unchanged
-    head-understood end x y p [] linked s rest queued name format room = let z : _≡_ {A = ℕ} 0 1 = cc in absurd (omega arith)
-    head-understood end x y p (m ∷ q) linked s rest queued name format room =
-        subst (λ (bytes : List ℕ). Understood x bytes name format room (answerNumber (receivedOf (x .self) bytes name format room .answer))) (first-of queued) (go (ltb room 14) refl)
+    head-answered : (end : End) (x y : Side Endpoint) (p q : List Packet) → Linked flow limit serverFlow end x y p q → (s : List ℕ) (rest : List (List ℕ)) → map bytesIn q ≡ s ∷ rest
+        → (name format : List ℕ) (room : ℕ) → 14 ≤ room → MayAnswer x y s name format (answerNumber (receivedOf (x .self) s name format room .answer))
+    head-answered end x y p [] linked s rest queued name format room enough = let z : _≡_ {A = ℕ} 0 1 = cc in absurd (omega arith)
+    head-answered end x y p (m ∷ q) linked s rest queued name format room enough =
+        subst (λ (bytes : List ℕ). MayAnswer x y bytes name format (answerNumber (receivedOf (x .self) bytes name format room .answer))) (first-of queued)
+        (rw (received-heard (x .self) (linked .here .sound) (bytesIn m) name format room (le-ltb room 14 enough)) (head-delivered flow limit serverFlow end x y p q m linked name format .may))
       where
         first-of : bytesIn m ∷ map bytesIn q ≡ s ∷ rest → bytesIn m ≡ s
         first-of same = cc
 
-        go : (t : Bool) → ltb room 14 ≡ t → Understood x (bytesIn m) name format room (answerNumber (receivedOf (x .self) (bytesIn m) name format room .answer))
-        go true short =
-            subst (λ (received : Received). Understood x (bytesIn m) name format room (answerNumber (received .answer))) (sym (received-short (x .self) (linked .here .sound) (bytesIn m) name format room short))
-            (short-output (ltb-true room 14 short))
-        go false enough =
-            subst (λ (received : Received). Understood x (bytesIn m) name format room (answerNumber (received .answer))) (sym (received-heard (x .self) (linked .here .sound) (bytesIn m) name format room enough))
-            (head-delivered flow limit serverFlow end x y p q m linked name format .understood room)
+    -- "2 output too short"
+    short-answered : (end : End) (s : List ℕ) (rest : List (List ℕ)) → side w (across end) .queue ≡ s ∷ rest → (name format : List ℕ) (room : ℕ) → room < 14
+        → (answerNumber (receivedOf (side w end .self) s name format room .answer) ≡ 2) × (step w (receives end name format room) ≡ w)
+    unfolding step unchanged
+    short-answered end s rest queued name format room few =
+        let sound = seen-from flow limit serverFlow end w holds .linked .here .sound in
+        let short = lt-ltb room 14 few in (
+          rw (received-short (side w end .self) sound s name format room short) refl,
+          ap (λ (queue : List (List ℕ)). afterReceive end (side w end) (side w (across end)) queue name format room) queued
+              ∙ short-stays end (side w end) (side w (across end)) sound s rest name format room short
+              ∙ joined-sides w end,
+        )
 
     -- "and never more than the batches agreed"
-    all-within : length (w .client .accepted) + length (w .server .accepted) ≤ sum (w .client .agreed)
+    all-within : length (w .client .past .accepted) + length (w .server .past .accepted) ≤ sum (agreed Client (w .client .past))
     all-within =
         let linked = holds .linked in
-        let whole = ap length (linked .delivers .whole) ∙ length-append (w .server .accepted) (linked .delivers .rest) in
+        let whole = ap length (linked .delivers .whole) ∙ length-append (w .server .past .accepted) (linked .delivers .rest) in
         omega (arith, linked .here .counted .in-all, whole)
 
     -- both ends at rest, in one stage
@@ -123,23 +132,16 @@ module _ (flow limit serverFlow : ℕ) where
       low : w .client .self .phase ≤ batch
       same-phase : w .client .self .phase ≡ w .server .self .phase
 
-    resting : (w .client .self .phase ≡ shut → ⊥) → (w .server .self .phase ≡ shut → ⊥) → w .client .queue ≡ [] → w .server .queue ≡ [] → Resting
-    resting client-open server-open none none-back =
+    resting : w .client .past .ending ≡ Going → w .server .past .ending ≡ Going → w .client .queue ≡ [] → w .server .queue ≡ [] → Resting
+    resting going server-going none none-back =
         let linked = holds .linked in
-        let going = still-going (w .client .ending) (w .client .self .phase) (linked .here .ends) client-open in
-        let server-going = still-going (w .server .ending) (w .server .self .phase) (linked .there .ends) server-open in
-        let empty-queue = none-queued (holds .p) (sym (linked .here .queued) ∙ none) in
-        let empty-back = none-queued (holds .q) (sym (linked .there .queued) ∙ none-back) in
-        let stage = rests-meets (source flow limit serverFlow) Client (rw (going .0, server-going .0, empty-queue, empty-back) at (linked .meets)) in
-        record { low = going .1; same-phase = ap (λ (s : Stage). s .phase) stage }
-      where
-        still-going : (ending : Ending) (phase : ℕ) → Ends ending phase → (phase ≡ shut → ⊥) → (ending ≡ Going) × (phase ≤ batch)
-        still-going Going phase ends is-open = (refl, ends)
-        still-going HeardClose phase ends is-open = absurd (is-open ends)
-        still-going WroteClose phase ends is-open = absurd (is-open ends)
+        let empty-queue = none-queued (holds .from-client) (sym (linked .here .queued) ∙ none) in
+        let empty-back = none-queued (holds .from-server) (sym (linked .there .queued) ∙ none-back) in
+        let stage = rests-meets (source flow) Client (rw (going, server-going, empty-queue, empty-back) at (linked .meets)) in
+        record { low = subst (λ (ending : Ending). PhaseFits ending (w .client .self .phase)) going (linked .here .ends); same-phase = ap (λ (s : Stage). s .phase) stage }
 
     -- "one end may still send something other than NOOP and CLOSE"
-    speaking : Resting → Speaks (side w (nextEnd w) .self) (nextCall (w .client .self .phase) (w .client .self .n))
+    speaking : Resting → MaySend (side w (nextEnd w) .self) (nextCall w)
     unfolding turn
     speaking rests = from-fresh (eqb phase fresh) refl
       where
@@ -152,19 +154,19 @@ module _ (flow limit serverFlow : ℕ) where
         producer-end : End
         producer-end = producing Client (w .client .self .flow)
 
-        linked : Linked flow limit serverFlow Client (w .client) (w .server) (holds .p) (holds .q)
+        linked : Linked flow limit serverFlow Client (w .client) (w .server) (holds .from-client) (holds .from-server)
         linked = holds .linked
 
         spoken : (is-fresh is-offer is-batch : Bool) → Type 0
         spoken is-fresh is-offer is-batch =
-            Speaks (side w (cond (is-fresh || is-offer) Client (cond is-batch producer-end Server)) .self)
+            MaySend (side w (cond (is-fresh || is-offer) Client (cond is-batch producer-end Server)) .self)
             (cond is-fresh (OPEN (97 ∷ []) []) (cond is-offer (READY n) (cond is-batch (DATA 0 false []) (READY 1))))
 
-        in-batch : phase ≡ batch → (end : End) → producer-end ≡ end → Speaks (side w end .self) (DATA 0 false [])
+        in-batch : phase ≡ batch → (end : End) → producer-end ≡ end → MaySend (side w end .self) (DATA 0 false [])
         in-batch batching Client mine = gives-data Client (w .client .self) (linked .here .sound) (linked .here .role) mine batching
         in-batch batching Server mine =
             gives-data Server (w .server .self) (linked .there .sound) (linked .there .role)
-            (linked .there .terms (omega (arith, rests .same-phase), omega (arith, rests .same-phase)) .agreed ∙ ap (producing Client) (sym (linked .here .flows)) ∙ mine)
+            (linked .there .terms (omega (arith, rests .same-phase), omega (arith, rests .same-phase)) .produced ∙ ap (producing Client) (sym (linked .here .flows)) ∙ mine)
             (sym (rests .same-phase) ∙ batching)
 
         from-batch : (t : Bool) → eqb phase batch ≡ t → (phase ≡ fresh → ⊥) → (phase ≡ offer → ⊥) → spoken false false t
@@ -186,15 +188,18 @@ module _ (flow limit serverFlow : ℕ) where
     invariant-says : Holds w
     invariant-says =
         record {
-          understood = λ end s rest queued. let joint = seen-from flow limit serverFlow end w holds in
-              head-understood end (side w end) (side w (across end)) (joint .p) (joint .q) (joint .linked) s rest (sym (joint .linked .there .queued) ∙ queued);
-          silent = λ end closing. let joint = seen-from flow limit serverFlow end w holds in
+          answers = λ end s rest queued. let joint = seen-from flow limit serverFlow end w holds in
+              head-answered end (side w end) (side w (across end)) (joint .p) (joint .q) (joint .linked) s rest (sym (joint .linked .there .queued) ∙ queued);
+          waits = short-answered;
+          nothing-after-close = λ end closing. let joint = seen-from flow limit serverFlow end w holds in
               joint .linked .there .queued
-              ∙ ap (map bytesIn) (shut-meets (source flow limit serverFlow) end (rw (ap (λ (ending : Ending). stands ending (side w end .self)) closing) at (joint .linked .meets)));
-          leading = λ end. let joint = seen-from flow limit serverFlow end w holds in (joint .linked .delivers-across .rest, joint .linked .delivers-across .whole);
+              ∙ ap (map bytesIn) (shut-meets (source flow) end (rw (ap (λ (ending : Ending). stands ending (side w end .self)) closing) at (joint .linked .meets)));
+          closed-by-phase = λ end. seen-from flow limit serverFlow end w holds .linked .here .ends;
+          data-leads = λ end. let there = seen-from flow limit serverFlow end w holds .linked .delivers-across in (there .rest, sym (there .whole));
+          readies-lead = λ end. let there = seen-from flow limit serverFlow end w holds .linked .readies-across in (there .rest, sym (there .whole));
           within = all-within;
-          within-each = λ end. omega (arith, seen-from flow limit serverFlow end w holds .linked .here .counted .in-newest);
-          goes-on = λ client-open server-open none none-back. speaking (resting client-open server-open none none-back);
+          within-newest = λ end. omega (arith, seen-from flow limit serverFlow end w holds .linked .here .counted .in-newest);
+          may-send = λ going server-going none none-back. speaking (resting going server-going none none-back);
         }
 
 pub invariant-holds : InvariantHolds

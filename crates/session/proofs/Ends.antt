@@ -12,23 +12,25 @@ use Rattle.sending.specs.Calls.{Call, OPEN, READY, DATA, NOOP, CLOSE, messageOf
 use Rattle.sending.specs.Sending.{sendOf}
 use Rattle.machine.specs.Good.{Fits}
 use Rattle.machine.proofs.Rows.{closed-sound}
-use Rattle.session.specs.World.{End, Client, Server, across, Ending, Going, HeardClose, WroteClose, Side, having, taking, agreement, endedBy}
-use Rattle.session.specs.Turns.{Packet, Called, Confirms, Closes, bytesIn, movesLike, typeDataIn, dataIn, roleOf, producing}
-use Rattle.session.specs.Invariant.{Ends, Knows, Terms, source, AllProper, Proper, Sides}
+use Rattle.session.specs.World.{End, across, Ending, Side, endedBy, wrote, took, Client, Server, Going, HeardClose, WroteClose}
+use Rattle.session.specs.Packets.{Packet, bytesIn, movesLike, typeDataIn, dataIn, readyIn, Called, Confirms, Closes}
+use Rattle.session.specs.Turns.{roleOf, producing}
+use Rattle.session.specs.Demand.{PhaseFits}
+use Rattle.session.specs.Invariant.{Knows, source, Settled, Proper, AllProper, OneEnd}
 use Rattle.session.proofs.Table.{Moved, opens, offers, takes, gives, rests, closes, row-moved, begun-low, moved-low}
 use Rattle.session.proofs.Counts.{sent-counted, heard-counted, closed-counted}
 use Rattle.session.proofs.Packets.{SentOn, Comes, answersIn, limitAfter, isOpen, Sort, an-open, another, sort}
 
 -- an end that is not in phase 5 has not closed
-pub is-going : (ending : Ending) (phase : ℕ) → Ends ending phase → phase ≤ batch → ending ≡ Going
+pub is-going : (ending : Ending) (phase : ℕ) → PhaseFits ending phase → phase ≤ batch → ending ≡ Going
 is-going Going phase ends low = refl
 is-going HeardClose phase ends low = absurd (omega (arith, ends))
 is-going WroteClose phase ends low = absurd (omega (arith, ends))
 
 -- where a row leads, the writer and the hearer of its message have closed in phase 5 and nowhere else
 
-moved-ends : (how : Ending) → Ends how shut → {role flow phase n type-data next count : ℕ} {message : MessageType} → Moved role flow phase n message type-data next count
-    → Ends (endedBy how message Going) next
+moved-ends : (how : Ending) → PhaseFits how shut → {role flow phase n type-data next count : ℕ} {message : MessageType} → Moved role flow phase n message type-data next count
+    → PhaseFits (endedBy how message Going) next
 moved-ends how closing (opens role begins) = omega arith
 moved-ends how closing (offers differs low high begins) = begun-low (omega arith) begins
 moved-ends how closing (takes role offered few begins) = begun-low (omega arith) begins
@@ -87,20 +89,20 @@ module _ (flow limit serverFlow : ℕ) where
   answers-proper end (Closes code) made = tt
 
   -- a closed client has its limit and flow still
-  closed-terms : (end : End) {e : Endpoint} → Knows end shut → (Knows end (e .phase) → Terms flow limit serverFlow end e) → Terms flow limit serverFlow end (closed e)
+  closed-terms : (end : End) {e : Endpoint} → Knows end shut → (Knows end (e .phase) → Settled flow limit serverFlow end e) → Settled flow limit serverFlow end (closed e)
   unfolding closed
-  closed-terms Client still terms = record { limited = terms tt .limited; agreed = terms tt .agreed }
+  closed-terms Client still terms = record { limited = terms tt .limited; produced = terms tt .produced }
   closed-terms Server still terms = absurd (omega (arith, still .1))
 
-  module _ (end : End) (x : Side Endpoint) (p : List Packet) (here : Sides flow limit serverFlow end x p) where
+  module _ (end : End) (x : Side Endpoint) (p : List Packet) (here : OneEnd flow limit serverFlow end x p) where
     -- an end that sent a call
     pub sent-sides : (call : Call) (room : ℕ) → Fits call → sendOf (x .self) call room .number ≡ 0 → SentOn (x .self) call room
-        → Sides flow limit serverFlow end (having end x call (written (x .self) call) (sendOf (x .self) call room .next)) (p ++ (Called (x .self) call room ∷ []))
+        → OneEnd flow limit serverFlow end (wrote end x call (written (x .self) call) (sendOf (x .self) call room .next)) (p ++ (Called (x .self) call room ∷ []))
     sent-sides call room fits number sent =
         let comes = sent .comes in
         let moves = row-moved (roleOf end) (x .self .flow) (x .self .phase) (x .self .n) (messageOf call) (typeDataOf call) (sent .phase) (sent .n) (rw (here .role) at (sent .leads)) in
         let knows = sender-knows end moves in
-        let going = is-going (x .ending) (x .self .phase) (here .ends) (moved-low moves) in
+        let going = is-going (x .past .ending) (x .self .phase) (here .ends) (moved-low moves) in
         record {
           sound = comes .sound;
           role = comes .role ∙ here .role;
@@ -113,17 +115,17 @@ module _ (flow limit serverFlow : ℕ) where
           terms =
               λ still. record {
                 limited = comes .limited ∙ here .terms knows .limited;
-                agreed = ap (producing end) (comes .flow) ∙ here .terms knows .agreed;
+                produced = ap (producing end) (comes .flow) ∙ here .terms knows .produced;
               };
-          counted = sent-counted end x (here .sound) (here .counted) (sendOf (x .self) call room .next) (sent .phase) (sent .n) (comes .phased) (comes .counted) (x .self .flow) call (written (x .self) call) moves;
+          counted = sent-counted end (x .self) (here .sound) (x .past) (here .counted) (sendOf (x .self) call room .next) (sent .phase) (sent .n) (comes .phased) (comes .counted) (x .self .flow) call moves;
         }
 
     -- an end that has not closed heard a packet, whose row leads to this phase and n; an OPEN only where it is for who produces
     pub heard-sides : (m : Packet) (phase n : ℕ) (next : Endpoint) → Proper flow limit serverFlow (across end) m
         → Moved (roleOf (across end)) (other (x .self .flow)) (x .self .phase) (x .self .n) (movesLike m) (typeDataIn m) phase n
-        → (isOpen (movesLike m) ≡ true → producing end (x .self .flow) ≡ source flow limit serverFlow) → Comes (x .self) phase n (limitAfter m (x .self .limit)) next
-        → Sides flow limit serverFlow end
-        (taking x (dataIn m) (agreement (across end) (movesLike m) (typeDataIn m)) (map bytesIn (answersIn m)) (endedBy HeardClose (movesLike m) Going) next)
+        → (isOpen (movesLike m) ≡ true → producing end (x .self .flow) ≡ source flow) → Comes (x .self) phase n (limitAfter m (x .self .limit)) next
+        → OneEnd flow limit serverFlow end
+        (took end x (dataIn m) (readyIn m) (endedBy HeardClose (movesLike m) Going) (map bytesIn (answersIn m)) next)
         (p ++ answersIn m)
     heard-sides m phase n next proper moves produces comes =
         record {
@@ -133,21 +135,21 @@ module _ (flow limit serverFlow : ℕ) where
           ends = rw (comes .phased) (moved-ends HeardClose refl moves);
           queued = queued-append x p (answersIn m) (map bytesIn (answersIn m)) (here .queued) refl;
           proper = proper-append end p (answersIn m) (here .proper) (answers-proper end m proper);
-          terms = λ known. record { limited = comes .limited ∙ terms-there .0; agreed = ap (producing end) (comes .flow) ∙ terms-there .1 };
-          counted = heard-counted end x (here .sound) (here .counted) next phase n (comes .phased) (comes .counted) (other (x .self .flow)) m (map bytesIn (answersIn m)) (endedBy HeardClose (movesLike m) Going) moves;
+          terms = λ known. record { limited = comes .limited ∙ terms-there .0; produced = ap (producing end) (comes .flow) ∙ terms-there .1 };
+          counted = heard-counted end (x .self) (here .sound) (x .past) (here .counted) next phase n (comes .phased) (comes .counted) (other (x .self .flow)) m (endedBy HeardClose (movesLike m) Going) moves;
         }
       where
         -- an OPEN brings the terms, and any other packet comes to an end that knows them
-        by-sort : (m : Packet) → Sort m → Proper flow limit serverFlow (across end) m → (isOpen (movesLike m) ≡ true → producing end (x .self .flow) ≡ source flow limit serverFlow)
-            → (isOpen (movesLike m) ≡ false → Terms flow limit serverFlow end (x .self)) → (limitAfter m (x .self .limit) ≡ limit) × (producing end (x .self .flow) ≡ source flow limit serverFlow)
+        by-sort : (m : Packet) → Sort m → Proper flow limit serverFlow (across end) m → (isOpen (movesLike m) ≡ true → producing end (x .self .flow) ≡ source flow)
+            → (isOpen (movesLike m) ≡ false → Settled flow limit serverFlow end (x .self)) → (limitAfter m (x .self .limit) ≡ limit) × (producing end (x .self .flow) ≡ source flow)
         by-sort _ (an-open e asked wanted room) made brings knows = (made .limited, brings refl)
-        by-sort _ (another later offered stays) made brings knows = (stays (x .self .limit) ∙ knows later .limited, knows later .agreed)
+        by-sort _ (another later offered stays) made brings knows = (stays (x .self .limit) ∙ knows later .limited, knows later .produced)
 
-        terms-there : (limitAfter m (x .self .limit) ≡ limit) × (producing end (x .self .flow) ≡ source flow limit serverFlow)
+        terms-there : (limitAfter m (x .self .limit) ≡ limit) × (producing end (x .self .flow) ≡ source flow)
         terms-there = by-sort m (sort m) proper produces (λ later. here .terms (hearer-knows end later moves))
 
     -- an end that refused an OPEN
-    pub refused-sides : (code : ℕ) → code < 256 ^ 2 → Sides flow limit serverFlow end (taking x [] [] (map bytesIn (Closes code ∷ [])) WroteClose (closed (x .self))) (p ++ (Closes code ∷ []))
+    pub refused-sides : (code : ℕ) → code < 256 ^ 2 → OneEnd flow limit serverFlow end (took end x [] [] WroteClose (map bytesIn (Closes code ∷ [])) (closed (x .self))) (p ++ (Closes code ∷ []))
     unfolding closed
     refused-sides code few =
         record {
@@ -158,5 +160,5 @@ module _ (flow limit serverFlow : ℕ) where
           queued = queued-append x p (Closes code ∷ []) (bytesIn (Closes code) ∷ []) (here .queued) refl;
           proper = proper-append end p (Closes code ∷ []) (here .proper) (few, tt);
           terms = λ still. closed-terms end still (here .terms);
-          counted = closed-counted x (here .counted) (map bytesIn (Closes code ∷ [])) WroteClose;
+          counted = closed-counted end (x .self) (x .past) (here .counted) WroteClose;
         }

@@ -2,12 +2,12 @@
 use mathlib.Core.Path.{_≡_, _∙_, ap, refl, subst, sym}
 use Prim.Native.Nat.{ℕ, _≤_}
 use mathlib.Core.List.{List, [], _∷_}
-use mathlib.Core.Bool.{Bool, true, false, cond, not, _&&_, _||_}
+use mathlib.Core.Bool.{Bool, true, false, cond, not}
 use native.Mathlib.Omega.{arith}
-use lib.Dec.{eqb, leb, ltb}
+use lib.Dec.{eqb, ltb}
 use lib.ListN.{length, take}
 use lib.Seq.{take-all}
-use borrow.Author.Tests.{eqb-true, le-leb, lt-leb, ltb-false}
+use borrow.Author.Tests.{eqb-true, eqb-false, le-leb, lt-leb, ltb-false}
 use Rattle.bytes_be.specs.Part.{putAt}
 use Rattle.bytes_be.proofs.Parts.{length-put, part-put}
 use Rattle.endpoint.specs.declared.Endpoint.{Endpoint}
@@ -26,10 +26,11 @@ use Rattle.sending.proofs.Decided.{accepted-passed, accepted-sent}
 use Rattle.machine.specs.Good.{Fits, Sound}
 use Rattle.machine.specs.Refusals.{Outcome, stays, closes, hears}
 use Rattle.machine.proofs.Good.{sent-good}
-use Rattle.machine.proofs.Refusals.{receive-comes-to}
+use Rattle.machine.proofs.Refusals.{receive-comes-to, refused-send-stays}
 use Rattle.fbdp.specs.Blocks.{SendAnswer, ReceiveAnswer, keptAfter, keptBy, leaves, stored}
-use Rattle.session.specs.World.{End, Client, Server, across, Side, World, side, joined, having, taking, withQueue, endingHeard, endingReplied, replies, isKept, Event, receives, AllFit, afterSend, afterBundle, afterReceive, step}
-use Rattle.session.specs.Blocks.{Calls, sent, received, nothing-there, afterEntry, afterReceived, agreementTold, dataTold, endingTold, repliesTold, loaded, loadedSide, withBlock}
+use Rattle.session.specs.World.{End, across, Side, World, Event, EventFits, endingReplied, endingHeard, replies, side, joined, became, withQueue, wrote, took, afterSend, afterBundle, isKept, afterReceive, step, Client, Server, receives}
+use Rattle.session.specs.Blocks.{afterEntry, dataTold, readyTold, repliesTold, endingTold, afterReceived, Calls, loadedSide, loaded, sent, received, nothing-there, none}
+use Rattle.session.proofs.Demand.{joined-sides}
 use Rattle.session.proofs.Told.{replies-told, told}
 
 -- the ends of two that are joined, and the records that their blocks hold
@@ -37,10 +38,6 @@ use Rattle.session.proofs.Told.{replies-told, told}
 side-joined : {A : Type 0} (end : End) (x y : Side A) → side (joined end x y) end ≡ x
 side-joined Client x y = refl
 side-joined Server x y = refl
-
-joined-sides : {A : Type 0} (w : World A) (end : End) → joined end (side w end) (side w (across end)) ≡ w
-joined-sides w Client = refl
-joined-sides w Server = refl
 
 loaded-joined : (end : End) (x y : Side (List ℕ)) → loaded (joined end x y) ≡ joined end (loadedSide x) (loadedSide y)
 loaded-joined Client x y = refl
@@ -111,11 +108,13 @@ module _ (end : End) (x : Side (List ℕ)) (sound : Sound (loadOf (x .self))) (c
   sent-side = ap (λ (k : ℕ). loadedSide (afterEntry end x call k count block′ out′)) (answer .finished .numbered) ∙ go (eqb (result .number) 0) refl
     where
       go : (t : Bool) → eqb (result .number) 0 ≡ t →
-          loadedSide (cond t (having end x call (take count out′) block′) (withBlock x block′)) ≡ cond t (having end (loadedSide x) call (written before call) (result .next)) (loadedSide x)
+          loadedSide (cond t (wrote end x call (take count out′) block′) (became x block′)) ≡ cond t (wrote end (loadedSide x) call (written before call) (result .next)) (became (loadedSide x) (result .next))
       go true is =
           let accepts = eqb-true (result .number) 0 is in
-          λ i. having end (loadedSide x) call (bytes-out accepts i) (sent-back accepts i)
-      go false is = ap (λ (block : List ℕ). loadedSide (withBlock x block)) (refused-kept is)
+          λ i. wrote end (loadedSide x) call (bytes-out accepts i) (sent-back accepts i)
+      go false is =
+          ap (λ (block : List ℕ). loadedSide (became x block)) (refused-kept is)
+          ∙ ap (became (loadedSide x)) (sym (ap (λ (s : Sent). s .next) (refused-send-stays before call (length out) (eqb-false _ _ is))))
 
 -- a message that is not left where it is had an output with room for a reply
 roomy : (e : Endpoint) (s name format : List ℕ) (room : ℕ) → isKept (answerNumber (receivedOf e s name format room .answer)) ≡ false → 14 ≤ room
@@ -135,16 +134,6 @@ received-back block _ (closes number said among) full sound =
     simp (le-leb 1 number (omega (arith, among .0)), lt-leb number 3 (omega (arith, among .0))) (stored-back _ sound block full)
 received-back block _ (hears heard next reply) full sound = stored-back next sound block full
 
--- 1 and 2 leave the block as it was
-kept-leaves : (number : ℕ) → isKept number ≡ true → leaves number ≡ true
-unfolding leaves
-kept-leaves number is = go (eqb number 1) (eqb number 2) refl refl is
-  where
-    go : (one two : Bool) → eqb number 1 ≡ one → eqb number 2 ≡ two → one || two ≡ true → leb 1 number && leb number 3 ≡ true
-    go true two first second is = rw (eqb-true number 1 first) refl
-    go false true first second is = rw (eqb-true number 2 second) refl
-    go false false first second is = let z : _≡_ {A = ℕ} 0 1 = cc in absurd (omega arith)
-
 -- the ends of a receive: what the entry told, wrote and left is what the record in its block came to
 
 module _ (end : End) (x : Side (List ℕ)) (sound : Sound (loadOf (x .self))) (s name format out : List ℕ) (number : ℕ) (slots block′ out′ : List ℕ)
@@ -154,30 +143,34 @@ module _ (end : End) (x : Side (List ℕ)) (sound : Sound (loadOf (x .self))) (s
 
   -- the end that took a message
   taken-side : isKept (answerNumber (heard .answer)) ≡ false → Sound (heard .next) →
-      loadedSide (taking x (dataTold s slots) (agreementTold end slots) (repliesTold slots out′) (endingTold number slots (x .ending)) block′)
+      loadedSide (took end x (dataTold s slots) (readyTold slots) (endingTold number slots (x .past .ending)) (repliesTold slots out′) block′)
       ≡ afterBundle end (loadedSide x) s heard
   taken-side left next-sound =
       let says = told (loadOf (x .self)) s name format (length out) in
       let carried = ap (dataTold s) (answer .told) ∙ says .carried in
-      let agrees = ap (agreementTold end) (answer .told) ∙ says .agrees end in
+      let readied = ap readyTold (answer .told) ∙ says .readied in
       let replied : repliesTold slots out′ ≡ replies (heard .reply) =
       (λ i. repliesTold (answer .told i) (answer .left i)) ∙ replies-told heard out (roomy (loadOf (x .self)) s name format (length out) left) in
-      let ends : endingTold number slots (x .ending) ≡ endingReplied (heard .reply) (endingHeard (heard .answer) (x .ending)) =
-      (λ i. endingTold (answer .numbered i) (answer .told i) (x .ending)) ∙ says .ends (x .ending) in
+      let ends : endingTold number slots (x .past .ending) ≡ endingReplied (heard .reply) (endingHeard (heard .answer) (x .past .ending)) =
+      (λ i. endingTold (answer .numbered i) (answer .told i) (x .past .ending)) ∙ says .ends (x .past .ending) in
       let back = ap loadOf (answer .kept) ∙ received-back (x .self) heard (receive-comes-to (loadOf (x .self)) s name format (length out)) (block-full (x .self) sound) next-sound in
-      λ i. taking (loadedSide x) (carried i) (agrees i) (replied i) (ends i) (back i)
+      λ i. took end (loadedSide x) (carried i) (readied i) (ends i) (replied i) (back i)
 
   -- and one that left it
-  left-side : isKept (answerNumber (heard .answer)) ≡ true → withBlock x block′ ≡ x
-  unfolding keptBy
-  left-side is =
-      let kept : block′ ≡ x .self = rw (kept-leaves (answerNumber (heard .answer)) is) at (answer .kept) in
-      ap (withBlock x) kept
+  left-side : isKept (answerNumber (heard .answer)) ≡ true → Sound (heard .next) → loadedSide (became x block′) ≡ became (loadedSide x) (heard .next)
+  left-side is next-sound =
+      let back = ap loadOf (answer .kept) ∙ received-back (x .self) heard (receive-comes-to (loadOf (x .self)) s name format (length out)) (block-full (x .self) sound) next-sound in
+      λ i. became (loadedSide x) (back i)
 
   module _ (y : Side (List ℕ)) (rest : List (List ℕ)) where
-    taken-sound : Sound (side (afterReceive end (loadedSide x) (loadedSide y) (s ∷ rest) name format (length out)) end .self) → isKept (answerNumber (heard .answer)) ≡ false → Sound (heard .next)
+    next-sound : Sound (side (afterReceive end (loadedSide x) (loadedSide y) (s ∷ rest) name format (length out)) end .self) → Sound (heard .next)
     unfolding afterReceive
-    taken-sound after is = subst (λ (z : Side Endpoint). Sound (z .self)) (side-joined end _ _) (rw is at after)
+    next-sound = go (isKept (answerNumber (heard .answer)))
+      where
+        go : (t : Bool) → Sound (side (cond t (joined end (became (loadedSide x) (heard .next)) (loadedSide y)) (joined end (afterBundle end (loadedSide x) s heard) (withQueue (loadedSide y) rest))) end .self)
+            → Sound (heard .next)
+        go true after = subst (λ (z : Side Endpoint). Sound (z .self)) (side-joined end _ _) after
+        go false after = subst (λ (z : Side Endpoint). Sound (z .self)) (side-joined end _ _) after
 
     received-world : Sound (side (afterReceive end (loadedSide x) (loadedSide y) (s ∷ rest) name format (length out)) end .self) →
         loaded (afterReceived end x y s rest number slots block′ out′) ≡ afterReceive end (loadedSide x) (loadedSide y) (s ∷ rest) name format (length out)
@@ -187,20 +180,20 @@ module _ (end : End) (x : Side (List ℕ)) (sound : Sound (loadOf (x .self))) (s
         after : Bool → World (List ℕ)
         after t =
             cond t
-            (joined end (withBlock x block′) y)
+            (joined end (became x block′) y)
             (joined end
-            (taking x (dataTold s slots) (agreementTold end slots) (repliesTold slots out′) (endingTold number slots (x .ending)) block′)
+            (took end x (dataTold s slots) (readyTold slots) (endingTold number slots (x .past .ending)) (repliesTold slots out′) block′)
             (withQueue y rest))
 
-        go : (t : Bool) → isKept (answerNumber (heard .answer)) ≡ t → loaded (after t) ≡ cond t (joined end (loadedSide x) (loadedSide y)) (joined end (afterBundle end (loadedSide x) s heard) (withQueue (loadedSide y) rest))
-        go true is = loaded-joined end (withBlock x block′) y ∙ ap (λ (z : Side (List ℕ)). joined end (loadedSide z) (loadedSide y)) (left-side is)
-        go false is = loaded-joined end _ (withQueue y rest) ∙ ap (λ (z : Side Endpoint). joined end z (withQueue (loadedSide y) rest)) (taken-side is (taken-sound after-sound is))
+        go : (t : Bool) → isKept (answerNumber (heard .answer)) ≡ t → loaded (after t) ≡ cond t (joined end (became (loadedSide x) (heard .next)) (loadedSide y)) (joined end (afterBundle end (loadedSide x) s heard) (withQueue (loadedSide y) rest))
+        go true is = loaded-joined end (became x block′) y ∙ ap (λ (z : Side Endpoint). joined end z (loadedSide y)) (left-side is (next-sound after-sound))
+        go false is = loaded-joined end _ (withQueue y rest) ∙ ap (λ (z : Side Endpoint). joined end z (withQueue (loadedSide y) rest)) (taken-side is (next-sound after-sound))
 
 -- every call of an entry makes of the blocks what the same call makes of their records
-pub call-loads : (w : World (List ℕ)) (event : Event) (after : World (List ℕ)) → Calls w event after → AllFit (event ∷ []) → AllSound (loaded w) → AllSound (step (loaded w) event) → loaded after ≡ step (loaded w) event
+pub call-loads : (w : World (List ℕ)) (event : Event) (after : World (List ℕ)) → Calls w event after → EventFits event → AllSound (loaded w) → AllSound (step (loaded w) event) → loaded after ≡ step (loaded w) event
 unfolding step afterReceive
 call-loads w _ _ (sent end call out number count block′ out′ answer) fits sound next-sound =
-    let here = sent-side end (side w end) (block-sound w sound end) call (fits .0) out number count block′ out′ answer ∙ ap (λ (x : Side Endpoint). afterSend end x call (length out)) (loaded-at w end) in
+    let here = sent-side end (side w end) (block-sound w sound end) call fits out number count block′ out′ answer ∙ ap (λ (x : Side Endpoint). afterSend end x call (length out)) (loaded-at w end) in
     loaded-joined end _ (side w (across end)) ∙ λ i. joined end (here i) (loaded-at w (across end) i)
 call-loads w _ _ (received end s rest name format out number slots block′ out′ queue answer) fits sound next-sound =
     let head : s ∷ rest ≡ side (loaded w) (across end) .queue = sym queue ∙ ap (λ (y : Side Endpoint). y .queue) (loaded-at w (across end)) in

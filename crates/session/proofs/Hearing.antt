@@ -2,7 +2,7 @@
 -- them. Assumes nothing.
 use mathlib.Core.Path.{_≡_, refl, sym, _∙_, ap, subst}
 use Prim.Native.Nat.{ℕ, _≤_, _<_, _^_}
-use mathlib.Core.List.{List, [], _∷_, _++_, map, append-assoc, append-nil}
+use mathlib.Core.List.{List, [], _∷_, _++_, map, append-assoc, append-nil, flatMap}
 use mathlib.Core.Bool.{Bool, true, false, cond, _&&_, _||_}
 use native.Mathlib.Omega.{arith}
 use lib.Dec.{eqb}
@@ -21,11 +21,13 @@ use Rattle.table.specs.declared.Row.the-variants.{To}
 use Rattle.table.specs.Table.{other, rowOf}
 use Rattle.receiving.specs.Hearing.{hearOf}
 use Rattle.sending.specs.Calls.{OPEN, READY, DATA, NOOP, CLOSE, askOf, messageOf, typeDataOf}
-use Rattle.session.specs.World.{End, Client, Server, across, Ending, Going, WroteClose, Side, taking, withQueue, agreement, afterBundle, endedBy, HeardClose}
-use Rattle.session.specs.Turns.{Packet, Called, Confirms, Closes, bytesIn, movesLike, typeDataIn, entryFor, askedIn, confirmedIn, dataIn, collect, Kind, Token, Quiet, Closing, kindOf, Stage, Standing, At, Gone, IsOpen, stands, standing, roleOf, producing, turn, rests, Hears, moved, rested, closed as Hears·closed, Meets}
-use Rattle.session.specs.Invariant.{Knows, source, Proper, Sides, Linked}
-use Rattle.session.proofs.Table.{Moved, opens, gives, row-moved, row-hears, other-role, phaseIn, nIn, leads-alive, leads-active}
-use Rattle.session.proofs.Turns.{sends-meets, refuses-meets}
+use Rattle.session.specs.World.{End, across, Ending, Side, endedBy, withQueue, wrote, took, afterBundle, Client, Server, Going, HeardClose, WroteClose}
+use Rattle.session.specs.Packets.{Packet, bytesIn, movesLike, typeDataIn, dataIn, readyIn, Called, Confirms, Closes}
+use Rattle.session.specs.Turns.{roleOf, producing, turn, Kind, kindOf, Stage, Standing, stands, standing, IsOpen, Hears, Meets, Token, Quiet, Final, At, ClosedByItself, moved, rested, closed as Hears·closed}
+use Rattle.session.specs.Confirmations.{entryFor, askedIn, confirmedIn}
+use Rattle.session.specs.Invariant.{Knows, source, Proper, OneEnd, Linked}
+use Rattle.session.proofs.Table.{calms, Moved, opens, gives, row-moved, row-hears, other-role, phaseIn, nIn, leads-alive, leads-active}
+use Rattle.session.proofs.Turns.{across-differs, sends-meets, refuses-meets}
 use Rattle.session.proofs.Streams.{hears-awaits, gone-awaits, across-hears-awaits, across-gone-awaits, writes-delivers, hears-delivers, gone-delivers}
 use Rattle.session.proofs.Packets.{Comes, Taken, answersIn, limitAfter, offeredIn, isOpen, Sort, an-open, another, sort}
 use Rattle.session.proofs.Taking.{packet-taken}
@@ -36,7 +38,7 @@ use Rattle.session.proofs.Ends.{hearer-knows, heard-sides, refused-side
 abbrev endingOf : Ending → Kind → Ending
 endingOf how Token = Going
 endingOf how Quiet = Going
-endingOf how Closing = how
+endingOf how Final = how
 
 ended-kind : (how : Ending) (message : MessageType) → endedBy how message Going ≡ endingOf how (kindOf message)
 ended-kind how Open = refl
@@ -62,34 +64,47 @@ hearer-low from end s m (At t) (moved token theirs leads) is-open is-shut = omeg
 hearer-low from end s m _ (rested still active) is-open is-shut = omega (arith, active .1, is-shut)
 hearer-low from end s m _ (Hears·closed closing alive) is-open is-shut = is-open
 
--- what the confirmation of a packet asks for, confirms and carries
+-- what the confirmation of a packet asks for, confirms and carries, and that it is no READY
 
-answers-ask : (m : Packet) → collect askedIn (answersIn m) ≡ []
+answers-ask : (m : Packet) → flatMap askedIn (answersIn m) ≡ []
+unfolding flatMap
 answers-ask (Called e call room) = go (askOf call)
   where
-    go : (ask : Bool) → collect askedIn (cond ask (Confirms (messageOf call) (typeDataOf call) ∷ []) []) ≡ []
+    go : (ask : Bool) → flatMap askedIn (cond ask (Confirms (messageOf call) (typeDataOf call) ∷ []) []) ≡ []
     go true = refl
     go false = refl
 answers-ask (Confirms message type-data) = refl
 answers-ask (Closes code) = refl
 
-answers-confirm : (m : Packet) → collect confirmedIn (answersIn m) ≡ askedIn m
+answers-confirm : (m : Packet) → flatMap confirmedIn (answersIn m) ≡ askedIn m
+unfolding flatMap
 answers-confirm (Called e call room) = go (askOf call)
   where
-    go : (ask : Bool) → collect confirmedIn (cond ask (Confirms (messageOf call) (typeDataOf call) ∷ []) []) ≡ cond ask (entryFor (messageOf call) (typeDataOf call) ∷ []) []
+    go : (ask : Bool) → flatMap confirmedIn (cond ask (Confirms (messageOf call) (typeDataOf call) ∷ []) []) ≡ cond ask (entryFor (messageOf call) (typeDataOf call) ∷ []) []
     go true = refl
     go false = refl
 answers-confirm (Confirms message type-data) = refl
 answers-confirm (Closes code) = refl
 
-answers-carry : (m : Packet) → collect dataIn (answersIn m) ≡ []
+answers-carry : (m : Packet) → flatMap dataIn (answersIn m) ≡ []
+unfolding flatMap
 answers-carry (Called e call room) = go (askOf call)
   where
-    go : (ask : Bool) → collect dataIn (cond ask (Confirms (messageOf call) (typeDataOf call) ∷ []) []) ≡ []
+    go : (ask : Bool) → flatMap dataIn (cond ask (Confirms (messageOf call) (typeDataOf call) ∷ []) []) ≡ []
     go true = refl
     go false = refl
 answers-carry (Confirms message type-data) = refl
 answers-carry (Closes code) = refl
+
+answers-ready : (m : Packet) → flatMap readyIn (answersIn m) ≡ []
+unfolding flatMap
+answers-ready (Called e call room) = go (askOf call)
+  where
+    go : (ask : Bool) → flatMap readyIn (cond ask (Confirms (messageOf call) (typeDataOf call) ∷ []) []) ≡ []
+    go true = refl
+    go false = refl
+answers-ready (Confirms message type-data) = refl
+answers-ready (Closes code) = refl
 
 -- DATA moves on only in phase 4
 data-active : {role flow phase n type-data next count : ℕ} → Moved role flow phase n Data type-data next count → (idle ≤ phase) × (phase ≤ batch)
@@ -102,12 +117,12 @@ answers-meets from end (Called e (OPEN name format) room) hears meets = rw appen
 answers-meets from end (Called e (READY count) room) hears meets = rw append-nil meets
 answers-meets from end {s} (Called e (DATA type-data true body) room) (moved {t = t} token theirs leads) meets =
     let move = row-moved (roleOf (turn from (s .phase))) producer (s .phase) (s .n) Data type-data (t .phase) (t .n) leads in
-    sends-meets from end meets (rests refl (leads-active from s (Called e (DATA type-data true body) room) t token leads (data-active move)))
+    sends-meets from end meets (calms refl (leads-active from s (Called e (DATA type-data true body) room) t token leads (data-active move)))
 answers-meets from end (Called e (DATA type-data true body) room) (rested still active) meets = let z : _≡_ {A = ℕ} 0 1 = cc in absurd (omega arith)
 answers-meets from end (Called e (DATA type-data true body) room) (Hears·closed closing alive) meets = let z : _≡_ {A = ℕ} 0 1 = cc in absurd (omega arith)
 answers-meets from end (Called e (DATA type-data false body) room) hears meets = rw append-nil meets
 answers-meets from end (Called e (NOOP type-data true) room) (moved token theirs leads) meets = let z : _≡_ {A = ℕ} 0 1 = cc in absurd (omega arith)
-answers-meets from end (Called e (NOOP type-data true) room) (rested still active) meets = sends-meets from end meets (rests refl active)
+answers-meets from end (Called e (NOOP type-data true) room) (rested still active) meets = sends-meets from end meets (calms refl active)
 answers-meets from end (Called e (NOOP type-data true) room) (Hears·closed closing alive) meets = let z : _≡_ {A = ℕ} 0 1 = cc in absurd (omega arith)
 answers-meets from end (Called e (NOOP type-data false) room) hears meets = rw append-nil meets
 answers-meets from end (Called e (CLOSE code) room) hears meets = rw append-nil meets
@@ -115,15 +130,11 @@ answers-meets from end (Confirms message type-data) hears meets = rw append-nil 
 answers-meets from end (Closes code) hears meets = rw append-nil meets
 
 -- who hears data is of the other flow than who produces
-not-across : (end : End) → end ≡ across end → ⊥
-not-across Client same = let z : _≡_ {A = ℕ} 0 1 = cc in omega arith
-not-across Server same = let z : _≡_ {A = ℕ} 0 1 = cc in omega arith
-
 hearer-consumes : (end : End) (own : ℕ) → producing end own ≡ across end → other own ≡ producer
 hearer-consumes end own theirs = go (eqb own producer) theirs
   where
     go : (t : Bool) → cond t end (across end) ≡ across end → cond t 2 1 ≡ producer
-    go true same = absurd (not-across end same)
+    go true same = absurd (across-differs end (sym same))
     go false same = refl
 
 batch-known : (end : End) (phase : ℕ) → phase ≡ batch → Knows end phase
@@ -145,7 +156,7 @@ clients-open (opens role begins) = omega (arith, role)
 
 module _ (flow limit serverFlow : ℕ) where
   abbrev from : End
-  from = source flow limit serverFlow
+  from = source flow
 
   -- and so agrees on who produces
   open-source : (end : End) (r : Endpoint) (m : Packet) → Sort m → (name format : List ℕ) {seen phase n next count : ℕ} → Proper flow limit serverFlow (across end) m
@@ -162,7 +173,7 @@ module _ (flow limit serverFlow : ℕ) where
     stage = record { phase = x .self .phase; n = x .self .n }
 
     -- the writer of a packet that was received
-    left-sides : Sides flow limit serverFlow (across end) (withQueue y (map bytesIn q)) q
+    left-sides : OneEnd flow limit serverFlow (across end) (withQueue y (map bytesIn q)) q
     left-sides =
         let there = linked .there in
         record {
@@ -176,22 +187,23 @@ module _ (flow limit serverFlow : ℕ) where
           counted = there .counted;
         }
 
-    module _ (going : x .ending ≡ Going) where
+    module _ (going : x .past .ending ≡ Going) where
       was : standing x ≡ At stage
       was = ap (λ (ending : Ending). stands ending (x .self)) going
 
       -- the entries awaited, but for those that the packet confirms
       abbrev pub later : List Entry
-      later = collect confirmedIn q ++ linked .awaits .rest
+      later = flatMap confirmedIn q ++ linked .awaits .rest
 
       awaited-first : awaited (x .self) ≡ confirmedIn m ++ later
-      awaited-first = linked .awaits .held (rw was tt) ∙ append-assoc (confirmedIn m) (collect confirmedIn q) (linked .awaits .rest)
+      unfolding flatMap
+      awaited-first = linked .awaits .held (rw was tt) ∙ append-assoc (confirmedIn m) (flatMap confirmedIn q) (linked .awaits .rest)
 
       module _ (a : Standing) (hears : Hears from end (At stage) m a) where
         pub leads : rowOf (other (roleOf end)) (other (x .self .flow)) (x .self .phase) (x .self .n) (movesLike m) (typeDataIn m) ≡ To (phaseIn a) (nIn a)
         leads =
             row-hears from end (x .self .flow) stage m a hears
-            (λ theirs batching. hearer-consumes end (x .self .flow) (linked .here .terms (batch-known end (x .self .phase) batching) .agreed ∙ theirs))
+            (λ theirs batching. hearer-consumes end (x .self .flow) (linked .here .terms (batch-known end (x .self .phase) batching) .produced ∙ theirs))
 
         pub moves : Moved (roleOf (across end)) (other (x .self .flow)) (x .self .phase) (x .self .n) (movesLike m) (typeDataIn m) (phaseIn a) (nIn a)
         moves = row-moved (roleOf (across end)) (other (x .self .flow)) (x .self .phase) (x .self .n) (movesLike m) (typeDataIn m) (phaseIn a) (nIn a) (rw (other-role end) leads)
@@ -199,7 +211,7 @@ module _ (flow limit serverFlow : ℕ) where
         data-limit : movesLike m ≡ Data → x .self .limit ≡ limit
         data-limit bears = linked .here .terms (hearer-knows end (ap isOpen bears) moves) .limited
 
-        pub head-taken : (name format : List ℕ) → offeredIn m (x .self) name format ≡ true → Taken end (x .self) m name format (phaseIn a) (nIn a) later
+        pub head-taken : (name format : List ℕ) → offeredIn m (x .self) name format ≡ true → Taken (x .self) m name format (phaseIn a) (nIn a) later
         head-taken name format offers =
             packet-taken flow limit serverFlow end (x .self) m name format (phaseIn a) (nIn a) later
             (record {
@@ -215,7 +227,7 @@ module _ (flow limit serverFlow : ℕ) where
         taken-linked : (next : Endpoint) → Meets from end a p (standing y) q → (isOpen (movesLike m) ≡ true → producing end (x .self .flow) ≡ from)
             → Comes (x .self) (phaseIn a) (nIn a) (limitAfter m (x .self .limit)) next → ((phaseIn a ≡ shut → ⊥) → awaited next ≡ later)
             → Linked flow limit serverFlow end
-            (taking x (dataIn m) (agreement (across end) (movesLike m) (typeDataIn m)) (map bytesIn (answersIn m)) (endedBy HeardClose (movesLike m) Going) next)
+            (took end x (dataIn m) (readyIn m) (endedBy HeardClose (movesLike m) Going) (map bytesIn (answersIn m)) next)
             (withQueue y (map bytesIn q)) (p ++ answersIn m) q
         taken-linked next meets produces comes awaits =
             let after = hearer-stands from end stage m a next hears (comes .phased) (comes .counted) in
@@ -228,15 +240,17 @@ module _ (flow limit serverFlow : ℕ) where
                   (hears-awaits (standing x) a m (answersIn m) (awaited next) (answers-ask m) (linked .awaits)
                   (λ is-open. awaits (hearer-low from end stage m a hears is-open)));
               awaits-across = rw after (across-hears-awaits (standing y) a stage m (answersIn m) (answers-confirm m) (rw was at (linked .awaits-across)));
-              delivers = writes-delivers (standing y) (answersIn m) (answers-carry m) (linked .delivers);
-              delivers-across = rw after (hears-delivers stage a m (rw was at (linked .delivers-across)));
+              delivers = writes-delivers dataIn (standing y) (answersIn m) (answers-carry m) (linked .delivers);
+              delivers-across = rw after (hears-delivers dataIn stage a m (rw was at (linked .delivers-across)));
+              readies = writes-delivers readyIn (standing y) (answersIn m) (answers-ready m) (linked .readies);
+              readies-across = rw after (hears-delivers readyIn stage a m (rw was at (linked .readies-across)));
             }
 
         -- what the world notes of it
-        taken-noted : (name format : List ℕ) → Taken end (x .self) m name format (phaseIn a) (nIn a) later
+        taken-noted : (name format : List ℕ) → Taken (x .self) m name format (phaseIn a) (nIn a) later
             → afterBundle end x (bytesIn m) (hearOf (x .self) (bytesIn m) name format)
-            ≡ taking x (dataIn m) (agreement (across end) (movesLike m) (typeDataIn m)) (map bytesIn (answersIn m)) (endedBy HeardClose (movesLike m) Going) (hearOf (x .self) (bytesIn m) name format .next)
-        taken-noted name format taken = simp (taken .answered, taken .carried, taken .agrees, taken .replied, going, taken .ends Going)
+            ≡ took end x (dataIn m) (readyIn m) (endedBy HeardClose (movesLike m) Going) (map bytesIn (answersIn m)) (hearOf (x .self) (bytesIn m) name format .next)
+        taken-noted name format taken = simp (taken .answered, taken .carried, taken .readied, taken .replied, going, taken .ends Going)
 
         pub heard-linked : (name format : List ℕ) → offeredIn m (x .self) name format ≡ true → Meets from end a p (standing y) q
             → Linked flow limit serverFlow end (afterBundle end x (bytesIn m) (hearOf (x .self) (bytesIn m) name format)) (withQueue y (map bytesIn q)) (p ++ answersIn m) q
@@ -247,7 +261,8 @@ module _ (flow limit serverFlow : ℕ) where
 
       -- an OPEN that was refused, with the code of its CLOSE
       pub refused-linked : (code : ℕ) → code < 256 ^ 2 → kindOf (movesLike m) ≡ Token
-          → Linked flow limit serverFlow end (taking x [] [] (map bytesIn (Closes code ∷ [])) WroteClose (closed (x .self))) (withQueue y (map bytesIn q)) (p ++ (Closes code ∷ [])) q
+          → Linked flow limit serverFlow end (took end x [] [] WroteClose (map bytesIn (Closes code ∷ [])) (closed (x .self))) (withQueue y (map bytesIn q)) (p ++ (Closes code ∷ [])) q
+      unfolding flatMap
       refused-linked code few token =
           record {
             here = refused-sides flow limit serverFlow end x p (linked .here) code few;
@@ -255,14 +270,16 @@ module _ (flow limit serverFlow : ℕ) where
             meets = refuses-meets from end (Closes code) token refl (rw was at (linked .meets));
             awaits = gone-awaits (standing x) m (Closes code ∷ []) _ refl (linked .awaits);
             awaits-across = across-gone-awaits (standing y) (standing x) m (Closes code ∷ []) refl (linked .awaits-across);
-            delivers = writes-delivers (standing y) (Closes code ∷ []) refl (linked .delivers);
-            delivers-across = rw append-nil (gone-delivers (standing x) m (linked .delivers-across));
+            delivers = writes-delivers dataIn (standing y) (Closes code ∷ []) refl (linked .delivers);
+            delivers-across = rw append-nil (gone-delivers dataIn (standing x) m (linked .delivers-across));
+            readies = writes-delivers readyIn (standing y) (Closes code ∷ []) refl (linked .readies);
+            readies-across = rw append-nil (gone-delivers readyIn (standing x) m (linked .readies-across));
           }
 
     -- a packet that came after the own close
-    pub late-linked : x .ending ≡ WroteClose → Meets from end Gone p (standing y) q → Linked flow limit serverFlow end x (withQueue y (map bytesIn q)) p q
+    pub late-linked : x .past .ending ≡ WroteClose → Meets from end ClosedByItself p (standing y) q → Linked flow limit serverFlow end x (withQueue y (map bytesIn q)) p q
     late-linked wrote meets =
-        let gone : standing x ≡ Gone = ap (λ (ending : Ending). stands ending (x .self)) wrote in
+        let gone : standing x ≡ ClosedByItself = ap (λ (ending : Ending). stands ending (x .self)) wrote in
         record {
           here = linked .here;
           there = left-sides;
@@ -270,5 +287,7 @@ module _ (flow limit serverFlow : ℕ) where
           awaits = record { rest = linked .awaits .rest; held = λ is-open. absurd (rw gone at is-open); due = linked .awaits .due };
           awaits-across = record { rest = linked .awaits-across .rest; held = linked .awaits-across .held; due = λ is-open. absurd (rw gone at is-open) };
           delivers = linked .delivers;
-          delivers-across = rw gone (gone-delivers (standing x) m (linked .delivers-across));
+          delivers-across = rw gone (gone-delivers dataIn (standing x) m (linked .delivers-across));
+          readies = linked .readies;
+          readies-across = rw gone (gone-delivers readyIn (standing x) m (linked .readies-across));
         }

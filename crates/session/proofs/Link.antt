@@ -2,7 +2,7 @@
 -- Assumes nothing.
 use mathlib.Core.Path.{_≡_, refl, sym, _∙_, ap, subst}
 use Prim.Native.Nat.{ℕ, _≤_}
-use mathlib.Core.List.{List, [], _∷_, _++_}
+use mathlib.Core.List.{List, [], _∷_, _++_, flatMap}
 use native.Mathlib.Omega.{arith}
 use borrow.Author.Tests.{eq-eqb}
 use Rattle.control.specs.declared.MessageType.{MessageType}
@@ -11,9 +11,10 @@ use Rattle.endpoint.specs.Record.{producer, batch, shut}
 use Rattle.sending.specs.Calls.{Call, messageOf, typeDataOf, written}
 use Rattle.sending.specs.Sending.{sendOf}
 use Rattle.machine.specs.Good.{Fits}
-use Rattle.session.specs.World.{End, across, Ending, Going, Side, having, endedBy, WroteClose}
-use Rattle.session.specs.Turns.{Packet, Called, At, IsOpen, stands, standing, roleOf, producing}
-use Rattle.session.specs.Invariant.{Sides, Linked, source}
+use Rattle.session.specs.World.{End, across, Ending, Side, endedBy, wrote, Going, WroteClose}
+use Rattle.session.specs.Packets.{Packet, dataIn, readyIn, Called}
+use Rattle.session.specs.Turns.{roleOf, producing, stands, standing, IsOpen, At}
+use Rattle.session.specs.Invariant.{source, OneEnd, Linked}
 use Rattle.session.proofs.Table.{Moved, opens, offers, takes, gives, rests, closes, row-moved, row-sends, begun-low, moved-low, landing, landing-at}
 use Rattle.session.proofs.Turns.{across-meets, across-twice, sends-meets}
 use Rattle.session.proofs.Streams.{sends-awaits, across-awaits, sends-delivers, across-delivers}
@@ -39,19 +40,21 @@ lands-low next count is-open is-shut = rw (eq-eqb next shut is-shut) at is-open
 
 module _ (flow limit serverFlow : ℕ) where
   abbrev from : End
-  from = source flow limit serverFlow
+  from = source flow
 
   -- the same two ends, seen from the other
   pub across-linked : (end : End) (x y : Side Endpoint) (p q : List Packet) → Linked flow limit serverFlow end x y p q → Linked flow limit serverFlow (across end) y x q p
   across-linked end x y p q linked =
       record {
         here = linked .there;
-        there = subst (λ (e : End). Sides flow limit serverFlow e x p) (across-twice end) (linked .here);
+        there = subst (λ (e : End). OneEnd flow limit serverFlow e x p) (across-twice end) (linked .here);
         meets = across-meets from end (linked .meets);
         awaits = linked .awaits-across;
         awaits-across = linked .awaits;
         delivers = linked .delivers-across;
         delivers-across = linked .delivers;
+        readies = linked .readies-across;
+        readies-across = linked .readies;
       }
 
   -- who produces, seen from an end that does
@@ -61,15 +64,16 @@ module _ (flow limit serverFlow : ℕ) where
   module _ (end : End) (x y : Side Endpoint) (p q : List Packet) (linked : Linked flow limit serverFlow end x y p q) where
     -- an accepted send
     called-linked : (call : Call) (room : ℕ) → Fits call → sendOf (x .self) call room .number ≡ 0 → SentOn (x .self) call room
-        → Linked flow limit serverFlow end (having end x call (written (x .self) call) (sendOf (x .self) call room .next)) y (p ++ (Called (x .self) call room ∷ [])) q
+        → Linked flow limit serverFlow end (wrote end x call (written (x .self) call) (sendOf (x .self) call room .next)) y (p ++ (Called (x .self) call room ∷ [])) q
+    unfolding flatMap
     called-linked call room fits number sent =
         let here = linked .here in
         let m : Packet = Called (x .self) call room in
         let leads = rw (here .role) at (sent .leads) in
         let moves = row-moved (roleOf end) (x .self .flow) (x .self .phase) (x .self .n) (messageOf call) (typeDataOf call) (sent .phase) (sent .n) leads in
-        let going = is-going (x .ending) (x .self .phase) (here .ends) (moved-low moves) in
+        let going = is-going (x .past .ending) (x .self .phase) (here .ends) (moved-low moves) in
         let knows = here .terms (sender-knows end moves) in
-        let after : stands (endedBy WroteClose (messageOf call) (x .ending)) (sendOf (x .self) call room .next) ≡ landing (sent .phase) (sent .n) =
+        let after : stands (endedBy WroteClose (messageOf call) (x .past .ending)) (sendOf (x .self) call room .next) ≡ landing (sent .phase) (sent .n) =
         rw going (writer-stands (sendOf (x .self) call room .next) (sent .comes .phased) (sent .comes .counted) moves) in
         let was : standing x ≡ At (record { phase = x .self .phase; n = x .self .n }) = ap (λ (ending : Ending). stands ending (x .self)) going in
         let was-open : IsOpen (standing x) = rw was tt in
@@ -79,16 +83,18 @@ module _ (flow limit serverFlow : ℕ) where
           meets =
               rw after
               (sends-meets from end (rw was at (linked .meets))
-              (row-sends from end (x .self .flow) (x .self .phase) (x .self .n) m (sent .phase) (sent .n) leads (λ produces batching. own-source end (x .self .flow) (knows .agreed) produces)));
+              (row-sends from end (x .self .flow) (x .self .phase) (x .self .n) m (sent .phase) (sent .n) leads (λ produces batching. own-source end (x .self .flow) (knows .produced) produces)));
           awaits =
               rw after
               (sends-awaits (record { phase = x .self .phase; n = x .self .n }) (landing (sent .phase) (sent .n)) m _
               (λ is-open. sent .awaits (lands-low (sent .phase) (sent .n) is-open)) (rw was at (linked .awaits)));
           awaits-across = across-awaits (standing y) _ (m ∷ []) (λ is-open. was-open) refl (linked .awaits-across);
-          delivers = sends-delivers (standing y) m (linked .delivers);
-          delivers-across = across-delivers (standing x) _ (λ is-open. was-open) (linked .delivers-across);
+          delivers = sends-delivers dataIn (standing y) m (linked .delivers);
+          delivers-across = across-delivers dataIn (standing x) _ (λ is-open. was-open) (linked .delivers-across);
+          readies = sends-delivers readyIn (standing y) m (linked .readies);
+          readies-across = across-delivers readyIn (standing x) _ (λ is-open. was-open) (linked .readies-across);
         }
 
     pub sent-linked : (call : Call) (room : ℕ) → Fits call → sendOf (x .self) call room .number ≡ 0
-        → Linked flow limit serverFlow end (having end x call (written (x .self) call) (sendOf (x .self) call room .next)) y (p ++ (Called (x .self) call room ∷ [])) q
+        → Linked flow limit serverFlow end (wrote end x call (written (x .self) call) (sendOf (x .self) call room .next)) y (p ++ (Called (x .self) call room ∷ [])) q
     sent-linked call room fits number = called-linked call room fits number (sent-on (x .self) call room (linked .here .sound) fits number)

@@ -29,9 +29,10 @@ use Rattle.machine.specs.Good.{Sound, Fits}
 use Rattle.machine.specs.Round.{isOffered}
 use Rattle.machine.proofs.Good.{sent-good}
 use Rattle.machine.proofs.Rows.{row-sound}
-use Rattle.session.specs.World.{End, across, Ending, WroteClose, Side, agreement, agreementHeard, endingHeard, endingReplied, dataHeard, replies, endedBy, HeardClose}
-use Rattle.session.specs.Turns.{Packet, Called, Confirms, Closes, bytesIn, movesLike, typeDataIn, askedIn, confirmedIn, dataIn, entryFor}
-use Rattle.session.specs.Demand.{Understood}
+use Rattle.session.specs.World.{End, across, Ending, Side, dataHeard, readyHeard, endedBy, endingReplied, endingHeard, replies, HeardClose, WroteClose}
+use Rattle.session.specs.Packets.{Packet, bytesIn, movesLike, typeDataIn, dataIn, readyIn, Called, Confirms, Closes}
+use Rattle.session.specs.Confirmations.{entryFor, askedIn, confirmedIn}
+use Rattle.session.specs.Demand.{MayAnswer}
 use Rattle.session.specs.Invariant.{Proper}
 use Rattle.session.proofs.Table.{row-moved, moved-empties}
 
@@ -97,12 +98,12 @@ sort (Called e (CLOSE code) room) = another refl (λ r name format. refl) (λ li
 sort (Confirms message type-data) = another refl (λ r name format. refl) (λ limit. refl)
 sort (Closes code) = another refl (λ r name format. refl) (λ limit. refl)
 
--- a packet that is heard: the data, the agreement and the ending that the world notes, the confirmation written, and the record afterwards
-pub record Taken (end : End) (r : Endpoint) (m : Packet) (name format : List ℕ) (phase n : ℕ) (rest : List Entry) : Type 0 where
+-- a packet that is heard: the data, the READY and the ending that the world notes, the confirmation written, and the record afterwards
+pub record Taken (r : Endpoint) (m : Packet) (name format : List ℕ) (phase n : ℕ) (rest : List Entry) : Type 0 where
   pub message : Heard
   pub answered : hearOf r (bytesIn m) name format .answer ≡ Answer·Heard message
   pub carried : dataHeard (bytesIn m) (Answer·Heard message) ≡ dataIn m
-  pub agrees : agreementHeard end (Answer·Heard message) ≡ agreement (across end) (movesLike m) (typeDataIn m)
+  pub readied : readyHeard (Answer·Heard message) ≡ readyIn m
   pub ends : (ending : Ending) → endingReplied (hearOf r (bytesIn m) name format .reply) (endingHeard (Answer·Heard message) ending) ≡ endedBy HeardClose (movesLike m) ending
   pub replied : replies (hearOf r (bytesIn m) name format .reply) ≡ map bytesIn (answersIn m)
   pub comes : Comes r phase n (limitAfter m (r .limit)) (hearOf r (bytesIn m) name format .next)
@@ -118,11 +119,11 @@ pub record MayTake (flow limit serverFlow : ℕ) (end : End) (r : Endpoint) (m :
   pub awaits : awaited r ≡ confirmedIn m ++ rest
 
 -- an OPEN for what is not offered is refused by 21 or 22, and the end closes with a CLOSE
-pub record OpenRefused (x : Side Endpoint) (s name format : List ℕ) (room : ℕ) : Type 0 where
+pub record OpenRefused (x y : Side Endpoint) (s name format : List ℕ) : Type 0 where
   pub number : ℕ
   pub code : ℕ
   pub answered : hearOf (x .self) s name format .answer ≡ Refused number
-  pub understood : Understood x s name format room number
+  pub may : MayAnswer x y s name format number
   pub replied : replies (hearOf (x .self) s name format .reply) ≡ map bytesIn (Closes code ∷ [])
   pub ends : (ending : Ending) → endingReplied (hearOf (x .self) s name format .reply) ending ≡ WroteClose
   pub after : hearOf (x .self) s name format .next ≡ closed (x .self)

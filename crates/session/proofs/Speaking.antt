@@ -17,9 +17,10 @@ use Rattle.sending.specs.Calls.{Call, OPEN, READY, DATA, messageOf, typeDataOf,
 use Rattle.sending.specs.Sending.{sendOf, sendRow, isFull}
 use Rattle.sending.proofs.Decided.{passed-accepted}
 use Rattle.machine.specs.Good.{Sound}
-use Rattle.session.specs.World.{End, Client, Server, across}
+use Rattle.session.specs.World.{End, across, Client, Server}
 use Rattle.session.specs.Turns.{roleOf, producing}
-use Rattle.session.specs.Demand.{Speaks}
+use Rattle.session.specs.Demand.{MaySend}
+use Rattle.session.proofs.Turns.{across-differs}
 use Rattle.session.proofs.Taking.{limit-least}
 use Rattle.session.proofs.Table.{Begun, nothing, something, opens, offers, takes, gives, moved-row}
 
@@ -52,32 +53,28 @@ begun-any phase (suc k) = (phase, suc k, something (omega arith))
 is-producer : (end : End) (flow : ℕ) → producing end flow ≡ end → flow ≡ producer
 is-producer end flow own = eqb-true flow producer (go (eqb flow producer) own)
   where
-    differ : (e : End) → across e ≡ e → ⊥
-    differ Client same = let z : _≡_ {A = ℕ} 0 1 = cc in omega arith
-    differ Server same = let z : _≡_ {A = ℕ} 0 1 = cc in omega arith
-
     go : (t : Bool) → cond t end (across end) ≡ end → t ≡ true
     go true same = refl
-    go false same = absurd (differ end same)
+    go false same = absurd (across-differs end same)
 
 named-well : isGood (97 ∷ []) [] ≡ true
 unfolding isGood goodName goodFormat wellFormed rest dueBehind table
 named-well = refl
 
 module _ (end : End) (e : Endpoint) (sound : Sound e) (role : e .role ≡ roleOf end) where
-  pub opens-first : end ≡ Client → e .phase ≡ fresh → Speaks e (OPEN (97 ∷ []) [])
+  pub opens-first : end ≡ Client → e .phase ≡ fresh → MaySend e (OPEN (97 ∷ []) [])
   opens-first mine begins =
       record {
-        going-on = refl;
+        moves-on = refl;
         sent =
             accepted e sound (rw begins refl) (OPEN (97 ∷ []) []) opening 0
             (moved-row {role = e .role} {flow = e .flow} {phase = e .phase} {n = e .n} {type-data = 0} (opens (role ∙ rw mine refl) begins)) refl refl (simp named-well) refl;
       }
 
-  pub offers-one : end ≡ Server → opening ≤ e .phase → e .phase ≤ idle → Speaks e (READY 1)
+  pub offers-one : end ≡ Server → opening ≤ e .phase → e .phase ≤ idle → MaySend e (READY 1)
   offers-one mine low high =
       record {
-        going-on = refl;
+        moves-on = refl;
         sent =
             accepted e sound (ne-eqb (e .phase) shut (λ same. omega arith)) (READY 1) offer 1
             (moved-row {role = e .role} {flow = e .flow} {phase = e .phase} {n = e .n} {type-data = 1} (offers (λ same. not-client mine (sym role ∙ same)) low high (something (omega arith)))) refl refl refl refl;
@@ -86,21 +83,21 @@ module _ (end : End) (e : Endpoint) (sound : Sound e) (role : e .role ≡ roleOf
       not-client : end ≡ Server → roleOf end ≡ 1 → ⊥
       not-client theirs same = omega (arith, rw theirs at same)
 
-  pub takes-all : end ≡ Client → e .phase ≡ offer → Speaks e (READY (e .n))
+  pub takes-all : end ≡ Client → e .phase ≡ offer → MaySend e (READY (e .n))
   takes-all mine offered =
       let begins = begun-any batch (e .n) in
       record {
-        going-on = refl;
+        moves-on = refl;
         sent =
             accepted e sound (rw offered refl) (READY (e .n)) (begins .0) (begins .1)
             (moved-row {role = e .role} {flow = e .flow} {phase = e .phase} {n = e .n} {type-data = e .n} (takes (role ∙ rw mine refl) offered (omega arith) (begins .2))) refl refl refl refl;
       }
 
-  pub gives-data : producing end (e .flow) ≡ end → e .phase ≡ batch → Speaks e (DATA 0 false [])
+  pub gives-data : producing end (e .flow) ≡ end → e .phase ≡ batch → MaySend e (DATA 0 false [])
   gives-data mine batching =
       let begins = begun-any batch (e .n - 1) in
       record {
-        going-on = refl;
+        moves-on = refl;
         sent =
             accepted e sound (rw batching refl) (DATA 0 false []) (begins .0) (begins .1)
             (moved-row {role = e .role} {flow = e .flow} {phase = e .phase} {n = e .n} {type-data = 0} (gives (is-producer end (e .flow) mine) batching (begins .2))) refl (le-ltb (e .limit) 8 (omega (arith, limit-least e sound))) refl refl;

@@ -12,8 +12,9 @@ use Rattle.endpoint.specs.Record.{client, producer, fresh, opening, idle, offer
 use Rattle.table.specs.declared.Row.{Row}
 use Rattle.table.specs.declared.Row.the-variants.{NotAllowed, AboveOffer, To}
 use Rattle.table.specs.Table.{allowed, begun, closeRow, dataRow, noopRow, openRow, other, readyRow, rowOf, upTo}
-use Rattle.session.specs.World.{End, Client, Server, across}
-use Rattle.session.specs.Turns.{Packet, movesLike, typeDataIn, Kind, Token, Quiet, Closing, kindOf, Stage, Standing, At, Shut, Gone, roleOf, turn, Active, Alive, Leads, Sends, moves, rests as Sends·rests, closes as Sends·closes, Hears, moved, rested, closed}
+use Rattle.session.specs.World.{End, across, Client, Server}
+use Rattle.session.specs.Packets.{Packet, movesLike, typeDataIn}
+use Rattle.session.specs.Turns.{roleOf, turn, Kind, kindOf, Stage, Standing, Active, Alive, Leads, Hears, Token, Quiet, Final, At, ClosedByOther, ClosedByItself, moved, rested, closed}
 
 -- "k=0: 2; else .., n=k"
 pub data Begun (phase count : ℕ) : ℕ → ℕ → Type 0 where
@@ -207,6 +208,13 @@ module _ (source : End) (s : Stage) (m : Packet) (t : Stage) (token : kindOf (mo
   pub leads-active : Active s → Active t
   leads-active active = onward-active leads-onward (active .0)
 
+-- an end sends: a token only where it is its turn
+module _ (source : End) where
+  pub data Sends (end : End) : Standing → Packet → Standing → Type 0 where
+    moves : {s t : Stage} {m : Packet} → kindOf (movesLike m) ≡ Token → turn source (s .phase) ≡ end → Leads source s m t → Sends end (At s) m (At t)
+    calms : {s : Stage} {m : Packet} → kindOf (movesLike m) ≡ Quiet → Active s → Sends end (At s) m (At s)
+    ends : {s : Stage} {m : Packet} → kindOf (movesLike m) ≡ Final → Alive s → Sends end (At s) m ClosedByItself
+
 -- whose token it is
 
 is-client : (end : End) → roleOf end ≡ client → Client ≡ end
@@ -234,7 +242,7 @@ module _ (source end : End) where
 
 -- where a row leads an end that sends
 abbrev pub landing : ℕ → ℕ → Standing
-landing next count = cond (eqb next shut) Gone (At (record { phase = next; n = count }))
+landing next count = cond (eqb next shut) ClosedByItself (At (record { phase = next; n = count }))
 
 pub landing-at : (next count : ℕ) → next ≤ batch → At (record { phase = next; n = count }) ≡ landing next count
 landing-at next count high = simp (ne-eqb next shut (λ same. omega arith)) refl
@@ -252,10 +260,10 @@ module _ (source end : End) (flow phase n : ℕ) (m : Packet) where
       (moves token own (ap (λ turning. rowOf (roleOf turning) producer phase n (movesLike m) (typeDataIn m)) own ∙ row))
 
   quiet-sends : {role type-data next count : ℕ} → kindOf (movesLike m) ≡ Quiet → Moved role flow phase n Noop type-data next count → From (landing next count)
-  quiet-sends quiet (rests low high) = subst From (landing-at phase n high) (Sends·rests quiet (low, high))
+  quiet-sends quiet (rests low high) = subst From (landing-at phase n high) (calms quiet (low, high))
 
-  closing-sends : {role type-data next count : ℕ} → kindOf (movesLike m) ≡ Closing → Moved role flow phase n Close type-data next count → From (landing next count)
-  closing-sends closing (closes low high) = Sends·closes closing (low, high)
+  closing-sends : {role type-data next count : ℕ} → kindOf (movesLike m) ≡ Final → Moved role flow phase n Close type-data next count → From (landing next count)
+  closing-sends closing (closes low high) = ends closing (low, high)
 
   -- an allowed send is a move
   pub row-sends : (next count : ℕ) → rowOf (roleOf end) flow phase n (movesLike m) (typeDataIn m) ≡ To next count → (flow ≡ producer → phase ≡ batch → source ≡ end)
@@ -273,13 +281,13 @@ module _ (source end : End) (flow phase n : ℕ) (m : Packet) where
 -- the phase and n of where a hearer is led
 abbrev pub phaseIn : Standing → ℕ
 phaseIn (At s) = s .phase
-phaseIn Shut = shut
-phaseIn Gone = shut
+phaseIn ClosedByOther = shut
+phaseIn ClosedByItself = shut
 
 abbrev pub nIn : Standing → ℕ
 nIn (At s) = s .n
-nIn Shut = 0
-nIn Gone = 0
+nIn ClosedByOther = 0
+nIn ClosedByItself = 0
 
 pub other-role : (end : End) → roleOf (across end) ≡ other (roleOf end)
 other-role Client = refl
@@ -289,7 +297,7 @@ other-role Server = refl
 abbrev sole : Kind → MessageType → MessageType
 sole Token message = message
 sole Quiet message = Noop
-sole Closing message = Close
+sole Final message = Close
 
 is-sole : (message : MessageType) → message ≡ sole (kindOf message) message
 is-sole Open = refl
@@ -315,5 +323,5 @@ row-hears source end flow s m _ (rested quiet active) there =
     sole-row Quiet (other (roleOf end)) (other flow) (s .phase) (s .n) (movesLike m) (typeDataIn m) quiet
     ∙ moved-row {role = other (roleOf end)} {flow = other flow} {type-data = typeDataIn m} (rests (active .0) (active .1))
 row-hears source end flow s m _ (closed closing alive) there =
-    sole-row Closing (other (roleOf end)) (other flow) (s .phase) (s .n) (movesLike m) (typeDataIn m) closing
+    sole-row Final (other (roleOf end)) (other flow) (s .phase) (s .n) (movesLike m) (typeDataIn m) closing
     ∙ moved-row {role = other (roleOf end)} {flow = other flow} {n = s .n} {type-data = typeDataIn m} (closes (alive .0) (alive .1))

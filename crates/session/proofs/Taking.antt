@@ -27,15 +27,16 @@ use Rattle.receiving.specs.declared.Content.{Content}
 use Rattle.receiving.specs.declared.Content.the-variants.{Nothing}
 use Rattle.receiving.specs.declared.Received.{Received}
 use Rattle.receiving.specs.declared.Reply.the-variants.{Nothing as Reply·Nothing, Frame}
-use Rattle.receiving.specs.Hearing.{confirms, hearOf, hearRow, matchesOldest, movesAs, tooLarge, unmatched}
+use Rattle.receiving.specs.Hearing.{confirmable, confirms, hearOf, hearRow, matchesOldest, movesAs, tooLarge, unmatched}
 use Rattle.sending.specs.Calls.{Call, OPEN, READY, DATA, NOOP, CLOSE, aboveLimit, askOf, dataFrames, flagsFor, messageOf, misgiven, outgoing, typeDataOf, written}
 use Rattle.sending.proofs.Decided.{accepted-passed}
 use Rattle.machine.specs.Good.{Sound}
 use Rattle.machine.specs.Round.{ContentSent, afterHearing, confirmation, isReply, messageSent, messageWith}
 use Rattle.machine.proofs.Replies.{replies-heard}
 use Rattle.machine.proofs.Round.{heard-as-sent, own-flags}
-use Rattle.session.specs.World.{End, Client, Server, across, Ending, agreement, dataAt, dataSent, endingReplied, replies, endedBy, HeardClose}
-use Rattle.session.specs.Turns.{Called, Closes, Confirms, Packet, bytesIn, entryFor}
+use Rattle.session.specs.World.{End, Ending, dataSent, dataAt, readyCount, endedBy, endingReplied, replies, HeardClose}
+use Rattle.session.specs.Packets.{Packet, bytesIn, Called, Confirms, Closes}
+use Rattle.session.specs.Confirmations.{entryFor}
 use Rattle.session.proofs.Packets.{Comes, MayTake, Taken, answersIn, limitAfter, row-awaited, row-comes}
 
 -- ---- a call
@@ -125,22 +126,19 @@ reply-small r sound Noop flags type-data reply = le-ltb (r .limit) 8 (omega (ari
 reply-small r sound Data flags type-data reply = le-ltb (r .limit) 8 (omega (arith, limit-least r sound))
 reply-small r sound Close flags type-data reply = refl
 
--- a confirmation confirms, agrees to nothing and ends nothing
+-- a confirmation is a reply that confirms, is no READY and ends nothing
 record Quiets (message : MessageType) : Type 0 where
   confirming : confirms message ackReply ≡ true
-  agrees : (end : End) (type-data : ℕ) → agreement end message type-data ≡ agreement end Noop type-data
+  reply : isReply message ackReply ≡ true
+  readied : (type-data : ℕ) → readyCount message type-data ≡ []
   ends : (ending : Ending) → endedBy HeardClose message ending ≡ ending
 
-nothing-agreed : (end : End) (type-data : ℕ) → agreement end Data type-data ≡ agreement end Noop type-data
-nothing-agreed Client type-data = refl
-nothing-agreed Server type-data = refl
-
-quiets : (message : MessageType) → isReply message ackReply ≡ true → Quiets message
-quiets Open reply = let z : _≡_ {A = ℕ} 0 1 = cc in absurd (omega arith)
-quiets Ready reply = let z : _≡_ {A = ℕ} 0 1 = cc in absurd (omega arith)
-quiets Noop reply = record { confirming = refl; agrees = λ end type-data. refl; ends = λ ending. refl }
-quiets Data reply = record { confirming = refl; agrees = nothing-agreed; ends = λ ending. refl }
-quiets Close reply = let z : _≡_ {A = ℕ} 0 1 = cc in absurd (omega arith)
+confirmation-quiets : (message : MessageType) → confirmable message ≡ true → Quiets message
+confirmation-quiets Open reply = let z : _≡_ {A = ℕ} 0 1 = cc in absurd (omega arith)
+confirmation-quiets Ready reply = let z : _≡_ {A = ℕ} 0 1 = cc in absurd (omega arith)
+confirmation-quiets Noop reply = record { confirming = refl; reply = refl; readied = λ type-data. refl; ends = λ ending. refl }
+confirmation-quiets Data reply = record { confirming = refl; reply = refl; readied = λ type-data. refl; ends = λ ending. refl }
+confirmation-quiets Close reply = let z : _≡_ {A = ℕ} 0 1 = cc in absurd (omega arith)
 
 -- where one is awaited, there is an oldest
 some-awaited : (w : ℕ) (entries : List ℕ) (entry : Entry) (rest : List Entry) → tabulate 0 w (entryAt entries) ≡ entry ∷ rest → 0 < w
@@ -189,7 +187,7 @@ close-matched r code = refl
 
 module _ (flow limit serverFlow : ℕ) (end : End) (r : Endpoint) where
   call-taken : (e : Endpoint) (call : Call) (room : ℕ) (name format : List ℕ) (phase n : ℕ) (rest : List Entry) →
-      MayTake flow limit serverFlow end r (Called e call room) name format phase n rest → Taken end r (Called e call room) name format phase n rest
+      MayTake flow limit serverFlow end r (Called e call room) name format phase n rest → Taken r (Called e call room) name format phase n rest
   call-taken e call room name format phase n rest may =
       let made = may .proper in
       let passed = accepted-passed e (outgoing e call) room (made .accepted) in
@@ -206,7 +204,7 @@ module _ (flow limit serverFlow : ℕ) (end : End) (r : Endpoint) where
         message = record { message = messageOf call; flags = flagsFor (askOf call); «type_data» = typeDataOf call; frames = length (dataFrames e call); content = back .content };
         answered = back .answered;
         carried = call-data e call (back .content) (back .carried);
-        agrees = refl;
+        readied = refl;
         ends = λ ending. simp (back .replied) (confirming-ends call ending);
         replied = ap replies (back .replied) ∙ confirming-replies e call room;
         comes = subst (Comes r phase n _) (sym (back .after)) (hearing-comes e r in-limits (atRow r phase n) phase n comes room call);
@@ -214,16 +212,16 @@ module _ (flow limit serverFlow : ℕ) (end : End) (r : Endpoint) where
       }
 
   confirmation-taken : (message : MessageType) (type-data : ℕ) (name format : List ℕ) (phase n : ℕ) (rest : List Entry) →
-      MayTake flow limit serverFlow end r (Confirms message type-data) name format phase n rest → Taken end r (Confirms message type-data) name format phase n rest
+      MayTake flow limit serverFlow end r (Confirms message type-data) name format phase n rest → Taken r (Confirms message type-data) name format phase n rest
   confirmation-taken message type-data name format phase n rest may =
       let proper = may .proper in
-      let quiet = quiets message (proper .0) in
+      let quiet = confirmation-quiets message (proper .0) in
       let after : Endpoint = atRow r phase n in
       let heard =
-      replies-heard message ackReply type-data (proper .0) (proper .1) r name format phase n
+      replies-heard message ackReply type-data (quiet .reply) (proper .1) r name format phase n
       (record {
         leads = confirmation-leads r message type-data (quiet .confirming) phase n (may .leads);
-        small = reply-small r (may .sound) message ackReply type-data (proper .0);
+        small = reply-small r (may .sound) message ackReply type-data (quiet .reply);
         matched = confirmation-matched r message type-data (quiet .confirming) rest (may .awaits);
       }) in
       let next : hearOf r (bytesIn (Confirms message type-data)) name format .next ≡ confirmed after =
@@ -233,7 +231,7 @@ module _ (flow limit serverFlow : ℕ) (end : End) (r : Endpoint) where
         message = record { message = message; flags = ackReply; «type_data» = type-data; frames = 0; content = Nothing };
         answered = ap (λ (x : Received). x .answer) heard;
         carried = refl;
-        agrees = quiet .agrees (across end) type-data;
+        readied = quiet .readied type-data;
         ends = λ ending. simp heard (quiet .ends ending);
         replied = ap (λ (x : Received). replies (x .reply)) heard;
         comes = subst (Comes r phase n (r .limit)) (sym next) (confirmed-comes r after phase n (r .limit) comes);
@@ -242,7 +240,7 @@ module _ (flow limit serverFlow : ℕ) (end : End) (r : Endpoint) where
       }
 
   close-taken : (code : ℕ) (name format : List ℕ) (phase n : ℕ) (rest : List Entry) →
-      MayTake flow limit serverFlow end r (Closes code) name format phase n rest → Taken end r (Closes code) name format phase n rest
+      MayTake flow limit serverFlow end r (Closes code) name format phase n rest → Taken r (Closes code) name format phase n rest
   close-taken code name format phase n rest may =
       let after : Endpoint = atRow r phase n in
       let heard =
@@ -253,7 +251,7 @@ module _ (flow limit serverFlow : ℕ) (end : End) (r : Endpoint) where
         message = record { message = Close; flags = 0; «type_data» = code; frames = 0; content = Nothing };
         answered = ap (λ (x : Received). x .answer) heard;
         carried = refl;
-        agrees = refl;
+        readied = refl;
         ends = λ ending. simp heard;
         replied = ap (λ (x : Received). replies (x .reply)) heard;
         comes =
@@ -263,7 +261,7 @@ module _ (flow limit serverFlow : ℕ) (end : End) (r : Endpoint) where
       }
 
   -- a packet that an end may take is taken
-  pub packet-taken : (m : Packet) (name format : List ℕ) (phase n : ℕ) (rest : List Entry) → MayTake flow limit serverFlow end r m name format phase n rest → Taken end r m name format phase n rest
+  pub packet-taken : (m : Packet) (name format : List ℕ) (phase n : ℕ) (rest : List Entry) → MayTake flow limit serverFlow end r m name format phase n rest → Taken r m name format phase n rest
   packet-taken (Called e call room) = call-taken e call room
   packet-taken (Confirms message type-data) = confirmation-taken message type-data
   packet-taken (Closes code) = close-taken code

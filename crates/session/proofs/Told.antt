@@ -37,8 +37,8 @@ use Rattle.receiving.specs.Refusing.{closeCode, refused, silent, unchanged}
 use Rattle.fbdp.specs.Blocks.{answerSlots, heardSlots, replyLength}
 use Rattle.machine.specs.Refusals.{Closing, Staying}
 use Rattle.machine.proofs.Stages.{Passed, received-holds}
-use Rattle.session.specs.World.{End, Client, Server, across, Ending, HeardClose, WroteClose, agreement, agreementHeard, dataAt, dataHeard, endingHeard, endingReplied, replies, endedBy}
-use Rattle.session.specs.Blocks.{agreementTold, dataTold, endingTold, repliesTold}
+use Rattle.session.specs.World.{Ending, dataAt, dataHeard, readyCount, readyHeard, endedBy, endingReplied, endingHeard, replies, HeardClose, WroteClose}
+use Rattle.session.specs.Blocks.{dataTold, readyTold, repliesTold, endingTold, none}
 
 -- the slots of what a receive came to
 abbrev pub slotsOf : Received → List ℕ
@@ -67,25 +67,20 @@ replies-told received out room = reply-told (received .answer) (received .reply)
 -- what is told is what was heard and replied
 pub record ToldAs (s : List ℕ) (received : Received) : Type 0 where
   pub carried : dataTold s (slotsOf received) ≡ dataHeard s (received .answer)
-  pub agrees : (end : End) → agreementTold end (slotsOf received) ≡ agreementHeard end (received .answer)
+  pub readied : readyTold (slotsOf received) ≡ readyHeard (received .answer)
   pub ends : (before : Ending) → endingTold (answerNumber (received .answer)) (slotsOf received) before ≡ endingReplied (received .reply) (endingHeard (received .answer) before)
 
--- an agreement is told by its type and type-data
-agreement-told : (end : End) (heard : Heard) (reply : ℕ) → agreementTold end (heardSlots heard reply) ≡ agreementHeard end (Answer·Heard heard)
+-- a READY is told by its type and type-data
+ready-told : (heard : Heard) (reply : ℕ) → readyTold (heardSlots heard reply) ≡ readyHeard (Answer·Heard heard)
 unfolding heardSlots
-agreement-told end heard reply = go end (heard .message)
+ready-told heard reply = go (heard .message)
   where
-    go : (end : End) (message : MessageType) → cond (eqb (typeOf message) (typeOf Ready)) (agreement (across end) Ready (heard .«type_data»)) [] ≡ agreement (across end) message (heard .«type_data»)
-    go Server Open = refl
-    go Server Ready = refl
-    go Server Noop = refl
-    go Server Data = refl
-    go Server Close = refl
-    go Client Open = refl
-    go Client Ready = refl
-    go Client Noop = refl
-    go Client Data = refl
-    go Client Close = refl
+    go : (message : MessageType) → cond (eqb (typeOf message) (typeOf Ready)) (heard .«type_data» ∷ []) [] ≡ readyCount message (heard .«type_data»)
+    go Open = refl
+    go Ready = refl
+    go Noop = refl
+    go Data = refl
+    go Close = refl
 
 -- an end is told by its type, and a confirmation ends nothing
 ending-told : (m : Message) (content : Content) (reply : ℕ) (before : Ending) →
@@ -106,11 +101,11 @@ ending-told m content reply before = go (m .message)
     go Close = refl
 
 module _ (e : Endpoint) (s name format : List ℕ) where
-  -- a refusal tells no data and no agreement, and the ending that its reply makes
+  -- a refusal tells no data and no READY, and the ending that its reply makes
 
   stays-told : (number : ℕ) → Staying number → ToldAs s (unchanged e number)
   unfolding unchanged
-  stays-told number among = record { carried = refl; agrees = λ end. refl; ends = λ before. go (eqb number 0) before }
+  stays-told number among = record { carried = refl; readied = refl; ends = λ before. go (eqb number 0) before }
     where
       go : (t : Bool) (before : Ending) → cond (t || true) before WroteClose ≡ before
       go true before = refl
@@ -118,7 +113,7 @@ module _ (e : Endpoint) (s name format : List ℕ) where
 
   closes-told : (number said : ℕ) → Closing number → ToldAs s (refused e number said)
   unfolding refused
-  closes-told number said among = record { carried = refl; agrees = λ end. refl; ends = go (silent e number said) }
+  closes-told number said among = record { carried = refl; readied = refl; ends = go (silent e number said) }
     where
       numbered : eqb number 0 ≡ false
       numbered = ne-eqb number 0 (λ none. omega arith)
@@ -169,7 +164,7 @@ module _ (e : Endpoint) (s name format : List ℕ) where
   accepts-told m content passed =
       record {
         carried = subst (CarriedTold (replyLength (replyTo m)) (m .frames) (m .message) (m .flags) (m .«type_data»)) (passed .carried) (carried-told _ _ m (read-placed s m (passed .read)));
-        agrees = λ end. agreement-told end _ _;
+        readied = ready-told _ _;
         ends = λ before. ending-told m content _ before;
       }
 

@@ -4,22 +4,23 @@ use mathlib.Core.Path.{_≡_, refl, sym, _∙_}
 use Prim.Native.Nat.{ℕ}
 use mathlib.Core.List.{List, [], _∷_, _++_}
 use native.Mathlib.Omega.{arith}
-use Rattle.session.specs.World.{End, Client, Server, across}
-use Rattle.session.specs.Turns.{Packet, movesLike, Kind, Token, Quiet, Closing, kindOf, Stage, Standing, At, Shut, Gone, turn, Active, Alive, Leads, Sends, moves, rests, closes, Hears, moved, rested, closed, late, Drains, empty, head, Still, nothing, quiet, Ended, by-other, by-itself, Meets, ahead, behind, over, over-across}
-use Rattle.session.proofs.Table.{leads-active, leads-alive}
+use Rattle.session.specs.World.{End, across, Client, Server}
+use Rattle.session.specs.Packets.{Packet, movesLike}
+use Rattle.session.specs.Turns.{turn, Kind, kindOf, Stage, Standing, IsOpen, Active, Alive, Still, Leads, Hears, Drains, Meets, Token, Quiet, Final, At, ClosedByOther, ClosedByItself, nothing, quiet, moved, rested, closed, late, empty, head, ahead, behind, over, over-across}
+use Rattle.session.proofs.Table.{Sends, moves, calms, ends, leads-active, leads-alive}
 
 pub across-twice : (end : End) → end ≡ across (across end)
 across-twice Client = refl
 across-twice Server = refl
 
-across-differs : (end : End) → across end ≡ end → ⊥
+pub across-differs : (end : End) → across end ≡ end → ⊥
 across-differs Client same = let z : _≡_ {A = ℕ} 0 1 = cc in omega arith
 across-differs Server same = let z : _≡_ {A = ℕ} 0 1 = cc in omega arith
 
 token-not-quiet : {kind : Kind} → kind ≡ Token → kind ≡ Quiet → ⊥
 token-not-quiet token is-quiet = let z : _≡_ {A = ℕ} 0 1 = cc in omega arith
 
-token-not-closing : {kind : Kind} → kind ≡ Token → kind ≡ Closing → ⊥
+token-not-closing : {kind : Kind} → kind ≡ Token → kind ≡ Final → ⊥
 token-not-closing token closing = let z : _≡_ {A = ℕ} 0 1 = cc in omega arith
 
 module _ (source : End) where
@@ -40,33 +41,30 @@ module _ (source : End) where
   drains-last empty hears = head hears empty
   drains-last (head first drains) hears = head first (drains-last drains hears)
 
-  still-last : {s : Stage} (m : Packet) {q : List Packet} → kindOf (movesLike m) ≡ Quiet → Active s → Still source s q → Still source s (q ++ (m ∷ []))
+  still-last : {s : Stage} (m : Packet) {q : List Packet} → kindOf (movesLike m) ≡ Quiet → Active s → Still s q → Still s (q ++ (m ∷ []))
   still-last m is-quiet active nothing = quiet is-quiet active nothing
   still-last m is-quiet active (quiet first-quiet first-active still) = quiet first-quiet first-active (still-last m is-quiet active still)
 
   -- a queue that moves nothing does so at any active stage, and is received there
-  still-elsewhere : {s t : Stage} {q : List Packet} → (Active s → Active t) → Still source s q → Still source t q
+  still-elsewhere : {s t : Stage} {q : List Packet} → (Active s → Active t) → Still s q → Still t q
   still-elsewhere stays nothing = nothing
   still-elsewhere stays (quiet is-quiet active still) = quiet is-quiet (stays active) (still-elsewhere stays still)
 
-  still-drains : {end : End} {s : Stage} {q : List Packet} → Still source s q → Drains source end (At s) q (At s)
+  still-drains : {end : End} {s : Stage} {q : List Packet} → Still s q → Drains source end (At s) q (At s)
   still-drains nothing = empty
   still-drains (quiet is-quiet active still) = head (rested is-quiet active) (still-drains still)
 
   -- an end that wrote a CLOSE receives anything, and one that heard a CLOSE nothing
 
-  gone-drains : {end : End} (q : List Packet) → Drains source end Gone q Gone
+  gone-drains : {end : End} (q : List Packet) → Drains source end ClosedByItself q ClosedByItself
   gone-drains [] = empty
   gone-drains (m ∷ rest) = head late (gone-drains rest)
 
-  shut-hears : {end : End} {m : Packet} {b : Standing} → Hears source end Shut m b → ⊥
+  pub shut-hears : {end : End} {m : Packet} {b : Standing} → Hears source end ClosedByOther m b → ⊥
   shut-hears = elim [ ]
 
-  shut-drains : {end : End} {t : Stage} {q : List Packet} → Drains source end Shut q (At t) → ⊥
+  shut-drains : {end : End} {t : Stage} {q : List Packet} → Drains source end ClosedByOther q (At t) → ⊥
   shut-drains (head hears drains) = shut-hears hears
-
-  at-ended : {s : Stage} → Ended source (At s) → ⊥
-  at-ended = elim [ ]
 
   -- an end that is active, or alive, is so after all that does not close it
 
@@ -88,7 +86,7 @@ module _ (source : End) where
   not-theirs end s own theirs = absurd (across-differs end (sym theirs ∙ own))
 
   data Waits (s : Stage) (q : List Packet) : Stage → Type 0 where
-    waits : Still source s q → Waits s q s
+    waits : Still s q → Waits s q s
 
   waits-more : {s t : Stage} {m : Packet} {q : List Packet} → kindOf (movesLike m) ≡ Quiet → Active s → Waits s q t → Waits s (m ∷ q) t
   waits-more is-quiet active (waits still) = waits (quiet is-quiet active still)
@@ -101,8 +99,8 @@ module _ (source : End) where
 
   -- or, if the other end has closed, packets that do as much after its own token
   own-ended : (end : End) {s : Stage} (m : Packet) (t : Stage) {e : Standing} {q : List Packet} → kindOf (movesLike m) ≡ Token → turn source (s .phase) ≡ end → Leads source s m t
-      → Ended source e → Drains source end (At s) q e → Drains source end (At t) q e
-  own-ended end m t token own leads ended empty = absurd (at-ended ended)
+      → (IsOpen e → ⊥) → Drains source end (At s) q e → Drains source end (At t) q e
+  own-ended end m t token own leads ended empty = absurd (ended tt)
   own-ended end m t token own leads ended (head (moved {s = s} _ theirs _) drains) = not-theirs end s own theirs
   own-ended end m t token own leads ended (head (rested {s = s} is-quiet active) drains) =
       head (rested is-quiet (leads-active source s m t token leads active)) (own-ended end m t token own leads ended drains)
@@ -113,7 +111,7 @@ module _ (source : End) where
   theirs-too : (end : End) {s t : Stage} {m : Packet} → kindOf (movesLike m) ≡ Token → turn source (s .phase) ≡ end → Leads source s m t → Hears source (across end) (At s) m (At t)
   theirs-too end token own leads = moved token (own ∙ across-twice end) leads
 
-  waits-meets : (end : End) {s t u : Stage} {p q : List Packet} (m : Packet) → Still source u p → Waits s q u → kindOf (movesLike m) ≡ Token → turn source (s .phase) ≡ end → Leads source s m t
+  waits-meets : (end : End) {s t u : Stage} {p q : List Packet} (m : Packet) → Still u p → Waits s q u → kindOf (movesLike m) ≡ Token → turn source (s .phase) ≡ end → Leads source s m t
       → Meets source end (At t) (p ++ (m ∷ [])) (At u) q
   waits-meets end {s = s} {t = t} m still (waits still-across) token own leads =
       ahead (still-elsewhere (leads-active source s m t token leads) still-across) (drains-last (still-drains still) (theirs-too end token own leads))
@@ -121,14 +119,14 @@ module _ (source : End) where
   pub sends-meets : (end : End) {a b c : Standing} {p q : List Packet} {m : Packet} → Meets source end a p b q → Sends source end a m c → Meets source end c (p ++ (m ∷ [])) b q
   sends-meets end (ahead still drains) (moves {s = s} {t = t} {m = m} token own leads) =
       ahead (still-elsewhere (leads-active source s m t token leads) still) (drains-last drains (theirs-too end token own leads))
-  sends-meets end (ahead still drains) (rests is-quiet active) = ahead still (drains-last drains (rested is-quiet active))
-  sends-meets end (ahead still drains) (closes closing alive) = over by-other (drains-last drains (closed closing alive))
+  sends-meets end (ahead still drains) (calms is-quiet active) = ahead still (drains-last drains (rested is-quiet active))
+  sends-meets end (ahead still drains) (ends closing alive) = over (λ is-open. is-open) (drains-last drains (closed closing alive))
   sends-meets end (behind still drains) (moves {m = m} token own leads) = waits-meets end m still (own-waits end own drains) token own leads
-  sends-meets end (behind still drains) (rests {m = m} is-quiet active) = behind (still-last m is-quiet (active-drains active drains) still) drains
-  sends-meets end (behind still drains) (closes closing alive) = over by-other (drains-last (still-drains still) (closed closing (alive-drains alive drains)))
+  sends-meets end (behind still drains) (calms {m = m} is-quiet active) = behind (still-last m is-quiet (active-drains active drains) still) drains
+  sends-meets end (behind still drains) (ends closing alive) = over (λ is-open. is-open) (drains-last (still-drains still) (closed closing (alive-drains alive drains)))
   sends-meets end (over-across ended drains) (moves {t = t} {m = m} token own leads) = over-across ended (own-ended end m t token own leads ended drains)
-  sends-meets end (over-across ended drains) (rests is-quiet active) = over-across ended drains
-  sends-meets end (over-across ended drains) (closes closing alive) = over-across by-itself (gone-drains _)
+  sends-meets end (over-across ended drains) (calms is-quiet active) = over-across ended drains
+  sends-meets end (over-across ended drains) (ends closing alive) = over-across (λ is-open. is-open) (gone-drains _)
 
   -- an end receives the head of the other's queue
   pub hears-meets : (end : End) {a b : Standing} {p q : List Packet} {m : Packet} → Meets source end a p b (m ∷ q) → (c : Standing) × Hears source end a m c × Meets source end c p b q
@@ -138,14 +136,14 @@ module _ (source : End) where
   hears-meets end (over-across ended (head hears drains)) = (_, hears, over-across ended drains)
 
   -- an end refuses a token, and closes
-  pub refuses-meets : (end : End) {s : Stage} {b : Standing} {p q : List Packet} {m : Packet} (close : Packet) → kindOf (movesLike m) ≡ Token → kindOf (movesLike close) ≡ Closing
-      → Meets source end (At s) p b (m ∷ q) → Meets source end Gone (p ++ (close ∷ [])) b q
+  pub refuses-meets : (end : End) {s : Stage} {b : Standing} {p q : List Packet} {m : Packet} (close : Packet) → kindOf (movesLike m) ≡ Token → kindOf (movesLike close) ≡ Final
+      → Meets source end (At s) p b (m ∷ q) → Meets source end ClosedByItself (p ++ (close ∷ [])) b q
   refuses-meets end close token closing (ahead (quiet is-quiet active still) drains) = absurd (token-not-quiet token is-quiet)
   refuses-meets end close token closing (behind still (head (moved {s = s} {t = t} {m = m} _ theirs leads) drains)) =
-      over by-other (drains-last (still-drains still) (closed closing (alive-drains (leads-alive source s m t token leads) drains)))
+      over (λ is-open. is-open) (drains-last (still-drains still) (closed closing (alive-drains (leads-alive source s m t token leads) drains)))
   refuses-meets end close token closing (behind still (head (rested is-quiet active) drains)) = absurd (token-not-quiet token is-quiet)
   refuses-meets end close token closing (behind still (head (closed also alive) drains)) = absurd (token-not-closing token also)
-  refuses-meets end close token closing (over-across ended drains) = over-across by-itself (gone-drains _)
+  refuses-meets end close token closing (over-across ended drains) = over-across (λ is-open. is-open) (gone-drains _)
 
   -- with nothing on its way both stand at one stage
   pub rests-meets : (end : End) {s t : Stage} → Meets source end (At s) [] (At t) [] → s ≡ t
@@ -153,7 +151,7 @@ module _ (source : End) where
   rests-meets end (behind still empty) = refl
 
   -- nothing is on its way to an end that heard a CLOSE
-  pub shut-meets : (end : End) {p q : List Packet} {b : Standing} → Meets source end Shut p b q → q ≡ []
+  pub shut-meets : (end : End) {p q : List Packet} {b : Standing} → Meets source end ClosedByOther p b q → q ≡ []
   shut-meets end (behind still drains) = absurd (shut-drains drains)
   shut-meets end (over-across ended empty) = refl
   shut-meets end (over-across ended (head hears drains)) = absurd (shut-hears hears)

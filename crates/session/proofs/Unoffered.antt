@@ -32,8 +32,8 @@ use Rattle.machine.specs.Round.{isOffered}
 use Rattle.machine.proofs.Round.{reads-back}
 use Rattle.machine.proofs.Rows.{row-alive}
 use Rattle.session.specs.World.{End, Side}
-use Rattle.session.specs.Demand.{Understood, other-format, other-pipe}
-use Rattle.session.specs.Invariant.{Made}
+use Rattle.session.specs.Demand.{MayAnswer, other-pipe, other-format}
+use Rattle.session.specs.Invariant.{AcceptedCall}
 use Rattle.session.proofs.Packets.{OpenRefused}
 use Rattle.session.proofs.Taking.{call-leads, call-small}
 
@@ -64,8 +64,9 @@ module _ (flow : ℕ) (name format : List ℕ) (opening : Opening) (serverFlow :
 
 -- ---- what a server does
 
-module _ (flow limit serverFlow : ℕ) (end : End) (x : Side Endpoint) (e : Endpoint) (asked wanted : List ℕ) (sent-room : ℕ) (name format : List ℕ) (room phase n : ℕ)
-    (sound : Sound (x .self)) (serves : x .self .role ≡ server) (made : Made flow limit serverFlow end e (OPEN asked wanted) sent-room)
+module _ (flow limit serverFlow : ℕ) (end : End) (x y : Side Endpoint) (e : Endpoint) (asked wanted : List ℕ) (sent-room : ℕ) (name format : List ℕ) (phase n : ℕ)
+    (sound : Sound (x .self)) (serves : x .self .role ≡ server) (made : AcceptedCall flow limit serverFlow end e (OPEN asked wanted) sent-room)
+    (same-flow : y .self .flow ≡ e .flow) (same-limit : y .self .limit ≡ e .limit)
     (leads : rowOf (other (x .self .role)) (other (x .self .flow)) (x .self .phase) (x .self .n) Open 0 ≡ To phase n) where
   abbrev r : Endpoint
   r = x .self
@@ -89,29 +90,33 @@ module _ (flow limit serverFlow : ℕ) (end : End) (x : Side Endpoint) (e : Endp
       simp (alive, back .read, small, call-leads e call r phase n leads, heard)
 
   -- and then it closes, and says so
-  closes-by : (number code : ℕ) → hearOf r s name format ≡ refused r number 1 → silent r number 1 ≡ false → closeCode r number 1 ≡ code → code < 256 ^ 2 → Understood x s name format room number → OpenRefused x s name format room
+  closes-by : (number code : ℕ) → hearOf r s name format ≡ refused r number 1 → silent r number 1 ≡ false → closeCode r number 1 ≡ code → code < 256 ^ 2 → MayAnswer x y s name format number → OpenRefused x y s name format
   unfolding refused
-  closes-by number code heard speaks coded small understood =
+  closes-by number code heard speaks coded small may =
       record {
         number = number;
         code = code;
         answered = simp heard;
-        understood = understood;
+        may = may;
         replied = simp (heard, speaks, coded);
         ends = λ ending. simp (heard, speaks);
         after = simp heard;
         small = small;
       }
 
-  pub open-refused : isOffered e (OPEN asked wanted) r name format ≡ false → OpenRefused x s name format room
+  -- the bytes are those of the writer as it is now, which has the flow and the limit that it had
+  as-written : s ≡ written (y .self) (OPEN asked wanted)
+  as-written = rw (same-flow, same-limit) refl
+
+  pub open-refused : isOffered e (OPEN asked wanted) r name format ≡ false → OpenRefused x y s name format
   unfolding silent closeCode
   open-refused differs = go (same asked name && eqb (socketOf (e .flow)) (offeredSocket (r .flow))) refl
     where
-      go : (t : Bool) → same asked name && eqb (socketOf (e .flow)) (offeredSocket (r .flow)) ≡ t → OpenRefused x s name format room
+      go : (t : Bool) → same asked name && eqb (socketOf (e .flow)) (offeredSocket (r .flow)) ≡ t → OpenRefused x y s name format
       go true agrees =
           let format-differs : eqb (length wanted) 0 || same wanted format ≡ false = simp agrees at differs in
           closes-by 22 103 (frame-refused OtherFormat (λ opening. format-refused (e .flow) asked wanted opening (r .flow) name format agrees format-differs)) (simp serves) refl (lit< tt)
-          (other-format e asked wanted refl format-differs)
+          (other-format asked wanted as-written format-differs)
       go false pipe-differs =
           closes-by 21 100 (frame-refused OtherPipe (λ opening. pipe-refused (e .flow) asked wanted opening (r .flow) name format pipe-differs)) (simp serves) refl (lit< tt)
-          (other-pipe e asked wanted refl pipe-differs)
+          (other-pipe asked wanted as-written (rw same-flow pipe-differs))

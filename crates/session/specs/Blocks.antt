@@ -10,32 +10,19 @@ use Rattle.bytes_be.specs.Part.{part}
 use Rattle.control.specs.declared.MessageType.the-variants.{Ready, Data, Close}
 use Rattle.control.specs.Frame.{ackReply, typeOf}
 use Rattle.endpoint.specs.declared.Endpoint.{Endpoint}
-use Rattle.endpoint.specs.Record.{shut, freshClient, freshServer}
+use Rattle.endpoint.specs.Record.{freshClient, freshServer}
 use Rattle.endpoint.specs.Block.{isGood, loadOf}
 use Rattle.sending.specs.Calls.{Call, written}
 use Rattle.fbdp.specs.Blocks.{MakeAnswer, SendAnswer, ReceiveAnswer}
-use Rattle.session.specs.World.{End, across, Datum, Ending, HeardClose, WroteClose, Side, World, side, joined, untried, having, taking, withQueue, agreement, isKept, Event, sends, receives, AllFit}
-use Rattle.session.specs.Demand.{Understood, nextCall, nextEnd, Holds}
-
--- the same end with its block as it is now
-abbrev pub withBlock : Side (List ℕ) → List ℕ → Side (List ℕ)
-withBlock x block =
-    record {
-      self = block;
-      queue = x .queue;
-      sent = x .sent;
-      accepted = x .accepted;
-      agreed = x .agreed;
-      batch = x .batch;
-      ending = x .ending;
-    }
+use Rattle.session.specs.World.{End, across, Datum, Ending, Going, HeardClose, WroteClose, Side, World, side, joined, made, became, wrote, took, withQueue, isKept, Event, sends, receives, AllFit}
+use Rattle.session.specs.Demand.{MayAnswer, nextCall, nextEnd, Holds}
 
 -- an end after a send that gave this number and count, and left this block and output
 abbrev pub afterEntry : End → Side (List ℕ) → Call → ℕ → ℕ → List ℕ → List ℕ → Side (List ℕ)
 afterEntry end x call number count block out =
-    cond (eqb number 0) (having end x call (take count out) block) (withBlock x block)
+    cond (eqb number 0) (wrote end x call (take count out) block) (became x block)
 
--- the slots of `struct fbdp_heard`: type, flags, type-data, the length of the reply, and the place of a body
+-- the slots of `struct fbdp_heard`: 0 the type, 1 the flags, 2 type-data, 3 the length of the reply, 12 and 13 the place of the body
 abbrev pub slot : List ℕ → ℕ → ℕ
 slot slots i = getD slots i 0
 
@@ -46,8 +33,8 @@ dataTold s slots =
     (record { type-data = slot slots 2; body = part s (slot slots 12) (slot slots 13) } ∷ [])
     []
 
-abbrev pub agreementTold : End → List ℕ → List ℕ
-agreementTold end slots = cond (eqb (slot slots 0) (typeOf Ready)) (agreement (across end) Ready (slot slots 2)) []
+abbrev pub readyTold : List ℕ → List ℕ
+readyTold slots = cond (eqb (slot slots 0) (typeOf Ready)) (slot slots 2 ∷ []) []
 
 abbrev pub repliesTold : List ℕ → List ℕ → List (List ℕ)
 repliesTold slots out = cond (eqb (slot slots 3) 0) [] (take (slot slots 3) out ∷ [])
@@ -62,9 +49,9 @@ endingTold number slots ending =
 abbrev pub afterReceived : End → Side (List ℕ) → Side (List ℕ) → List ℕ → List (List ℕ) → ℕ → List ℕ → List ℕ → List ℕ → World (List ℕ)
 afterReceived end x y s rest number slots block out =
     cond (isKept number)
-    (joined end (withBlock x block) y)
+    (joined end (became x block) y)
     (joined end
-    (taking x (dataTold s slots) (agreementTold end slots) (repliesTold slots out) (endingTold number slots (x .ending)) block)
+    (took end x (dataTold s slots) (readyTold slots) (endingTold number slots (x .past .ending)) (repliesTold slots out) block)
     (withQueue y rest))
 
 -- one call of an entry whose answer meets its contract
@@ -84,40 +71,25 @@ pub data Runs : World (List ℕ) → List Event → World (List ℕ) → Type 0 
 
 -- the world of the records that the blocks hold
 abbrev pub loadedSide : Side (List ℕ) → Side Endpoint
-loadedSide x =
-    record {
-      self = loadOf (x .self);
-      queue = x .queue;
-      sent = x .sent;
-      accepted = x .accepted;
-      agreed = x .agreed;
-      batch = x .batch;
-      ending = x .ending;
-    }
+loadedSide x = record { self = loadOf (x .self); queue = x .queue; past = x .past }
 
 abbrev pub loaded : World (List ℕ) → World Endpoint
 loaded w = record { client = loadedSide (w .client); server = loadedSide (w .server) }
-
--- byte 2 of a block is its phase
-abbrev pub phaseAt : List ℕ → ℕ
-phaseAt block = loadOf block .phase
-
--- the call that is named at rest
-abbrev pub nextHere : World (List ℕ) → Call
-nextHere w = nextCall (phaseAt (w .client .self)) (loadOf (w .client .self) .n)
 
 -- what holds of two blocks: demand 3 of the records that they hold, and so
 pub record HoldsOnBlocks (w : World (List ℕ)) : Type 0 where
   pub good : (end : End) → isGood (side w end .self) ≡ true
   pub holds : Holds (loaded w)
-  -- the number that `fbdp_receive` gives for the head of the other's queue is that of a message understood
-  pub understood : (end : End) (s : List ℕ) (rest : List (List ℕ)) → side w (across end) .queue ≡ s ∷ rest
-      → (name format out : List ℕ) (number : ℕ) (slots block′ out′ : List ℕ) → ReceiveAnswer s name format (side w end .self) out number slots block′ out′
-      → Understood (loadedSide (side w end)) s name format (length out) number
-  -- and at rest the call that is named gets 0 in every output with room for it
-  pub goes-on : (phaseAt (w .client .self) ≡ shut → ⊥) → (phaseAt (w .server .self) ≡ shut → ⊥) → w .client .queue ≡ [] → w .server .queue ≡ []
-      → (out : List ℕ) (number count : ℕ) (block′ out′ : List ℕ) → SendAnswer (nextHere w) (side w (nextEnd (loaded w)) .self) out number count block′ out′
-      → length (written (loadOf (side w (nextEnd (loaded w)) .self)) (nextHere w)) ≤ length out → number ≡ 0
+  -- the number that `fbdp_receive` gives for the head of the other's queue is one that it may answer
+  pub answers : (end : End) (s : List ℕ) (rest : List (List ℕ)) → side w (across end) .queue ≡ s ∷ rest
+      → (name format out : List ℕ) (number : ℕ) (slots block′ out′ : List ℕ) → 14 ≤ length out
+      → ReceiveAnswer s name format (side w end .self) out number slots block′ out′
+      → MayAnswer (side (loaded w) end) (side (loaded w) (across end)) s name format number
+  -- and at rest the entry of the call that is named gives 0 in every output with room for it
+  pub may-send : w .client .past .ending ≡ Going → w .server .past .ending ≡ Going → w .client .queue ≡ [] → w .server .queue ≡ []
+      → (out : List ℕ) (number count : ℕ) (block′ out′ : List ℕ)
+      → SendAnswer (nextCall (loaded w)) (side w (nextEnd (loaded w)) .self) out number count block′ out′
+      → length (written (side (loaded w) (nextEnd (loaded w)) .self) (nextCall (loaded w))) ≤ length out → number ≡ 0
 
 -- for every client and server that was made, and any calls of the entries
 abbrev pub DemandOnBlocks : Type 0
@@ -125,5 +97,9 @@ DemandOnBlocks =
     (flow limit serverFlow : ℕ) (memory client-block other-memory server-block : List ℕ)
     → MakeAnswer (freshClient flow limit) memory 0 client-block → MakeAnswer (freshServer serverFlow) other-memory 0 server-block
     → (events : List Event) → AllFit events
-    → (after : World (List ℕ)) → Runs (record { client = untried client-block; server = untried server-block }) events after
+    → (after : World (List ℕ)) → Runs (record { client = made client-block; server = made server-block }) events after
     → HoldsOnBlocks after
+
+-- and every list of calls has such a run
+abbrev pub RunsExist : Type 0
+RunsExist = (w : World (List ℕ)) (events : List Event) → (after : World (List ℕ)) × Runs w events after

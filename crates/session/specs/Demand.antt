@@ -3,7 +3,7 @@
 -- transit, one end may still send something other than NOOP and CLOSE."
 use Prim.Native.Nat.{ℕ, _+_, _≤_, _<_}
 use mathlib.Core.Path.{_≡_}
-use mathlib.Core.List.{List, [], _∷_, _++_}
+use mathlib.Core.List.{List, [], _∷_, IsPrefix}
 use mathlib.Core.Bool.{Bool, true, false, cond, _&&_, _||_}
 use lib.ListN.{length}
 use lib.Dec.{eqb}
@@ -17,20 +17,24 @@ use Rattle.endpoint.specs.Record.{fresh, offer, batch, shut, givenOf}
 use Rattle.receiving.specs.Receiving.{answerNumber, receivedOf}
 use Rattle.sending.specs.Calls.{Call, OPEN, READY, DATA, NOOP, CLOSE, written}
 use Rattle.sending.specs.Sending.{sendOf}
-use Rattle.session.specs.World.{End, across, Client, Datum, WroteClose, HeardClose, Side, World, side, start, Event, AllFit, run}
+use Rattle.session.specs.World.{End, Client, across, Ending, Going, HeardClose, WroteClose, agreed, Side, World, side, start, Event, receives, AllFit, step, run}
 use Rattle.session.specs.Turns.{producing, turn}
 
--- "neither refuses the other's message": what an end answers to the bundle s, offering this pipe name and format. It hears it, unless it is an
--- OPEN for another pipe name or socket, or for another format; or the end has itself closed; or its own output is too short for any reply,
--- which leaves the message where it is.
-pub data Understood (x : Side Endpoint) (s name format : List ℕ) (room : ℕ) : ℕ → Type 0 where
-  heard : Understood x s name format room 0
-  other-pipe : (e : Endpoint) (asked wanted : List ℕ) → s ≡ written e (OPEN asked wanted)
-      → same asked name && eqb (socketOf (e .flow)) (offeredSocket (x .self .flow)) ≡ false → Understood x s name format room 21
-  other-format : (e : Endpoint) (asked wanted : List ℕ) → s ≡ written e (OPEN asked wanted)
-      → eqb (length wanted) 0 || same wanted format ≡ false → Understood x s name format room 22
-  after-own-close : x .ending ≡ WroteClose → Understood x s name format room 3
-  short-output : room < 14 → Understood x s name format room 2
+-- "neither refuses the other's message": what x answers to the bundle s that y wrote, offering this pipe name and format. It hears it, unless it
+-- is an OPEN for another pipe name or socket, or for another format, or x has itself closed.
+pub data MayAnswer (x y : Side Endpoint) (s name format : List ℕ) : ℕ → Type 0 where
+  heard : MayAnswer x y s name format 0
+  other-pipe : (asked wanted : List ℕ) → s ≡ written (y .self) (OPEN asked wanted)
+      → same asked name && eqb (socketOf (y .self .flow)) (offeredSocket (x .self .flow)) ≡ false → MayAnswer x y s name format 21
+  other-format : (asked wanted : List ℕ) → s ≡ written (y .self) (OPEN asked wanted)
+      → eqb (length wanted) 0 || same wanted format ≡ false → MayAnswer x y s name format 22
+  after-own-close : x .past .ending ≡ WroteClose → MayAnswer x y s name format 3
+
+-- "5 closed": an end has closed where its phase is 5, and nowhere else
+abbrev pub PhaseFits : Ending → ℕ → Type 0
+PhaseFits Going phase = phase ≤ batch
+PhaseFits HeardClose phase = phase ≡ shut
+PhaseFits WroteClose phase = phase ≡ shut
 
 -- "the batches agreed": the sum of their counts, and the count of the newest
 abbrev pub sum : List ℕ → ℕ
@@ -39,7 +43,8 @@ sum (count ∷ rest) = count + sum rest
 
 abbrev pub newest : List ℕ → ℕ
 newest [] = 0
-newest (count ∷ rest) = count
+newest (count ∷ []) = count
+newest (count ∷ next ∷ rest) = newest (next ∷ rest)
 
 -- "something other than NOOP and CLOSE"
 abbrev pub movesOn : Call → Bool
@@ -49,37 +54,45 @@ movesOn (DATA type-data ask body) = true
 movesOn (NOOP type-data ask) = false
 movesOn (CLOSE code) = false
 
--- what the end whose turn it is may send: an OPEN for the pipe `a`, an offer of one, the whole of the offer, a DATA without ask and body
-abbrev pub nextCall : ℕ → ℕ → Call
-nextCall phase n =
-    cond (eqb phase fresh) (OPEN (97 ∷ []) [])
-    (cond (eqb phase offer) (READY n)
-    (cond (eqb phase batch) (DATA 0 false [])
-    (READY 1)))
-
--- at rest both ends are in the client's phase
+-- what may be sent at rest, when both ends are in the client's phase: by the end whose turn it is, an OPEN for the pipe `a`, the whole of the
+-- offer, a DATA without ask and body, an offer of one
 abbrev pub nextEnd : World Endpoint → End
 nextEnd w = turn (producing Client (w .client .self .flow)) (w .client .self .phase)
 
-pub record Speaks (e : Endpoint) (call : Call) : Type 0 where
-  pub going-on : movesOn call ≡ true
+abbrev pub nextCall : World Endpoint → Call
+nextCall w =
+    cond (eqb (w .client .self .phase) fresh) (OPEN (97 ∷ []) [])
+    (cond (eqb (w .client .self .phase) offer) (READY (w .client .self .n))
+    (cond (eqb (w .client .self .phase) batch) (DATA 0 false [])
+    (READY 1)))
+
+-- an end may send a call in every output with room for it
+pub record MaySend (e : Endpoint) (call : Call) : Type 0 where
+  pub moves-on : movesOn call ≡ true
   pub sent : (room : ℕ) → length (written e call) ≤ room → sendOf e call room .number ≡ 0
 
 -- what holds of a world
 pub record Holds (w : World Endpoint) : Type 0 where
   -- "neither refuses the other's message"
-  pub understood : (end : End) (s : List ℕ) (rest : List (List ℕ)) → side w (across end) .queue ≡ s ∷ rest
-      → (name format : List ℕ) (room : ℕ) → Understood (side w end) s name format room (answerNumber (receivedOf (side w end .self) s name format room .answer))
-  -- and nothing at all arrives at an end that heard a CLOSE
-  pub silent : (end : End) → side w end .ending ≡ HeardClose → side w (across end) .queue ≡ []
-  -- "data accepted is always a prefix of data sent"
-  pub leading : (end : End) → (rest : List Datum) × (side w (across end) .sent ≡ side w end .accepted ++ rest)
-  -- "and never more than the batches agreed": in all of them, and in each
-  pub within : length (w .client .accepted) + length (w .server .accepted) ≤ sum (w .client .agreed)
-  pub within-each : (end : End) → length (side w end .batch) ≤ newest (side w end .agreed)
+  pub answers : (end : End) (s : List ℕ) (rest : List (List ℕ)) → side w (across end) .queue ≡ s ∷ rest
+      → (name format : List ℕ) (room : ℕ) → 14 ≤ room
+      → MayAnswer (side w end) (side w (across end)) s name format (answerNumber (receivedOf (side w end .self) s name format room .answer))
+  -- "2 output too short": nothing changes, and the message stays where it is
+  pub waits : (end : End) (s : List ℕ) (rest : List (List ℕ)) → side w (across end) .queue ≡ s ∷ rest
+      → (name format : List ℕ) (room : ℕ) → room < 14
+      → (answerNumber (receivedOf (side w end .self) s name format room .answer) ≡ 2) × (step w (receives end name format room) ≡ w)
+  -- nothing at all arrives at an end that heard a CLOSE
+  pub nothing-after-close : (end : End) → side w end .past .ending ≡ HeardClose → side w (across end) .queue ≡ []
+  pub closed-by-phase : (end : End) → PhaseFits (side w end .past .ending) (side w end .self .phase)
+  -- "data accepted is always a prefix of data sent", and so are the READYs heard of those sent
+  pub data-leads : (end : End) → IsPrefix (side w end .past .accepted) (side w (across end) .past .sent)
+  pub readies-lead : (end : End) → IsPrefix (side w end .past .readies-heard) (side w (across end) .past .readies)
+  -- "and never more than the batches agreed": in all of them, and, as it holds after every call, in each
+  pub within : length (w .client .past .accepted) + length (w .server .past .accepted) ≤ sum (agreed Client (w .client .past))
+  pub within-newest : (end : End) → length (side w end .past .batch) ≤ newest (agreed end (side w end .past))
   -- "while neither has closed and nothing is in transit, one end may still send something other than NOOP and CLOSE"
-  pub goes-on : (w .client .self .phase ≡ shut → ⊥) → (w .server .self .phase ≡ shut → ⊥) → w .client .queue ≡ [] → w .server .queue ≡ []
-      → Speaks (side w (nextEnd w) .self) (nextCall (w .client .self .phase) (w .client .self .n))
+  pub may-send : w .client .past .ending ≡ Going → w .server .past .ending ≡ Going → w .client .queue ≡ [] → w .server .queue ≡ []
+      → MaySend (side w (nextEnd w) .self) (nextCall w)
 
 -- for a client and a server of any flow and any limit that making accepts, and every list of calls
 abbrev pub Demand : Type 0

@@ -33,22 +33,32 @@ pub record Datum : Type 0 where
   pub type-data : ℕ
   pub body : List ℕ
 
--- whether an end has closed: by any CLOSE that it wrote, or by one that it heard
+-- whether an end has closed: by a CLOSE that it heard, or by any that it wrote
 pub data Ending : Type 0 where
   Going HeardClose WroteClose : Ending
 
--- an end: its record or its block, the bundles that it wrote and the other has not received, oldest first, and what it did
-pub record Side (A : Type 0) : Type 0 where
-  pub self : A
-  pub queue : List (List ℕ)
+-- what an end did and heard, oldest first
+pub record History : Type 0 where
   -- the data sent and the data accepted
   pub sent : List Datum
   pub accepted : List Datum
-  -- the counts of the batches agreed, newest first: the READYs that the client sent, which at the server are those that it heard
-  pub agreed : List ℕ
-  -- the data accepted in the newest batch
+  -- the counts of the READYs sent and of those heard
+  pub readies : List ℕ
+  pub readies-heard : List ℕ
+  -- the data accepted since the client's last READY
   pub batch : List Datum
   pub ending : Ending
+
+-- "Batches agreed": the READYs of the client, which the server has heard
+abbrev pub agreed : End → History → List ℕ
+agreed Client past = past .readies
+agreed Server past = past .readies-heard
+
+-- an end: its record or its block, the bundles that it wrote and the other has not received, oldest first, and its history
+pub record Side (A : Type 0) : Type 0 where
+  pub self : A
+  pub queue : List (List ℕ)
+  pub past : History
 
 pub record World (A : Type 0) : Type 0 where
   pub client : Side A
@@ -60,11 +70,14 @@ pub data Event : Type 0 where
   sends : End → Call → ℕ → Event
   receives : End → List ℕ → List ℕ → ℕ → Event
 
--- "type-data (2 bytes)": the counts, type-data and codes of the calls are numbers of two bytes
+-- "type-data (2 bytes)": the count, type-data or code of a call is a number of two bytes
+abbrev pub EventFits : Event → Type 0
+EventFits (sends end call room) = Fits call
+EventFits (receives end name format room) = Unit
+
 abbrev pub AllFit : List Event → Type 0
 AllFit [] = Unit
-AllFit (sends end call room ∷ rest) = Fits call × AllFit rest
-AllFit (receives end name format room ∷ rest) = AllFit rest
+AllFit (event ∷ rest) = EventFits event × AllFit rest
 
 -- the data that a call sends
 abbrev pub dataSent : Call → List Datum
@@ -84,23 +97,23 @@ abbrev pub dataHeard : List ℕ → Answer → List Datum
 dataHeard s (Answer·Heard heard) = dataAt s (heard .«type_data») (heard .content)
 dataHeard s (Refused number) = []
 
--- the batch that a message agrees: that of a READY from the client
-abbrev pub agreement : End → MessageType → ℕ → List ℕ
-agreement Client Open count = []
-agreement Client Ready count = count ∷ []
-agreement Client Noop count = []
-agreement Client Data count = []
-agreement Client Close count = []
-agreement Server message count = []
+-- the count of a message that is a READY
+abbrev pub readyCount : MessageType → ℕ → List ℕ
+readyCount Open count = []
+readyCount Ready count = count ∷ []
+readyCount Noop count = []
+readyCount Data count = []
+readyCount Close count = []
 
-abbrev pub agreementHeard : End → Answer → List ℕ
-agreementHeard end (Answer·Heard heard) = agreement (across end) (heard .message) (heard .«type_data»)
-agreementHeard end (Refused number) = []
+abbrev pub readyHeard : Answer → List ℕ
+readyHeard (Answer·Heard heard) = readyCount (heard .message) (heard .«type_data»)
+readyHeard (Refused number) = []
 
--- a batch that is agreed begins without data
-abbrev pub since : List ℕ → List Datum → List Datum
-since [] batch = batch
-since (count ∷ rest) batch = []
+-- the data of the batch after an end wrote these READYs: the client's begin a new one
+abbrev pub batchAfter : End → List ℕ → List Datum → List Datum
+batchAfter end [] batch = batch
+batchAfter Client (count ∷ rest) batch = []
+batchAfter Server (count ∷ rest) batch = batch
 
 -- a CLOSE ends the one who wrote it and the one who heard it
 abbrev pub endedBy : Ending → MessageType → Ending → Ending
@@ -123,6 +136,34 @@ abbrev pub replies : Reply → List (List ℕ)
 replies Reply·Nothing = []
 replies (Frame message flags type-data) = replyBytes (Frame message flags type-data) ∷ []
 
+-- nothing done
+abbrev pub noHistory : History
+noHistory = record { sent = []; accepted = []; readies = []; readies-heard = []; batch = []; ending = Going }
+
+-- an end made a call that was accepted
+abbrev pub afterCall : End → History → Call → History
+afterCall end past call =
+    record {
+      sent = past .sent ++ dataSent call;
+      accepted = past .accepted;
+      readies = past .readies ++ readyCount (messageOf call) (typeDataOf call);
+      readies-heard = past .readies-heard;
+      batch = batchAfter end (readyCount (messageOf call) (typeDataOf call)) (past .batch);
+      ending = endedBy WroteClose (messageOf call) (past .ending);
+    }
+
+-- an end received these data and these READYs, and has ended so
+abbrev pub afterMessage : End → History → List Datum → List ℕ → Ending → History
+afterMessage end past heard readies ending =
+    record {
+      sent = past .sent;
+      accepted = past .accepted ++ heard;
+      readies = past .readies;
+      readies-heard = past .readies-heard ++ readies;
+      batch = batchAfter (across end) readies (past .batch) ++ heard;
+      ending = ending;
+    }
+
 module _ {A : Type 0} where
   abbrev pub side : World A → End → Side A
   side w Client = w .client
@@ -133,68 +174,44 @@ module _ {A : Type 0} where
   joined Client x y = record { client = x; server = y }
   joined Server x y = record { client = y; server = x }
 
-  -- made, and nothing done
-  abbrev pub untried : A → Side A
-  untried self = record { self = self; queue = []; sent = []; accepted = []; agreed = []; batch = []; ending = Going }
+  abbrev pub made : A → Side A
+  made self = record { self = self; queue = []; past = noHistory }
 
-  -- an end that wrote the bytes of a call, and is another one since
-  abbrev pub having : End → Side A → Call → List ℕ → A → Side A
-  having end x call bytes next =
-      record {
-        self = next;
-        queue = x .queue ++ (bytes ∷ []);
-        sent = x .sent ++ dataSent call;
-        accepted = x .accepted;
-        agreed = agreement end (messageOf call) (typeDataOf call) ++ x .agreed;
-        batch = since (agreement end (messageOf call) (typeDataOf call)) (x .batch);
-        ending = endedBy WroteClose (messageOf call) (x .ending);
-      }
+  -- the same end with another record, or another queue
+  abbrev pub became : Side A → A → Side A
+  became x next = record { self = next; queue = x .queue; past = x .past }
 
-  -- an end that accepted these data, agreed to these batches and replied with these bundles, and is another one since
-  abbrev pub taking : Side A → List Datum → List ℕ → List (List ℕ) → Ending → A → Side A
-  taking x accepted agreed replied ending next =
-      record {
-        self = next;
-        queue = x .queue ++ replied;
-        sent = x .sent;
-        accepted = x .accepted ++ accepted;
-        agreed = agreed ++ x .agreed;
-        batch = since agreed (x .batch) ++ accepted;
-        ending = ending;
-      }
-
-  -- the same end with another queue
   abbrev pub withQueue : Side A → List (List ℕ) → Side A
-  withQueue y queue =
-      record {
-        self = y .self;
-        queue = queue;
-        sent = y .sent;
-        accepted = y .accepted;
-        agreed = y .agreed;
-        batch = y .batch;
-        ending = y .ending;
-      }
+  withQueue y queue = record { self = y .self; queue = queue; past = y .past }
+
+  -- an end that wrote the bytes of a call, and one that replied with these bundles
+  abbrev pub wrote : End → Side A → Call → List ℕ → A → Side A
+  wrote end x call bytes next = record { self = next; queue = x .queue ++ (bytes ∷ []); past = afterCall end (x .past) call }
+
+  abbrev pub took : End → Side A → List Datum → List ℕ → Ending → List (List ℕ) → A → Side A
+  took end x heard readies ending replied next =
+      record { self = next; queue = x .queue ++ replied; past = afterMessage end (x .past) heard readies ending }
 
 -- a client of this flow and limit, and a server of this flow, each made once
 abbrev pub start : ℕ → ℕ → ℕ → World Endpoint
-start flow limit serverFlow = record { client = untried (freshClient flow limit); server = untried (freshServer serverFlow) }
+start flow limit serverFlow = record { client = made (freshClient flow limit); server = made (freshServer serverFlow) }
 
--- an end after a call: a send that is refused changes nothing
+-- an end after a call: only one that is accepted writes
 unfoldable pub afterSend : End → Side Endpoint → Call → ℕ → Side Endpoint
 afterSend end x call room =
     cond (eqb (sendOf (x .self) call room .number) 0)
-    (having end x call (written (x .self) call) (sendOf (x .self) call room .next))
-    x
+    (wrote end x call (written (x .self) call) (sendOf (x .self) call room .next))
+    (became x (sendOf (x .self) call room .next))
 
 -- an end after it received the bundle s
 abbrev pub afterBundle : End → Side Endpoint → List ℕ → Received → Side Endpoint
 afterBundle end x s received =
-    taking x (dataHeard s (received .answer)) (agreementHeard end (received .answer)) (replies (received .reply))
-    (endingReplied (received .reply) (endingHeard (received .answer) (x .ending)))
+    took end x (dataHeard s (received .answer)) (readyHeard (received .answer))
+    (endingReplied (received .reply) (endingHeard (received .answer) (x .past .ending)))
+    (replies (received .reply))
     (received .next)
 
--- 1 and 2 are answered before the message is looked at: it stays the head of its queue
+-- a receive that answers 1 or 2 has not taken the message, and one that answers 3 has passed it over
 abbrev pub isKept : ℕ → Bool
 isKept number = eqb number 1 || eqb number 2
 
@@ -203,7 +220,7 @@ unfoldable pub afterReceive : End → Side Endpoint → Side Endpoint → List (
 afterReceive end x y [] name format room = joined end x y
 afterReceive end x y (s ∷ rest) name format room =
     cond (isKept (answerNumber (receivedOf (x .self) s name format room .answer)))
-    (joined end x y)
+    (joined end (became x (receivedOf (x .self) s name format room .next)) y)
     (joined end (afterBundle end x s (receivedOf (x .self) s name format room)) (withQueue y rest))
 
 unfoldable pub step : World Endpoint → Event → World Endpoint

@@ -1,0 +1,33 @@
+-- "ACK-REPLY must equal the oldest entry": the confirmations that an end awaits, and those on their way. This is the part of the invariant that
+-- depends on when a message is confirmed.
+use Prim.Native.Nat.{ℕ}
+use mathlib.Core.Path.{_≡_}
+use mathlib.Core.List.{List, [], _∷_, _++_, flatMap}
+use mathlib.Core.Bool.{cond}
+use Rattle.control.specs.declared.MessageType.{MessageType}
+use Rattle.control.specs.Frame.{typeOf}
+use Rattle.endpoint.specs.declared.Entry.{Entry}
+use Rattle.sending.specs.Calls.{messageOf, typeDataOf, askOf}
+use Rattle.session.specs.Packets.{Packet, Called, Confirms, Closes}
+use Rattle.session.specs.Turns.{Standing, IsOpen}
+
+abbrev pub entryFor : MessageType → ℕ → Entry
+entryFor message type-data = record { message = typeOf message; «type_data» = type-data }
+
+-- the confirmation that a packet asks for, and the one that it gives
+abbrev pub askedIn : Packet → List Entry
+askedIn (Called e call room) = cond (askOf call) (entryFor (messageOf call) (typeDataOf call) ∷ []) []
+askedIn (Confirms message type-data) = []
+askedIn (Closes code) = []
+
+abbrev pub confirmedIn : Packet → List Entry
+confirmedIn (Called e call room) = []
+confirmedIn (Confirms message type-data) = entryFor message type-data ∷ []
+confirmedIn (Closes code) = []
+
+-- an end at a that wrote p awaits these entries: first those that q confirms, which the one at b wrote, and then those that p asks for; once
+-- the other has closed, the latter are lost
+pub record Awaits (a : Standing) (entries : List Entry) (p : List Packet) (b : Standing) (q : List Packet) : Type 0 where
+  pub rest : List Entry
+  pub held : IsOpen a → entries ≡ flatMap confirmedIn q ++ rest
+  pub due : IsOpen b → rest ≡ flatMap askedIn p
