@@ -5,24 +5,24 @@ use Prim.Native.Nat.{ℕ, _+_, _≤_, _<_}
 use mathlib.Core.List.{List, [], _∷_, map, flatMap}
 use mathlib.Core.Bool.{Bool, true, false, cond, _&&_, _||_}
 use native.Mathlib.Omega.{arith}
-use lib.Dec.{eqb}
+use lib.Dec.{eqb, leb}
 use lib.ListN.{length, length-append}
 use borrow.Author.Tests.{eqb-true, eqb-false, le-ltb, lt-ltb}
 use Rattle.bytes_be.proofs.Tests.{took-first}
 use Rattle.double.specs.Limit.{mostLimit, inLimits}
 use Rattle.endpoint.specs.declared.Endpoint.{Endpoint}
 use Rattle.endpoint.specs.declared.Given.the-variants.{Good}
-use Rattle.endpoint.specs.Record.{fresh, opening, idle, offer, batch, goodFlow, givenOf, freshOf, freshClient, freshServer}
+use Rattle.endpoint.specs.Record.{client, server, fresh, opening, idle, offer, batch, goodFlow, givenOf, freshOf}
 use Rattle.endpoint.proofs.StaysGood.{fresh-good, fresh-sized}
 use Rattle.receiving.specs.Receiving.{answerNumber, receivedOf}
 use Rattle.receiving.specs.Refusing.{unchanged}
 use Rattle.sending.specs.Calls.{OPEN, READY, DATA}
-use Rattle.machine.specs.Good.{Sound}
-use Rattle.session.specs.World.{End, across, Ending, agreed, Side, World, Event, AllFit, side, joined, start, afterReceive, step, run, Client, Server, Going, receives}
-use Rattle.session.specs.Packets.{Packet, bytesIn}
-use Rattle.session.specs.Turns.{producing, turn, Stage, stands, nothing, empty, ahead}
+use Rattle.session.specs.World.{End, across, Ending, agreed, Side, World, Event, AllFit, noHistory, side, joined, made, start, afterReceive, step, run, Client, Server, Going, receives}
+use Rattle.session.specs.Packets.{Packet, bytesIn, dataIn, readyIn}
+use Rattle.session.specs.Turns.{roleOf, producing, turn, Stage, Standing, stands, nothing, empty, ahead}
+use Rattle.session.specs.Confirmations.{Awaits}
 use Rattle.session.specs.Demand.{MayAnswer, PhaseFits, sum, nextEnd, nextCall, MaySend, Holds, Demand}
-use Rattle.session.specs.Invariant.{source, Linked, Invariant, StartKeeps, InvariantHolds}
+use Rattle.session.specs.Invariant.{Within, Delivers, Knows, source, flowAt, Settled, OneEnd, Linked, Invariant, StartKeeps, InvariantHolds}
 use Rattle.session.proofs.Turns.{rests-meets, shut-meets}
 use Rattle.session.proofs.Speaking.{opens-first, offers-one, takes-all, gives-data}
 use Rattle.session.proofs.Step.{received-heard, received-short, short-stays, seen-from, head-delivered, step-keeps}
@@ -46,46 +46,57 @@ none-queued : (q : List Packet) → map bytesIn q ≡ [] → q ≡ []
 none-queued [] none = refl
 none-queued (m ∷ q) none = let z : _≡_ {A = ℕ} 0 1 = cc in absurd (omega arith)
 
--- a fresh client and a fresh server
+-- nothing is awaited, and nothing is on its way
+
+nothing-awaited : (a b : Standing) → Awaits a [] [] b []
+unfolding flatMap
+nothing-awaited a b = record { rest = []; held = λ is-open. refl; due = λ is-open. refl }
+
+nothing-delivered : {A : Type 0} (carried : Packet → List A) (b : Standing) → Delivers carried [] [] b []
+unfolding flatMap
+nothing-delivered carried b = record { rest = []; whole = refl; due = λ is-open. refl }
+
+-- a fresh end, and a fresh client and a fresh server
+
+nothing-counted : (end : End) → Within (agreed end noHistory) 0 0 fresh 0
+nothing-counted Client = record { in-all = omega arith; in-newest = omega arith }
+nothing-counted Server = record { in-all = omega arith; in-newest = omega arith }
+
+module _ (flow limit serverFlow : ℕ) where
+  fresh-end : (end : End) (own : ℕ) → leb client (roleOf end) && leb (roleOf end) server ≡ true → givenOf (flowAt flow limit serverFlow end) own ≡ Good
+      → (Knows end fresh → Settled flow limit serverFlow end (freshOf (roleOf end) (flowAt flow limit serverFlow end) own))
+      → OneEnd flow limit serverFlow end (made (freshOf (roleOf end) (flowAt flow limit serverFlow end) own)) []
+  unfolding freshOf
+  fresh-end end own role given terms =
+      let seen = flowAt flow limit serverFlow end in
+      record {
+        sound = record { sized = fresh-sized (roleOf end) seen own; is-good = fresh-good (roleOf end) seen own role (given-well seen own given) };
+        role = refl;
+        flows = refl;
+        ends = omega arith;
+        queued = refl;
+        proper = tt;
+        terms = terms;
+        counted = nothing-counted end;
+      }
+
 pub start-keeps : StartKeeps
-unfolding freshOf flatMap
+unfolding freshOf
 start-keeps flow limit serverFlow given server-given =
-    let client-sound : Sound (freshClient flow limit) = record { sized = fresh-sized 1 flow limit; is-good = fresh-good 1 flow limit refl (given-well flow limit given) } in
-    let server-sound : Sound (freshServer serverFlow) = record { sized = fresh-sized 2 serverFlow mostLimit; is-good = fresh-good 2 serverFlow mostLimit refl (given-well serverFlow mostLimit server-given) } in
     record {
       from-client = [];
       from-server = [];
       linked =
           record {
-            here =
-                record {
-                  sound = client-sound;
-                  role = refl;
-                  flows = refl;
-                  ends = omega arith;
-                  queued = refl;
-                  proper = tt;
-                  terms = λ known. record { limited = refl; produced = refl };
-                  counted = record { in-all = omega arith; in-newest = omega arith };
-                };
-            there =
-                record {
-                  sound = server-sound;
-                  role = refl;
-                  flows = refl;
-                  ends = omega arith;
-                  queued = refl;
-                  proper = tt;
-                  terms = λ known. absurd (omega (arith, known .0));
-                  counted = record { in-all = omega arith; in-newest = omega arith };
-                };
+            here = fresh-end flow limit serverFlow Client limit refl given (λ known. record { limited = refl; produced = refl });
+            there = fresh-end flow limit serverFlow Server mostLimit refl server-given (λ known. absurd (omega (arith, known .0)));
             meets = ahead nothing empty;
-            awaits = record { rest = []; held = λ is-open. refl; due = λ is-open. refl };
-            awaits-across = record { rest = []; held = λ is-open. refl; due = λ is-open. refl };
-            delivers = record { rest = []; whole = refl; due = λ is-open. refl };
-            delivers-across = record { rest = []; whole = refl; due = λ is-open. refl };
-            readies = record { rest = []; whole = refl; due = λ is-open. refl };
-            readies-across = record { rest = []; whole = refl; due = λ is-open. refl };
+            awaits = nothing-awaited _ _;
+            awaits-across = nothing-awaited _ _;
+            delivers = nothing-delivered dataIn _;
+            delivers-across = nothing-delivered dataIn _;
+            readies = nothing-delivered readyIn _;
+            readies-across = nothing-delivered readyIn _;
           };
     }
 

@@ -66,15 +66,16 @@ hearer-low from end s m _ (Hears·closed closing alive) is-open is-shut = is-ope
 
 -- what the confirmation of a packet asks for, confirms and carries, and that it is no READY
 
-answers-ask : (m : Packet) → flatMap askedIn (answersIn m) ≡ []
+answers-none : {A : Type 0} (taken : Packet → List A) → ((message : MessageType) (type-data : ℕ) → taken (Confirms message type-data) ≡ [])
+    → (m : Packet) → flatMap taken (answersIn m) ≡ []
 unfolding flatMap
-answers-ask (Called e call room) = go (askOf call)
+answers-none taken none (Called e call room) = go (askOf call)
   where
-    go : (ask : Bool) → flatMap askedIn (cond ask (Confirms (messageOf call) (typeDataOf call) ∷ []) []) ≡ []
-    go true = refl
+    go : (ask : Bool) → flatMap taken (cond ask (Confirms (messageOf call) (typeDataOf call) ∷ []) []) ≡ []
+    go true = rw (none (messageOf call) (typeDataOf call)) refl
     go false = refl
-answers-ask (Confirms message type-data) = refl
-answers-ask (Closes code) = refl
+answers-none taken none (Confirms message type-data) = refl
+answers-none taken none (Closes code) = refl
 
 answers-confirm : (m : Packet) → flatMap confirmedIn (answersIn m) ≡ askedIn m
 unfolding flatMap
@@ -85,26 +86,6 @@ answers-confirm (Called e call room) = go (askOf call)
     go false = refl
 answers-confirm (Confirms message type-data) = refl
 answers-confirm (Closes code) = refl
-
-answers-carry : (m : Packet) → flatMap dataIn (answersIn m) ≡ []
-unfolding flatMap
-answers-carry (Called e call room) = go (askOf call)
-  where
-    go : (ask : Bool) → flatMap dataIn (cond ask (Confirms (messageOf call) (typeDataOf call) ∷ []) []) ≡ []
-    go true = refl
-    go false = refl
-answers-carry (Confirms message type-data) = refl
-answers-carry (Closes code) = refl
-
-answers-ready : (m : Packet) → flatMap readyIn (answersIn m) ≡ []
-unfolding flatMap
-answers-ready (Called e call room) = go (askOf call)
-  where
-    go : (ask : Bool) → flatMap readyIn (cond ask (Confirms (messageOf call) (typeDataOf call) ∷ []) []) ≡ []
-    go true = refl
-    go false = refl
-answers-ready (Confirms message type-data) = refl
-answers-ready (Closes code) = refl
 
 -- DATA moves on only in phase 4
 data-active : {role flow phase n type-data next count : ℕ} → Moved role flow phase n Data type-data next count → (idle ≤ phase) × (phase ≤ batch)
@@ -237,12 +218,12 @@ module _ (flow limit serverFlow : ℕ) where
               meets = rw after (answers-meets from end m hears meets);
               awaits =
                   rw after
-                  (hears-awaits (standing x) a m (answersIn m) (awaited next) (answers-ask m) (linked .awaits)
+                  (hears-awaits (standing x) a m (answersIn m) (awaited next) (answers-none askedIn (λ message type-data. refl) m) (linked .awaits)
                   (λ is-open. awaits (hearer-low from end stage m a hears is-open)));
               awaits-across = rw after (across-hears-awaits (standing y) a stage m (answersIn m) (answers-confirm m) (rw was at (linked .awaits-across)));
-              delivers = writes-delivers dataIn (standing y) (answersIn m) (answers-carry m) (linked .delivers);
+              delivers = writes-delivers dataIn (standing y) (answersIn m) (answers-none dataIn (λ message type-data. refl) m) (linked .delivers);
               delivers-across = rw after (hears-delivers dataIn stage a m (rw was at (linked .delivers-across)));
-              readies = writes-delivers readyIn (standing y) (answersIn m) (answers-ready m) (linked .readies);
+              readies = writes-delivers readyIn (standing y) (answersIn m) (answers-none readyIn (λ message type-data. refl) m) (linked .readies);
               readies-across = rw after (hears-delivers readyIn stage a m (rw was at (linked .readies-across)));
             }
 
