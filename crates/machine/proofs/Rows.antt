@@ -68,7 +68,7 @@ module _ (e : Endpoint) (sound : Sound e) where
       go false differs = there (omega (arith, eqb-false count 0 differs))
 
   -- n is a number of two bytes
-  n-small : e .n < 256 ^ 2
+  pub n-small : e .n < 256 ^ 2
   unfolding countFits
   n-small = go (eqb (e .phase) offer || eqb (e .phase) batch) (good-told e (sound .is-good) .counted)
     where

@@ -1,4 +1,4 @@
--- Demand 3 holds of every two blocks that were made, after any calls of the entries, and both blocks are good. Assumes nothing.
+-- Demand 3 holds of every two blocks that were made, after any calls of the entries; and every list of calls has a run. Assumes nothing.
 use mathlib.Core.Path.{_≡_, _∙_, ap, refl, subst, sym}
 use Prim.Native.Nat.{ℕ, _≤_}
 use mathlib.Core.List.{List, [], _∷_}

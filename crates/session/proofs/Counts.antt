@@ -1,7 +1,7 @@
 -- What an end sends or hears is counted: what was sent and accepted, with what is left of the batch, stays within what was agreed. Assumes
 -- nothing.
 use mathlib.Core.Path.{_≡_, refl}
-use Prim.Native.Nat.{ℕ, _+_, _≤_}
+use Prim.Native.Nat.{ℕ, _+_, _-_, _≤_, zero-le}
 use mathlib.Core.List.{List, [], _∷_, _++_, append-nil}
 use mathlib.Core.Bool.{true, cond, _&&_, _||_}
 use native.Mathlib.Omega.{arith}
@@ -17,7 +17,7 @@ use Rattle.endpoint.proofs.Told.{good-told}
 use Rattle.sending.specs.Calls.{Call, messageOf, typeDataOf, OPEN, READY, DATA, NOOP, CLOSE}
 use Rattle.machine.specs.Good.{Sound}
 use Rattle.session.specs.World.{End, across, Datum, Ending, History, agreed, dataSent, readyCount, batchAfter, afterCall, afterMessage, Client, Server}
-use Rattle.session.specs.Packets.{Packet, movesLike, typeDataIn, dataIn, readyIn, Called, Confirms, Closes}
+use Rattle.session.specs.Packets.{Packet, rowMessage, typeDataIn, dataIn, readyIn, Called, Confirms, Closes}
 use Rattle.session.specs.Turns.{roleOf}
 use Rattle.session.specs.Demand.{sum, newest}
 use Rattle.session.specs.Invariant.{left, Within, Counted}
@@ -31,7 +31,7 @@ dataCount Noop = 0
 dataCount Data = 1
 dataCount Close = 0
 
-carried-count : (m : Packet) → length (dataIn m) ≡ dataCount (movesLike m)
+carried-count : (m : Packet) → length (dataIn m) ≡ dataCount (rowMessage m)
 carried-count (Called e (OPEN name format) room) = refl
 carried-count (Called e (READY count) room) = refl
 carried-count (Called e (DATA type-data ask body) room) = refl
@@ -69,32 +69,36 @@ agreement Client message count = readyCount message count
 agreement Server message count = []
 
 module _ (counts : List ℕ) (batched : List Datum) (all : ℕ) where
+  -- a message that agrees to nothing and carries nothing leaves no more of the batch than there was
+  kept-within : {recent phase n next m : ℕ} → left next m ≤ left phase n → Within counts all recent phase n → Within (counts ++ []) (all + 0) (recent + 0) next m
+  kept-within fewer w = rw append-nil (record { in-all = omega (arith, w .in-all, fewer); in-newest = omega (arith, w .in-newest, fewer) })
+
+  -- DATA takes one from it
+  given-within : {recent phase n next m : ℕ} → phase ≡ batch → 1 ≤ n → Begun batch (n - 1) next m → Within counts all recent phase n
+      → Within (counts ++ []) (all + 1) (recent + 1) next m
+  given-within {phase = phase} {n = n} batching some begins w =
+      let rest = batch-left begins in
+      let whole = all-left phase n batching in
+      rw append-nil (record { in-all = omega (arith, w .in-all, rest, whole, some); in-newest = omega (arith, w .in-newest, rest, whole, some) })
+
   -- the row of a message that the end `writer` writes leads its writer and its hearer from within to within
   row-within : (writer : End) {flow phase n type-data next m : ℕ} {message : MessageType} → Moved (roleOf writer) flow phase n message type-data next m
       → (phase ≡ batch → 1 ≤ n) → Within counts all (length batched) phase n
       → Within (counts ++ agreement writer message type-data) (all + dataCount message) (length (batchAfter writer (readyCount message type-data) batched) + dataCount message) next m
-  row-within Client (opens is-client begins) some w = rw append-nil (record { in-all = omega (arith, w .in-all); in-newest = omega (arith, w .in-newest) })
+  row-within Client (opens is-client begins) some w = kept-within zero-le w
   row-within Client (offers differs low high begins) some w = absurd (differs refl)
   row-within Client {type-data = count} (takes is-client offered few begins) some w =
       let whole = batch-left begins in
       record { in-all = omega (arith, w .in-all, whole, sum-last counts count); in-newest = omega (arith, whole, newest-last counts count) }
-  row-within Client {phase = phase} {n = n} (gives produces batching begins) some w =
-      let rest = batch-left begins in
-      let whole = all-left phase n batching in
-      rw append-nil (record { in-all = omega (arith, w .in-all, rest, whole, some batching); in-newest = omega (arith, w .in-newest, rest, whole, some batching) })
-  row-within Client (rests low high) some w = rw append-nil (record { in-all = omega (arith, w .in-all); in-newest = omega (arith, w .in-newest) })
-  row-within Client (closes low high) some w = rw append-nil (record { in-all = omega (arith, w .in-all); in-newest = omega (arith, w .in-newest) })
-  row-within Server (opens is-client begins) some w = rw append-nil (record { in-all = omega (arith, w .in-all); in-newest = omega (arith, w .in-newest) })
-  row-within Server (offers differs low high begins) some w =
-      let whole = offer-left begins in
-      rw append-nil (record { in-all = omega (arith, w .in-all, whole); in-newest = omega (arith, w .in-newest, whole) })
+  row-within Client (gives produces batching begins) some w = given-within batching (some batching) begins w
+  row-within Client (rests low high) some w = kept-within (omega arith) w
+  row-within Client (closes low high) some w = kept-within zero-le w
+  row-within Server (opens is-client begins) some w = kept-within zero-le w
+  row-within Server (offers differs low high begins) some w = kept-within (omega (arith, offer-left begins)) w
   row-within Server (takes is-client offered few begins) some w = let z : _≡_ {A = ℕ} 0 1 = cc in absurd (omega arith)
-  row-within Server {phase = phase} {n = n} (gives produces batching begins) some w =
-      let rest = batch-left begins in
-      let whole = all-left phase n batching in
-      rw append-nil (record { in-all = omega (arith, w .in-all, rest, whole, some batching); in-newest = omega (arith, w .in-newest, rest, whole, some batching) })
-  row-within Server (rests low high) some w = rw append-nil (record { in-all = omega (arith, w .in-all); in-newest = omega (arith, w .in-newest) })
-  row-within Server (closes low high) some w = rw append-nil (record { in-all = omega (arith, w .in-all); in-newest = omega (arith, w .in-newest) })
+  row-within Server (gives produces batching begins) some w = given-within batching (some batching) begins w
+  row-within Server (rests low high) some w = kept-within (omega arith) w
+  row-within Server (closes low high) some w = kept-within zero-le w
 
 -- "n is 1..65,535 in phases 3 and 4"
 batch-some : (e : Endpoint) → Sound e → e .phase ≡ batch → 1 ≤ e .n
@@ -110,7 +114,7 @@ called-agreed Client past call = refl
 called-agreed Server past call = rw append-nil refl
 
 heard-agreed : (end : End) (past : History) (m : Packet) (arrived : List Datum) (ending : Ending)
-    → agreed end (afterMessage end past arrived (readyIn m) ending) ≡ agreed end past ++ agreement (across end) (movesLike m) (typeDataIn m)
+    → agreed end (afterMessage end past arrived (readyIn m) ending) ≡ agreed end past ++ agreement (across end) (rowMessage m) (typeDataIn m)
 heard-agreed Client past m arrived ending = rw append-nil refl
 heard-agreed Server past m arrived ending = refl
 
@@ -127,7 +131,7 @@ module _ (end : End) (e : Endpoint) (sound : Sound e) (past : History) (counted 
       })
 
   -- an end hears what the other wrote
-  pub heard-counted : (flow : ℕ) (m : Packet) (ending : Ending) → Moved (roleOf (across end)) flow (e .phase) (e .n) (movesLike m) (typeDataIn m) phase n
+  pub heard-counted : (flow : ℕ) (m : Packet) (ending : Ending) → Moved (roleOf (across end)) flow (e .phase) (e .n) (rowMessage m) (typeDataIn m) phase n
       → Counted end (afterMessage end past (dataIn m) (readyIn m) ending) next
   heard-counted flow m ending moves =
       let after = row-within (agreed end past) (past .batch) (length (past .sent) + length (past .accepted)) (across end) moves (batch-some e sound) counted in

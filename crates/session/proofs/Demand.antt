@@ -200,7 +200,7 @@ module _ (flow limit serverFlow : ℕ) where
     invariant-says =
         record {
           answers = λ end s rest queued. let joint = seen-from flow limit serverFlow end w holds in
-              head-answered end (side w end) (side w (across end)) (joint .p) (joint .q) (joint .linked) s rest (sym (joint .linked .there .queued) ∙ queued);
+              head-answered end (side w end) (side w (across end)) (joint .from-here) (joint .from-across) (joint .linked) s rest (sym (joint .linked .there .queued) ∙ queued);
           waits = short-answered;
           nothing-after-close = λ end closing. let joint = seen-from flow limit serverFlow end w holds in
               joint .linked .there .queued

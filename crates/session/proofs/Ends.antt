@@ -13,13 +13,13 @@ use Rattle.sending.specs.Sending.{sendOf}
 use Rattle.machine.specs.Good.{Fits}
 use Rattle.machine.proofs.Rows.{closed-sound}
 use Rattle.session.specs.World.{End, across, Ending, Side, endedBy, wrote, took, Client, Server, Going, HeardClose, WroteClose}
-use Rattle.session.specs.Packets.{Packet, bytesIn, movesLike, typeDataIn, dataIn, readyIn, Called, Confirms, Closes}
+use Rattle.session.specs.Packets.{Packet, bytesIn, rowMessage, typeDataIn, dataIn, readyIn, Called, Confirms, Closes}
 use Rattle.session.specs.Turns.{roleOf, producing}
 use Rattle.session.specs.Demand.{PhaseFits}
 use Rattle.session.specs.Invariant.{Knows, source, Settled, Proper, AllProper, OneEnd}
 use Rattle.session.proofs.Table.{Moved, opens, offers, takes, gives, rests, closes, row-moved, begun-low, moved-low}
 use Rattle.session.proofs.Counts.{sent-counted, heard-counted, closed-counted}
-use Rattle.session.proofs.Packets.{SentOn, Comes, answersIn, limitAfter, isOpen, Sort, an-open, another, sort}
+use Rattle.session.proofs.Packets.{SentOn, Comes, answersIn, limitAfter, isOpenMessage, OpenOrOther, an-open, another, open-or-other}
 
 -- an end that is not in phase 5 has not closed
 pub is-going : (ending : Ending) (phase : ℕ) → PhaseFits ending phase → phase ≤ batch → ending ≡ Going
@@ -39,7 +39,7 @@ moved-ends how closing (rests low high) = high
 moved-ends how closing (closes low high) = closing
 
 -- a message other than OPEN leads on only an open server
-server-knows : {role flow phase n type-data next count : ℕ} {message : MessageType} → isOpen message ≡ false → Moved role flow phase n message type-data next count
+server-knows : {role flow phase n type-data next count : ℕ} {message : MessageType} → isOpenMessage message ≡ false → Moved role flow phase n message type-data next count
     → (opening ≤ phase) × (phase ≤ batch)
 server-knows other (opens role begins) = let z : _≡_ {A = ℕ} 0 1 = cc in absurd (omega arith)
 server-knows other (offers differs low high begins) = (low, omega arith)
@@ -49,7 +49,7 @@ server-knows other (rests low high) = (omega arith, high)
 server-knows other (closes low high) = (low, high)
 
 -- and a server sends no OPEN
-server-sends : {flow phase n type-data next count : ℕ} {message : MessageType} → Moved (roleOf Server) flow phase n message type-data next count → isOpen message ≡ false
+server-sends : {flow phase n type-data next count : ℕ} {message : MessageType} → Moved (roleOf Server) flow phase n message type-data next count → isOpenMessage message ≡ false
 server-sends (opens role begins) = absurd (omega (arith, role))
 server-sends (offers differs low high begins) = refl
 server-sends (takes role offered few begins) = refl
@@ -63,7 +63,7 @@ sender-knows Client moves = tt
 sender-knows Server moves = server-knows (server-sends moves) moves
 
 -- and so does who hears anything but an OPEN
-pub hearer-knows : (end : End) {role flow phase n type-data next count : ℕ} {message : MessageType} → isOpen message ≡ false → Moved role flow phase n message type-data next count
+pub hearer-knows : (end : End) {role flow phase n type-data next count : ℕ} {message : MessageType} → isOpenMessage message ≡ false → Moved role flow phase n message type-data next count
     → Knows end phase
 hearer-knows Client other moves = tt
 hearer-knows Server other moves = server-knows other moves
@@ -122,10 +122,10 @@ module _ (flow limit serverFlow : ℕ) where
 
     -- an end that has not closed heard a packet, whose row leads to this phase and n; an OPEN only where it is for who produces
     pub heard-sides : (m : Packet) (phase n : ℕ) (next : Endpoint) → Proper flow limit serverFlow (across end) m
-        → Moved (roleOf (across end)) (other (x .self .flow)) (x .self .phase) (x .self .n) (movesLike m) (typeDataIn m) phase n
-        → (isOpen (movesLike m) ≡ true → producing end (x .self .flow) ≡ source flow) → Comes (x .self) phase n (limitAfter m (x .self .limit)) next
+        → Moved (roleOf (across end)) (other (x .self .flow)) (x .self .phase) (x .self .n) (rowMessage m) (typeDataIn m) phase n
+        → (isOpenMessage (rowMessage m) ≡ true → producing end (x .self .flow) ≡ source flow) → Comes (x .self) phase n (limitAfter m (x .self .limit)) next
         → OneEnd flow limit serverFlow end
-        (took end x (dataIn m) (readyIn m) (endedBy HeardClose (movesLike m) Going) (map bytesIn (answersIn m)) next)
+        (took end x (dataIn m) (readyIn m) (endedBy HeardClose (rowMessage m) Going) (map bytesIn (answersIn m)) next)
         (p ++ answersIn m)
     heard-sides m phase n next proper moves produces comes =
         record {
@@ -136,17 +136,17 @@ module _ (flow limit serverFlow : ℕ) where
           queued = queued-append x p (answersIn m) (map bytesIn (answersIn m)) (here .queued) refl;
           proper = proper-append end p (answersIn m) (here .proper) (answers-proper end m proper);
           terms = λ known. record { limited = comes .limited ∙ terms-there .0; produced = ap (producing end) (comes .flow) ∙ terms-there .1 };
-          counted = heard-counted end (x .self) (here .sound) (x .past) (here .counted) next phase n (comes .phased) (comes .counted) (other (x .self .flow)) m (endedBy HeardClose (movesLike m) Going) moves;
+          counted = heard-counted end (x .self) (here .sound) (x .past) (here .counted) next phase n (comes .phased) (comes .counted) (other (x .self .flow)) m (endedBy HeardClose (rowMessage m) Going) moves;
         }
       where
         -- an OPEN brings the terms, and any other packet comes to an end that knows them
-        by-sort : (m : Packet) → Sort m → Proper flow limit serverFlow (across end) m → (isOpen (movesLike m) ≡ true → producing end (x .self .flow) ≡ source flow)
-            → (isOpen (movesLike m) ≡ false → Settled flow limit serverFlow end (x .self)) → (limitAfter m (x .self .limit) ≡ limit) × (producing end (x .self .flow) ≡ source flow)
+        by-sort : (m : Packet) → OpenOrOther m → Proper flow limit serverFlow (across end) m → (isOpenMessage (rowMessage m) ≡ true → producing end (x .self .flow) ≡ source flow)
+            → (isOpenMessage (rowMessage m) ≡ false → Settled flow limit serverFlow end (x .self)) → (limitAfter m (x .self .limit) ≡ limit) × (producing end (x .self .flow) ≡ source flow)
         by-sort _ (an-open e asked wanted room) made brings knows = (made .limited, brings refl)
         by-sort _ (another later offered stays) made brings knows = (stays (x .self .limit) ∙ knows later .limited, knows later .produced)
 
         terms-there : (limitAfter m (x .self .limit) ≡ limit) × (producing end (x .self .flow) ≡ source flow)
-        terms-there = by-sort m (sort m) proper produces (λ later. here .terms (hearer-knows end later moves))
+        terms-there = by-sort m (open-or-other m) proper produces (λ later. here .terms (hearer-knows end later moves))
 
     -- an end that refused an OPEN
     pub refused-sides : (code : ℕ) → code < 256 ^ 2 → OneEnd flow limit serverFlow end (took end x [] [] WroteClose (map bytesIn (Closes code ∷ [])) (closed (x .self))) (p ++ (Closes code ∷ []))

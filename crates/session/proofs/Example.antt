@@ -40,8 +40,10 @@ use Rattle.sending.specs.Calls.{OPEN, READY, DATA, NOOP, CLOSE}
 use Rattle.endpoint.specs.declared.Endpoint.{Endpoint}
 use Rattle.session.specs.World.{Datum, Ending, World, Event, start, afterSend, afterReceive, step, run, Client, Server, Going, HeardClose, WroteClose, sends, receives}
 
--- what is looked at afterwards: data accepted, batches agreed, how each end ended, and how many bundles are on their way
+-- what is looked at afterwards: data sent and accepted, batches agreed, how each end ended, and how many bundles are on their way
 record Noted : Type 0 where
+  from-client : List Datum
+  from-server : List Datum
   at-client : List Datum
   at-server : List Datum
   agreed : List ℕ
@@ -53,6 +55,8 @@ record Noted : Type 0 where
 abbrev noted : World Endpoint → Noted
 noted w =
     record {
+      from-client = w .client .past .sent;
+      from-server = w .server .past .sent;
       at-client = w .client .past .accepted;
       at-server = w .server .past .accepted;
       agreed = w .client .past .readies;
@@ -62,8 +66,8 @@ noted w =
       to-client = length (w .server .queue);
     }
 
--- the client produces: of an offer of five it takes two, and asks for a confirmation of the second; the server closes, and the client's NOOP comes
--- after that
+-- the client produces: of an offer of five it takes two, asks for a confirmation of the second, and is refused a third; one receive has no room
+-- for a reply; the server closes, and the client's NOOP comes after that
 client-produces : List Event
 client-produces =
     sends Client (OPEN (97 ∷ []) []) 4200
@@ -85,7 +89,7 @@ client-produces =
     ∷ receives Client [] [] 14
     ∷ []
 
--- the server produces: one batch of one, whose DATA is still on its way
+-- the server produces: one batch of one, the confirmation of whose DATA is still on its way
 server-produces : List Event
 server-produces =
     sends Client (OPEN (97 ∷ []) []) 4200
@@ -97,25 +101,54 @@ server-produces =
     ∷ sends Client (READY 1) 14
     ∷ receives Server [] [] 14
     ∷ sends Server (DATA 7 true []) 18
+    ∷ receives Client [] [] 14
     ∷ []
 
 -- both produce: the OPEN is refused
 both-produce : List Event
 both-produce = sends Client (OPEN (97 ∷ []) []) 4200 ∷ receives Server (97 ∷ []) [] 14 ∷ receives Client [] [] 14 ∷ []
 
+abbrev pages : List Datum
+pages = record { type-data = 1; body = 10 ∷ [] } ∷ record { type-data = 2; body = 20 ∷ [] } ∷ []
+
+abbrev report : List Datum
+report = record { type-data = 7; body = [] } ∷ []
+
 sessions :
     noted (run (start 1 1000000 2) client-produces) ∷ noted (run (start 2 50000000 1) server-produces) ∷ noted (run (start 1 50000000 1) both-produce) ∷ []
     ≡ record {
+      from-client = pages;
+      from-server = [];
       at-client = [];
-      at-server = record { type-data = 1; body = 10 ∷ [] } ∷ record { type-data = 2; body = 20 ∷ [] } ∷ [];
+      at-server = pages;
       agreed = 2 ∷ [];
       client-ending = HeardClose;
       server-ending = WroteClose;
       to-server = 0;
       to-client = 0;
     }
-    ∷ record { at-client = []; at-server = []; agreed = 1 ∷ []; client-ending = Going; server-ending = Going; to-server = 0; to-client = 1 }
-    ∷ record { at-client = []; at-server = []; agreed = []; client-ending = HeardClose; server-ending = WroteClose; to-server = 0; to-client = 0 }
+    ∷ record {
+      from-client = [];
+      from-server = report;
+      at-client = report;
+      at-server = [];
+      agreed = 1 ∷ [];
+      client-ending = Going;
+      server-ending = Going;
+      to-server = 1;
+      to-client = 0;
+    }
+    ∷ record {
+      from-client = [];
+      from-server = [];
+      at-client = [];
+      at-server = [];
+      agreed = [];
+      client-ending = HeardClose;
+      server-ending = WroteClose;
+      to-server = 0;
+      to-client = 0;
+    }
     ∷ []
 unfolding flatMap flatten inUnsigned ofBits ofInt toBits toUnsigned whole fromBytesBehind fromBytes toBytes numberAt same putAt countOf lengthOf lengthsBefore startOf good sizeOf contentsOf frameOf framesOf bundleOf headOf lengthsFit writable signedOf versionOf knownTypeOf controlOf bytesOf ranges rangesOf dueAfter table dueBehind rest wellFormed payloadAt fieldAt fieldsWithin fieldsOf saidAt varintAt shortestWithin shortestOf varintLength tagOf varintField eightField bytesField bitsAt Double·bytesOf limitOf keyOf valuePlace findIn walk firstOf placeIn valueWire valueText valueAllowed valueRule valueField valueCheck bytesRule keyRule seenOf entryField entryDone entryCheck itemField itemsCheck inside structCheck aloneCheck limitIn readLayers findLayers lookUp heldBy valueAt valueOf oversized frameWire isThere frameText frameRule frameField placeIf socketIf keep kept frameCheck partsOf openingOf readable outOfRange inRange knownSocket offeredPipe offeredFormat openOf offered goodName goodFormat isGood formatField parametersField frameFor givenOf written answerTo strangeFlags bodyOf readAs readingOf headBytes Block·bytesOf recordIn spareIsZero Block·isGood loadOf entryBytes entryAt inRanges countFits waitFits awaitable isNone entryFits entriesFit Record·good Record·givenOf freshOf closed atPhase asked confirmed limited begun openRow readyRow dataRow noopRow closeRow atRow movesAs hearRow tooLarge openAt carriedBy matchesOldest unmatched confirmedBy replyTo accepted hearContent hearMessage hearOf replied receivedOf versionCode closeCode silent refused unchanged goodCode bundleWith sendRow isFull numberFor askedBy sentBy leftBy afterSend afterReceive step run client-produces server-produces both-produce
 sessions = refl

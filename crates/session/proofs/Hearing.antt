@@ -22,23 +22,23 @@ use Rattle.table.specs.Table.{other, rowOf}
 use Rattle.receiving.specs.Hearing.{hearOf}
 use Rattle.sending.specs.Calls.{OPEN, READY, DATA, NOOP, CLOSE, askOf, messageOf, typeDataOf}
 use Rattle.session.specs.World.{End, across, Ending, Side, endedBy, withQueue, wrote, took, afterBundle, Client, Server, Going, HeardClose, WroteClose}
-use Rattle.session.specs.Packets.{Packet, bytesIn, movesLike, typeDataIn, dataIn, readyIn, Called, Confirms, Closes}
-use Rattle.session.specs.Turns.{roleOf, producing, turn, Kind, kindOf, Stage, Standing, stands, standing, IsOpen, Hears, Meets, Token, Quiet, Final, At, ClosedByItself, moved, rested, closed as Hears·closed}
+use Rattle.session.specs.Packets.{Packet, bytesIn, rowMessage, typeDataIn, dataIn, readyIn, Called, Confirms, Closes}
+use Rattle.session.specs.Turns.{roleOf, producing, turn, Kind, kindOf, Stage, Standing, stands, standing, IsOpen, Hears, Meets, Moves, Stays, Ends, At, ClosedByItself, moved, rested, closed as Hears·closed}
 use Rattle.session.specs.Confirmations.{entryFor, askedIn, confirmedIn}
 use Rattle.session.specs.Invariant.{Knows, source, Proper, OneEnd, Linked}
 use Rattle.session.proofs.Table.{calms, Moved, opens, gives, row-moved, row-hears, other-role, phaseIn, nIn, leads-alive, leads-active}
 use Rattle.session.proofs.Turns.{across-differs, sends-meets, refuses-meets}
 use Rattle.session.proofs.Streams.{hears-awaits, gone-awaits, across-hears-awaits, across-gone-awaits, writes-delivers, hears-delivers, gone-delivers}
-use Rattle.session.proofs.Packets.{Comes, Taken, answersIn, limitAfter, offeredIn, isOpen, Sort, an-open, another, sort}
+use Rattle.session.proofs.Packets.{Comes, Taken, answersIn, limitAfter, offeredIn, isOpenMessage, OpenOrOther, an-open, another, open-or-other}
 use Rattle.session.proofs.Taking.{packet-taken}
 use Rattle.session.proofs.Ends.{hearer-knows, heard-sides, refused-sides}
 
 -- where an end stands that heard a message
 
 abbrev endingOf : Ending → Kind → Ending
-endingOf how Token = Going
-endingOf how Quiet = Going
-endingOf how Final = how
+endingOf how Moves = Going
+endingOf how Stays = Going
+endingOf how Ends = how
 
 ended-kind : (how : Ending) (message : MessageType) → endedBy how message Going ≡ endingOf how (kindOf message)
 ended-kind how Open = refl
@@ -51,12 +51,12 @@ heard-ending : (message : MessageType) {kind : Kind} → kindOf message ≡ kind
 heard-ending message same = ended-kind HeardClose message ∙ ap (endingOf HeardClose) same
 
 hearer-stands : (from end : End) (s : Stage) (m : Packet) (a : Standing) (e : Endpoint) → Hears from end (At s) m a → e .phase ≡ phaseIn a → e .n ≡ nIn a
-    → stands (endedBy HeardClose (movesLike m) Going) e ≡ a
+    → stands (endedBy HeardClose (rowMessage m) Going) e ≡ a
 hearer-stands from end s m (At t) e (moved token theirs leads) phased counted =
-    ap (λ (ending : Ending). stands ending e) (heard-ending (movesLike m) token) ∙ rw (phased, counted) refl
+    ap (λ (ending : Ending). stands ending e) (heard-ending (rowMessage m) token) ∙ rw (phased, counted) refl
 hearer-stands from end s m _ e (rested still active) phased counted =
-    ap (λ (ending : Ending). stands ending e) (heard-ending (movesLike m) still) ∙ rw (phased, counted) refl
-hearer-stands from end s m _ e (Hears·closed closing alive) phased counted = ap (λ (ending : Ending). stands ending e) (heard-ending (movesLike m) closing)
+    ap (λ (ending : Ending). stands ending e) (heard-ending (rowMessage m) still) ∙ rw (phased, counted) refl
+hearer-stands from end s m _ e (Hears·closed closing alive) phased counted = ap (λ (ending : Ending). stands ending e) (heard-ending (rowMessage m) closing)
 
 -- an end that is still open is not in phase 5
 hearer-low : (from end : End) (s : Stage) (m : Packet) (a : Standing) → Hears from end (At s) m a → IsOpen a → phaseIn a ≡ shut → ⊥
@@ -140,8 +140,8 @@ module _ (flow limit serverFlow : ℕ) where
   from = source flow
 
   -- and so agrees on who produces
-  open-source : (end : End) (r : Endpoint) (m : Packet) → Sort m → (name format : List ℕ) {seen phase n next count : ℕ} → Proper flow limit serverFlow (across end) m
-      → Moved (roleOf (across end)) seen phase n (movesLike m) (typeDataIn m) next count → offeredIn m r name format ≡ true → isOpen (movesLike m) ≡ true → producing end (r .flow) ≡ from
+  open-source : (end : End) (r : Endpoint) (m : Packet) → OpenOrOther m → (name format : List ℕ) {seen phase n next count : ℕ} → Proper flow limit serverFlow (across end) m
+      → Moved (roleOf (across end)) seen phase n (rowMessage m) (typeDataIn m) next count → offeredIn m r name format ≡ true → isOpenMessage (rowMessage m) ≡ true → producing end (r .flow) ≡ from
   open-source Client r _ (an-open e asked wanted room) name format made moves offered is = absurd (clients-open moves)
   open-source Server r _ (an-open e asked wanted room) name format made moves offered is =
       let all = both-true (same asked name && eqb (socketOf (e .flow)) (offeredSocket (r .flow))) (eqb (length wanted) 0 || same wanted format) offered in
@@ -181,16 +181,16 @@ module _ (flow limit serverFlow : ℕ) where
       awaited-first = linked .awaits .held (rw was tt) ∙ append-assoc (confirmedIn m) (flatMap confirmedIn q) (linked .awaits .rest)
 
       module _ (a : Standing) (hears : Hears from end (At stage) m a) where
-        pub leads : rowOf (other (roleOf end)) (other (x .self .flow)) (x .self .phase) (x .self .n) (movesLike m) (typeDataIn m) ≡ To (phaseIn a) (nIn a)
+        pub leads : rowOf (other (roleOf end)) (other (x .self .flow)) (x .self .phase) (x .self .n) (rowMessage m) (typeDataIn m) ≡ To (phaseIn a) (nIn a)
         leads =
             row-hears from end (x .self .flow) stage m a hears
             (λ theirs batching. hearer-consumes end (x .self .flow) (linked .here .terms (batch-known end (x .self .phase) batching) .produced ∙ theirs))
 
-        pub moves : Moved (roleOf (across end)) (other (x .self .flow)) (x .self .phase) (x .self .n) (movesLike m) (typeDataIn m) (phaseIn a) (nIn a)
-        moves = row-moved (roleOf (across end)) (other (x .self .flow)) (x .self .phase) (x .self .n) (movesLike m) (typeDataIn m) (phaseIn a) (nIn a) (rw (other-role end) leads)
+        pub moves : Moved (roleOf (across end)) (other (x .self .flow)) (x .self .phase) (x .self .n) (rowMessage m) (typeDataIn m) (phaseIn a) (nIn a)
+        moves = row-moved (roleOf (across end)) (other (x .self .flow)) (x .self .phase) (x .self .n) (rowMessage m) (typeDataIn m) (phaseIn a) (nIn a) (rw (other-role end) leads)
 
-        data-limit : movesLike m ≡ Data → x .self .limit ≡ limit
-        data-limit bears = linked .here .terms (hearer-knows end (ap isOpen bears) moves) .limited
+        data-limit : rowMessage m ≡ Data → x .self .limit ≡ limit
+        data-limit bears = linked .here .terms (hearer-knows end (ap isOpenMessage bears) moves) .limited
 
         pub head-taken : (name format : List ℕ) → offeredIn m (x .self) name format ≡ true → Taken (x .self) m name format (phaseIn a) (nIn a) later
         head-taken name format offers =
@@ -205,10 +205,10 @@ module _ (flow limit serverFlow : ℕ) where
             })
 
         -- a packet that was heard
-        taken-linked : (next : Endpoint) → Meets from end a p (standing y) q → (isOpen (movesLike m) ≡ true → producing end (x .self .flow) ≡ from)
+        taken-linked : (next : Endpoint) → Meets from end a p (standing y) q → (isOpenMessage (rowMessage m) ≡ true → producing end (x .self .flow) ≡ from)
             → Comes (x .self) (phaseIn a) (nIn a) (limitAfter m (x .self .limit)) next → ((phaseIn a ≡ shut → ⊥) → awaited next ≡ later)
             → Linked flow limit serverFlow end
-            (took end x (dataIn m) (readyIn m) (endedBy HeardClose (movesLike m) Going) (map bytesIn (answersIn m)) next)
+            (took end x (dataIn m) (readyIn m) (endedBy HeardClose (rowMessage m) Going) (map bytesIn (answersIn m)) next)
             (withQueue y (map bytesIn q)) (p ++ answersIn m) q
         taken-linked next meets produces comes awaits =
             let after = hearer-stands from end stage m a next hears (comes .phased) (comes .counted) in
@@ -230,7 +230,7 @@ module _ (flow limit serverFlow : ℕ) where
         -- what the world notes of it
         taken-noted : (name format : List ℕ) → Taken (x .self) m name format (phaseIn a) (nIn a) later
             → afterBundle end x (bytesIn m) (hearOf (x .self) (bytesIn m) name format)
-            ≡ took end x (dataIn m) (readyIn m) (endedBy HeardClose (movesLike m) Going) (map bytesIn (answersIn m)) (hearOf (x .self) (bytesIn m) name format .next)
+            ≡ took end x (dataIn m) (readyIn m) (endedBy HeardClose (rowMessage m) Going) (map bytesIn (answersIn m)) (hearOf (x .self) (bytesIn m) name format .next)
         taken-noted name format taken = simp (taken .answered, taken .carried, taken .readied, taken .replied, going, taken .ends Going)
 
         pub heard-linked : (name format : List ℕ) → offeredIn m (x .self) name format ≡ true → Meets from end a p (standing y) q
@@ -238,10 +238,10 @@ module _ (flow limit serverFlow : ℕ) where
         heard-linked name format offered meets =
             let taken = head-taken name format offered in
             subst (λ (after : Side Endpoint). Linked flow limit serverFlow end after (withQueue y (map bytesIn q)) (p ++ answersIn m) q) (sym (taken-noted name format taken))
-            (taken-linked (hearOf (x .self) (bytesIn m) name format .next) meets (open-source end (x .self) m (sort m) name format (linked .there .proper .0) moves offered) (taken .comes) (taken .awaits))
+            (taken-linked (hearOf (x .self) (bytesIn m) name format .next) meets (open-source end (x .self) m (open-or-other m) name format (linked .there .proper .0) moves offered) (taken .comes) (taken .awaits))
 
       -- an OPEN that was refused, with the code of its CLOSE
-      pub refused-linked : (code : ℕ) → code < 256 ^ 2 → kindOf (movesLike m) ≡ Token
+      pub refused-linked : (code : ℕ) → code < 256 ^ 2 → kindOf (rowMessage m) ≡ Moves
           → Linked flow limit serverFlow end (took end x [] [] WroteClose (map bytesIn (Closes code ∷ [])) (closed (x .self))) (withQueue y (map bytesIn q)) (p ++ (Closes code ∷ [])) q
       unfolding flatMap
       refused-linked code few token =

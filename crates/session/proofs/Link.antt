@@ -1,5 +1,4 @@
--- Two ends: an accepted send, a packet that is heard, an OPEN that is refused and a packet that comes after an own close keep what links them.
--- Assumes nothing.
+-- Two ends, of which one sends: an accepted send keeps what links them, from whichever end they are seen. Assumes nothing.
 use mathlib.Core.Path.{_≡_, refl, sym, _∙_, ap, subst}
 use Prim.Native.Nat.{ℕ, _≤_}
 use mathlib.Core.List.{List, [], _∷_, _++_, flatMap}
@@ -13,7 +12,7 @@ use Rattle.sending.specs.Sending.{sendOf}
 use Rattle.machine.specs.Good.{Fits}
 use Rattle.session.specs.World.{End, across, Ending, Side, endedBy, wrote, Going, WroteClose}
 use Rattle.session.specs.Packets.{Packet, dataIn, readyIn, Called}
-use Rattle.session.specs.Turns.{roleOf, producing, stands, standing, IsOpen, At}
+use Rattle.session.specs.Turns.{roleOf, producing, stageOf, stands, standing, IsOpen, At}
 use Rattle.session.specs.Invariant.{source, OneEnd, Linked}
 use Rattle.session.proofs.Table.{Moved, opens, offers, takes, gives, rests, closes, row-moved, row-sends, begun-low, moved-low, landing, landing-at}
 use Rattle.session.proofs.Turns.{across-meets, across-twice, sends-meets}
@@ -23,7 +22,7 @@ use Rattle.session.proofs.Ends.{is-going, sender-knows, sent-sides}
 
 -- where an end stands that sent a message
 
-at-lands : (e : Endpoint) {next count : ℕ} → e .phase ≡ next → e .n ≡ count → next ≤ batch → At (record { phase = e .phase; n = e .n }) ≡ landing next count
+at-lands : (e : Endpoint) {next count : ℕ} → e .phase ≡ next → e .n ≡ count → next ≤ batch → At (stageOf e) ≡ landing next count
 at-lands e {next} {count} phased counted low = rw (phased, counted) (landing-at next count low)
 
 writer-stands : (e : Endpoint) {role flow phase n type-data next count : ℕ} {message : MessageType} → e .phase ≡ next → e .n ≡ count
@@ -75,7 +74,7 @@ module _ (flow limit serverFlow : ℕ) where
         let knows = here .terms (sender-knows end moves) in
         let after : stands (endedBy WroteClose (messageOf call) (x .past .ending)) (sendOf (x .self) call room .next) ≡ landing (sent .phase) (sent .n) =
         rw going (writer-stands (sendOf (x .self) call room .next) (sent .comes .phased) (sent .comes .counted) moves) in
-        let was : standing x ≡ At (record { phase = x .self .phase; n = x .self .n }) = ap (λ (ending : Ending). stands ending (x .self)) going in
+        let was : standing x ≡ At (stageOf (x .self)) = ap (λ (ending : Ending). stands ending (x .self)) going in
         let was-open : IsOpen (standing x) = rw was tt in
         record {
           here = sent-sides flow limit serverFlow end x p here call room fits number sent;
@@ -86,7 +85,7 @@ module _ (flow limit serverFlow : ℕ) where
               (row-sends from end (x .self .flow) (x .self .phase) (x .self .n) m (sent .phase) (sent .n) leads (λ produces batching. own-source end (x .self .flow) (knows .produced) produces)));
           awaits =
               rw after
-              (sends-awaits (record { phase = x .self .phase; n = x .self .n }) (landing (sent .phase) (sent .n)) m _
+              (sends-awaits (stageOf (x .self)) (landing (sent .phase) (sent .n)) m _
               (λ is-open. sent .awaits (lands-low (sent .phase) (sent .n) is-open)) (rw was at (linked .awaits)));
           awaits-across = across-awaits (standing y) _ (m ∷ []) (λ is-open. was-open) refl (linked .awaits-across);
           delivers = sends-delivers dataIn (standing y) m (linked .delivers);

@@ -1,5 +1,4 @@
--- What a send puts on its way, and what an end makes of the packet that it receives: the bytes of calls, confirmations and CLOSEs. Assumes
--- nothing.
+-- What a send puts on its way; and what it means that a packet is taken, and that an OPEN is refused. Assumes nothing.
 use mathlib.Core.Path.{_≡_, _∙_, ap, refl, subst, sym}
 use Prim.Native.Nat.{ℕ, _+_, _*_, _<_, _^_}
 use mathlib.Core.List.{List, [], _∷_, _++_, append-nil, map}
@@ -30,7 +29,7 @@ use Rattle.machine.specs.Round.{isOffered}
 use Rattle.machine.proofs.Good.{sent-good}
 use Rattle.machine.proofs.Rows.{row-sound}
 use Rattle.session.specs.World.{End, across, Ending, Side, dataHeard, readyHeard, endedBy, endingReplied, endingHeard, replies, HeardClose, WroteClose}
-use Rattle.session.specs.Packets.{Packet, bytesIn, movesLike, typeDataIn, dataIn, readyIn, Called, Confirms, Closes}
+use Rattle.session.specs.Packets.{Packet, bytesIn, rowMessage, typeDataIn, dataIn, readyIn, Called, Confirms, Closes}
 use Rattle.session.specs.Confirmations.{entryFor, askedIn, confirmedIn}
 use Rattle.session.specs.Demand.{MayAnswer}
 use Rattle.session.specs.Invariant.{Proper}
@@ -77,26 +76,26 @@ offeredIn (Closes code) r name format = true
 
 -- a packet is an OPEN, or another one, which is always offered and leaves the limit as it is
 
-abbrev pub isOpen : MessageType → Bool
-isOpen Open = true
-isOpen Ready = false
-isOpen Noop = false
-isOpen Data = false
-isOpen Close = false
+abbrev pub isOpenMessage : MessageType → Bool
+isOpenMessage Open = true
+isOpenMessage Ready = false
+isOpenMessage Noop = false
+isOpenMessage Data = false
+isOpenMessage Close = false
 
-pub data Sort : Packet → Type 0 where
-  an-open : (e : Endpoint) (asked wanted : List ℕ) (room : ℕ) → Sort (Called e (OPEN asked wanted) room)
-  another : {m : Packet} → isOpen (movesLike m) ≡ false → ((r : Endpoint) (name format : List ℕ) → offeredIn m r name format ≡ true) → ((limit : ℕ) → limitAfter m limit ≡ limit)
-      → Sort m
+pub data OpenOrOther : Packet → Type 0 where
+  an-open : (e : Endpoint) (asked wanted : List ℕ) (room : ℕ) → OpenOrOther (Called e (OPEN asked wanted) room)
+  another : {m : Packet} → isOpenMessage (rowMessage m) ≡ false → ((r : Endpoint) (name format : List ℕ) → offeredIn m r name format ≡ true) → ((limit : ℕ) → limitAfter m limit ≡ limit)
+      → OpenOrOther m
 
-pub sort : (m : Packet) → Sort m
-sort (Called e (OPEN name format) room) = an-open e name format room
-sort (Called e (READY count) room) = another refl (λ r name format. refl) (λ limit. refl)
-sort (Called e (DATA type-data ask body) room) = another refl (λ r name format. refl) (λ limit. refl)
-sort (Called e (NOOP type-data ask) room) = another refl (λ r name format. refl) (λ limit. refl)
-sort (Called e (CLOSE code) room) = another refl (λ r name format. refl) (λ limit. refl)
-sort (Confirms message type-data) = another refl (λ r name format. refl) (λ limit. refl)
-sort (Closes code) = another refl (λ r name format. refl) (λ limit. refl)
+pub open-or-other : (m : Packet) → OpenOrOther m
+open-or-other (Called e (OPEN name format) room) = an-open e name format room
+open-or-other (Called e (READY count) room) = another refl (λ r name format. refl) (λ limit. refl)
+open-or-other (Called e (DATA type-data ask body) room) = another refl (λ r name format. refl) (λ limit. refl)
+open-or-other (Called e (NOOP type-data ask) room) = another refl (λ r name format. refl) (λ limit. refl)
+open-or-other (Called e (CLOSE code) room) = another refl (λ r name format. refl) (λ limit. refl)
+open-or-other (Confirms message type-data) = another refl (λ r name format. refl) (λ limit. refl)
+open-or-other (Closes code) = another refl (λ r name format. refl) (λ limit. refl)
 
 -- a packet that is heard: the data, the READY and the ending that the world notes, the confirmation written, and the record afterwards
 pub record Taken (r : Endpoint) (m : Packet) (name format : List ℕ) (phase n : ℕ) (rest : List Entry) : Type 0 where
@@ -104,7 +103,7 @@ pub record Taken (r : Endpoint) (m : Packet) (name format : List ℕ) (phase n :
   pub answered : hearOf r (bytesIn m) name format .answer ≡ Answer·Heard message
   pub carried : dataHeard (bytesIn m) (Answer·Heard message) ≡ dataIn m
   pub readied : readyHeard (Answer·Heard message) ≡ readyIn m
-  pub ends : (ending : Ending) → endingReplied (hearOf r (bytesIn m) name format .reply) (endingHeard (Answer·Heard message) ending) ≡ endedBy HeardClose (movesLike m) ending
+  pub ends : (ending : Ending) → endingReplied (hearOf r (bytesIn m) name format .reply) (endingHeard (Answer·Heard message) ending) ≡ endedBy HeardClose (rowMessage m) ending
   pub replied : replies (hearOf r (bytesIn m) name format .reply) ≡ map bytesIn (answersIn m)
   pub comes : Comes r phase n (limitAfter m (r .limit)) (hearOf r (bytesIn m) name format .next)
   pub awaits : (phase ≡ shut → ⊥) → awaited (hearOf r (bytesIn m) name format .next) ≡ rest
@@ -113,8 +112,8 @@ pub record Taken (r : Endpoint) (m : Packet) (name format : List ℕ) (phase n :
 pub record MayTake (flow limit serverFlow : ℕ) (end : End) (r : Endpoint) (m : Packet) (name format : List ℕ) (phase n : ℕ) (rest : List Entry) : Type 0 where
   pub sound : Sound r
   pub proper : Proper flow limit serverFlow (across end) m
-  pub leads : rowOf (other (r .role)) (other (r .flow)) (r .phase) (r .n) (movesLike m) (typeDataIn m) ≡ To phase n
-  pub limited : movesLike m ≡ Data → r .limit ≡ limit
+  pub leads : rowOf (other (r .role)) (other (r .flow)) (r .phase) (r .n) (rowMessage m) (typeDataIn m) ≡ To phase n
+  pub limited : rowMessage m ≡ Data → r .limit ≡ limit
   pub offered : offeredIn m r name format ≡ true
   pub awaits : awaited r ≡ confirmedIn m ++ rest
 

@@ -4,7 +4,7 @@ use Prim.Native.Nat.{ℕ, zero, suc, _-_, _≤_}
 use mathlib.Core.List.{[], _∷_}
 use mathlib.Core.Bool.{Bool, true, false, cond}
 use native.Mathlib.Omega.{arith}
-use lib.Dec.{eqb}
+use lib.Dec.{eqb, lit<}
 use lib.ListN.{length}
 use borrow.Author.Tests.{eqb-true, le-ltb, ne-eqb}
 use Rattle.utf8.specs.Text.{table, dueBehind, rest, wellFormed}
@@ -17,6 +17,7 @@ use Rattle.sending.specs.Calls.{Call, OPEN, READY, DATA, messageOf, typeDataOf,
 use Rattle.sending.specs.Sending.{sendOf, sendRow, isFull}
 use Rattle.sending.proofs.Decided.{passed-accepted}
 use Rattle.machine.specs.Good.{Sound}
+use Rattle.machine.proofs.Rows.{n-small}
 use Rattle.session.specs.World.{End, across, Client, Server}
 use Rattle.session.specs.Turns.{roleOf, producing}
 use Rattle.session.specs.Demand.{MaySend}
@@ -65,6 +66,7 @@ module _ (end : End) (e : Endpoint) (sound : Sound e) (role : e .role ≡ roleOf
   pub opens-first : end ≡ Client → e .phase ≡ fresh → MaySend e (OPEN (97 ∷ []) [])
   opens-first mine begins =
       record {
+        fits = lit< tt;
         moves-on = refl;
         sent =
             accepted e sound (rw begins refl) (OPEN (97 ∷ []) []) opening 0
@@ -74,6 +76,7 @@ module _ (end : End) (e : Endpoint) (sound : Sound e) (role : e .role ≡ roleOf
   pub offers-one : end ≡ Server → opening ≤ e .phase → e .phase ≤ idle → MaySend e (READY 1)
   offers-one mine low high =
       record {
+        fits = lit< tt;
         moves-on = refl;
         sent =
             accepted e sound (ne-eqb (e .phase) shut (λ same. omega arith)) (READY 1) offer 1
@@ -87,6 +90,7 @@ module _ (end : End) (e : Endpoint) (sound : Sound e) (role : e .role ≡ roleOf
   takes-all mine offered =
       let begins = begun-any batch (e .n) in
       record {
+        fits = n-small e sound;
         moves-on = refl;
         sent =
             accepted e sound (rw offered refl) (READY (e .n)) (begins .0) (begins .1)
@@ -97,6 +101,7 @@ module _ (end : End) (e : Endpoint) (sound : Sound e) (role : e .role ≡ roleOf
   gives-data mine batching =
       let begins = begun-any batch (e .n - 1) in
       record {
+        fits = lit< tt;
         moves-on = refl;
         sent =
             accepted e sound (rw batching refl) (DATA 0 false []) (begins .0) (begins .1)

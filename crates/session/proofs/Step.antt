@@ -20,12 +20,12 @@ use Rattle.machine.specs.Good.{Sound, Fits}
 use Rattle.machine.proofs.Refusals.{refused-send-stays}
 use Rattle.session.specs.World.{End, across, Ending, Side, World, Event, EventFits, side, joined, became, withQueue, wrote, took, afterSend, afterBundle, isKept, afterReceive, step, Client, Server, Going, HeardClose, WroteClose, sends, receives}
 use Rattle.session.specs.Packets.{Packet, bytesIn, Called, Closes}
-use Rattle.session.specs.Turns.{Standing, stands, standing, Hears, Meets, At, ClosedByItself, late}
+use Rattle.session.specs.Turns.{stageOf, Standing, stands, standing, Hears, Meets, At, ClosedByItself, late}
 use Rattle.session.specs.Demand.{MayAnswer, PhaseFits, heard, other-pipe, other-format, after-own-close}
 use Rattle.session.specs.Invariant.{source, Linked, Invariant, StepKeeps}
 use Rattle.session.proofs.Table.{phaseIn, nIn}
 use Rattle.session.proofs.Turns.{shut-hears, hears-meets}
-use Rattle.session.proofs.Packets.{OpenRefused, answersIn, offeredIn, Sort, an-open, another, sort}
+use Rattle.session.proofs.Packets.{OpenRefused, answersIn, offeredIn, OpenOrOther, an-open, another, open-or-other}
 use Rattle.session.proofs.Unoffered.{open-refused}
 use Rattle.session.proofs.Link.{across-linked, sent-linked}
 use Rattle.session.proofs.Hearing.{leads, clients-open, moves, head-taken, heard-linked, refused-linked, late-linked}
@@ -72,22 +72,22 @@ module _ (flow limit serverFlow : ℕ) where
 
   -- two ends with what is on its way between them
   pub record Joint (end : End) (x y : Side Endpoint) : Type 0 where
-    pub p : List Packet
-    pub q : List Packet
-    pub linked : Linked flow limit serverFlow end x y p q
+    pub from-here : List Packet
+    pub from-across : List Packet
+    pub linked : Linked flow limit serverFlow end x y from-here from-across
 
   pub seen-from : (end : End) (w : World Endpoint) → Invariant flow limit serverFlow w → Joint end (side w end) (side w (across end))
-  seen-from Client w holds = record { p = holds .from-client; q = holds .from-server; linked = holds .linked }
+  seen-from Client w holds = record { from-here = holds .from-client; from-across = holds .from-server; linked = holds .linked }
   seen-from Server w holds =
       record {
-        p = holds .from-server;
-        q = holds .from-client;
+        from-here = holds .from-server;
+        from-across = holds .from-client;
         linked = across-linked flow limit serverFlow Client (w .client) (w .server) (holds .from-client) (holds .from-server) (holds .linked);
       }
 
   seen-as : (end : End) (x y : Side Endpoint) → Joint end x y → Invariant flow limit serverFlow (joined end x y)
-  seen-as Client x y joint = record { from-client = joint .p; from-server = joint .q; linked = joint .linked }
-  seen-as Server x y joint = record { from-client = joint .q; from-server = joint .p; linked = across-linked flow limit serverFlow Server x y (joint .p) (joint .q) (joint .linked) }
+  seen-as Client x y joint = record { from-client = joint .from-here; from-server = joint .from-across; linked = joint .linked }
+  seen-as Server x y joint = record { from-client = joint .from-across; from-server = joint .from-here; linked = across-linked flow limit serverFlow Server x y (joint .from-here) (joint .from-across) (joint .linked) }
 
   -- the head of a queue is heard, refused as an OPEN for what is not offered, or passed over after an own close
   pub record Delivered (end : End) (x y : Side Endpoint) (m : Packet) (q : List Packet) (name format : List ℕ) : Type 0 where
@@ -109,8 +109,8 @@ module _ (flow limit serverFlow : ℕ) where
           may = rw (refusal .answered) (refusal .may);
           after =
               record {
-                p = p ++ (Closes (refusal .code) ∷ []);
-                q = q;
+                from-here = p ++ (Closes (refusal .code) ∷ []);
+                from-across = q;
                 linked =
                     subst (λ (after : Side Endpoint). Linked flow limit serverFlow end after (withQueue y (map bytesIn q)) (p ++ (Closes (refusal .code) ∷ [])) q)
                     (sym (refused-noted (bytesIn m) refusal))
@@ -119,7 +119,7 @@ module _ (flow limit serverFlow : ℕ) where
         }
 
   module _ (end : End) (x y : Side Endpoint) (p q : List Packet) (m : Packet) (linked : Linked flow limit serverFlow end x y p (m ∷ q)) (name format : List ℕ) where
-    heard-delivered : x .past .ending ≡ Going → (a : Standing) → Hears from end (At (record { phase = x .self .phase; n = x .self .n })) m a → Meets from end a p (standing y) q
+    heard-delivered : x .past .ending ≡ Going → (a : Standing) → Hears from end (At (stageOf (x .self))) m a → Meets from end a p (standing y) q
         → offeredIn m (x .self) name format ≡ true → Delivered end x y m q name format
     heard-delivered going a hears meets offered =
         let taken = head-taken flow limit serverFlow end x y p q m linked going a hears name format offered in
@@ -127,8 +127,8 @@ module _ (flow limit serverFlow : ℕ) where
           may = rw (taken .answered) heard;
           after =
               record {
-                p = p ++ answersIn m;
-                q = q;
+                from-here = p ++ answersIn m;
+                from-across = q;
                 linked = heard-linked flow limit serverFlow end x y p q m linked going a hears name format offered meets;
               };
         }
@@ -142,8 +142,8 @@ module _ (flow limit serverFlow : ℕ) where
           may = rw answer (after-own-close wrote);
           after =
               record {
-                p = p;
-                q = q;
+                from-here = p;
+                from-across = q;
                 linked =
                     subst (λ (after : Side Endpoint). Linked flow limit serverFlow end after (withQueue y (map bytesIn q)) p q) (sym (late-after end x (bytesIn m) name format is-shut))
                     (late-linked flow limit serverFlow end x y p q m linked wrote (rw gone at meets));
@@ -151,8 +151,8 @@ module _ (flow limit serverFlow : ℕ) where
         }
 
   -- a packet that is not offered is an OPEN to a server
-  unoffered-delivered : (end : End) (x y : Side Endpoint) (p q : List Packet) (m : Packet) → Sort m → (linked : Linked flow limit serverFlow end x y p (m ∷ q)) (name format : List ℕ)
-      → (going : x .past .ending ≡ Going) → (a : Standing) → Hears from end (At (record { phase = x .self .phase; n = x .self .n })) m a
+  unoffered-delivered : (end : End) (x y : Side Endpoint) (p q : List Packet) (m : Packet) → OpenOrOther m → (linked : Linked flow limit serverFlow end x y p (m ∷ q)) (name format : List ℕ)
+      → (going : x .past .ending ≡ Going) → (a : Standing) → Hears from end (At (stageOf (x .self))) m a
       → offeredIn m (x .self) name format ≡ false → Delivered end x y m q name format
   unoffered-delivered Client x y p q m (an-open e asked wanted sent-room) linked name format going a hears other = absurd (clients-open (moves flow limit serverFlow Client x y p q m linked going a hears))
   unoffered-delivered Server x y p q m (an-open e asked wanted sent-room) linked name format going a hears other =
@@ -171,10 +171,10 @@ module _ (flow limit serverFlow : ℕ) where
         let step = hears-meets from end (linked .meets) in
         by-ending (x .past .ending) refl (step .0) (step .1) (step .2)
       where
-        by-offer : x .past .ending ≡ Going → (a : Standing) → Hears from end (At (record { phase = x .self .phase; n = x .self .n })) m a → Meets from end a p (standing y) q
+        by-offer : x .past .ending ≡ Going → (a : Standing) → Hears from end (At (stageOf (x .self))) m a → Meets from end a p (standing y) q
             → (t : Bool) → offeredIn m (x .self) name format ≡ t → Delivered end x y m q name format
         by-offer going a hears meets true offered = heard-delivered end x y p q m linked name format going a hears meets offered
-        by-offer going a hears meets false other = unoffered-delivered end x y p q m (sort m) linked name format going a hears other
+        by-offer going a hears meets false other = unoffered-delivered end x y p q m (open-or-other m) linked name format going a hears other
 
         by-ending : (ending : Ending) → x .past .ending ≡ ending → (a : Standing) → Hears from end (stands ending (x .self)) m a → Meets from end a p (standing y) q
             → Delivered end x y m q name format
@@ -186,7 +186,7 @@ module _ (flow limit serverFlow : ℕ) where
   received-keeps : (end : End) (x y : Side Endpoint) (p q : List Packet) → Linked flow limit serverFlow end x y p q → (name format : List ℕ) (room : ℕ)
       → Invariant flow limit serverFlow (afterReceive end x y (map bytesIn q) name format room)
   unfolding afterReceive
-  received-keeps end x y p [] linked name format room = seen-as end x y (record { p = p; q = []; linked = linked })
+  received-keeps end x y p [] linked name format room = seen-as end x y (record { from-here = p; from-across = []; linked = linked })
   received-keeps end x y p (m ∷ q) linked name format room = go (ltb room 14) refl
     where
       delivered : Delivered end x y m q name format
@@ -198,7 +198,7 @@ module _ (flow limit serverFlow : ℕ) where
       go : (t : Bool) → ltb room 14 ≡ t → Invariant flow limit serverFlow (afterReceive end x y (map bytesIn (m ∷ q)) name format room)
       go true short =
           subst (Invariant flow limit serverFlow) (sym (short-stays end x y (linked .here .sound) (bytesIn m) (map bytesIn q) name format room short))
-          (seen-as end x y (record { p = p; q = m ∷ q; linked = linked }))
+          (seen-as end x y (record { from-here = p; from-across = m ∷ q; linked = linked }))
       go false enough = subst (Invariant flow limit serverFlow) (sym (taken enough)) (seen-as end _ _ (delivered .after))
 
   -- a send, accepted or refused
@@ -211,21 +211,21 @@ module _ (flow limit serverFlow : ℕ) where
           → Invariant flow limit serverFlow (joined end (cond t (wrote end x call (written (x .self) call) (sendOf (x .self) call room .next)) (became x (sendOf (x .self) call room .next))) y)
       go true number =
           seen-as end _ y
-          (record { p = p ++ (Called (x .self) call room ∷ []); q = q; linked = sent-linked flow limit serverFlow end x y p q linked call room fits (eqb-true _ _ number) })
+          (record { from-here = p ++ (Called (x .self) call room ∷ []); from-across = q; linked = sent-linked flow limit serverFlow end x y p q linked call room fits (eqb-true _ _ number) })
       go false number =
           subst (λ (next : Endpoint). Invariant flow limit serverFlow (joined end (became x next) y)) (sym (ap (λ (s : Sent). s .next) (refused-send-stays (x .self) call room (eqb-false _ _ number))))
-          (seen-as end x y (record { p = p; q = q; linked = linked }))
+          (seen-as end x y (record { from-here = p; from-across = q; linked = linked }))
 
   event-keeps : (w : World Endpoint) (event : Event) → EventFits event → Invariant flow limit serverFlow w → Invariant flow limit serverFlow (step w event)
   unfolding step
   event-keeps w (sends end call room) fits holds =
       let joint = seen-from end w holds in
-      sent-keeps end (side w end) (side w (across end)) (joint .p) (joint .q) (joint .linked) call room fits
+      sent-keeps end (side w end) (side w (across end)) (joint .from-here) (joint .from-across) (joint .linked) call room fits
   event-keeps w (receives end name format room) fits holds =
       let joint = seen-from end w holds in
       subst (λ (queue : List (List ℕ)). Invariant flow limit serverFlow (afterReceive end (side w end) (side w (across end)) queue name format room))
       (sym (joint .linked .there .queued))
-      (received-keeps end (side w end) (side w (across end)) (joint .p) (joint .q) (joint .linked) name format room)
+      (received-keeps end (side w end) (side w (across end)) (joint .from-here) (joint .from-across) (joint .linked) name format room)
 
 pub step-keeps : StepKeeps
 step-keeps = event-keeps

@@ -13,8 +13,8 @@ use Rattle.table.specs.declared.Row.{Row}
 use Rattle.table.specs.declared.Row.the-variants.{NotAllowed, AboveOffer, To}
 use Rattle.table.specs.Table.{allowed, begun, closeRow, dataRow, noopRow, openRow, other, readyRow, rowOf, upTo}
 use Rattle.session.specs.World.{End, across, Client, Server}
-use Rattle.session.specs.Packets.{Packet, movesLike, typeDataIn}
-use Rattle.session.specs.Turns.{roleOf, turn, Kind, kindOf, Stage, Standing, Active, Alive, Leads, Hears, Token, Quiet, Final, At, ClosedByOther, ClosedByItself, moved, rested, closed}
+use Rattle.session.specs.Packets.{Packet, rowMessage, typeDataIn}
+use Rattle.session.specs.Turns.{roleOf, turn, Kind, kindOf, Stage, Standing, Active, Alive, Leads, Hears, Moves, Stays, Ends, At, ClosedByOther, ClosedByItself, moved, rested, closed}
 
 -- "k=0: 2; else .., n=k"
 pub data Begun (phase count : ℕ) : ℕ → ℕ → Type 0 where
@@ -182,7 +182,7 @@ begun-onward : {phase begins count next m : ℕ} → idle ≤ begins → begins 
 begun-onward low high (nothing none) = later (omega arith) (omega arith)
 begun-onward low high (something some) = later low high
 
-token-onward : {role flow phase n type-data next count : ℕ} {message : MessageType} → kindOf message ≡ Token → Moved role flow phase n message type-data next count → Onward phase next
+token-onward : {role flow phase n type-data next count : ℕ} {message : MessageType} → kindOf message ≡ Moves → Moved role flow phase n message type-data next count → Onward phase next
 token-onward token (opens is-client begins) = first begins refl
 token-onward token (offers differs low high begins) = begun-onward (omega arith) (omega arith) begins
 token-onward token (takes is-client offered few begins) = begun-onward (omega arith) (omega arith) begins
@@ -198,22 +198,22 @@ onward-active : {phase next : ℕ} → Onward phase next → idle ≤ phase → 
 onward-active (first begins opened) active = absurd (omega arith)
 onward-active (later low high) active = (low, high)
 
-module _ (source : End) (s : Stage) (m : Packet) (t : Stage) (token : kindOf (movesLike m) ≡ Token) (leads : Leads source s m t) where
+module _ (source : End) (s : Stage) (m : Packet) (t : Stage) (token : kindOf (rowMessage m) ≡ Moves) (leads : Leads source s m t) where
   leads-onward : Onward (s .phase) (t .phase)
-  leads-onward = token-onward token (row-moved (roleOf (turn source (s .phase))) producer (s .phase) (s .n) (movesLike m) (typeDataIn m) (t .phase) (t .n) leads)
+  leads-onward = token-onward token (row-moved (roleOf (turn source (s .phase))) producer (s .phase) (s .n) (rowMessage m) (typeDataIn m) (t .phase) (t .n) leads)
 
-  pub leads-alive : Alive t
+  pub leads-alive : Alive (t .phase)
   leads-alive = onward-alive leads-onward
 
-  pub leads-active : Active s → Active t
+  pub leads-active : Active (s .phase) → Active (t .phase)
   leads-active active = onward-active leads-onward (active .0)
 
 -- an end sends: a token only where it is its turn
 module _ (source : End) where
   pub data Sends (end : End) : Standing → Packet → Standing → Type 0 where
-    moves : {s t : Stage} {m : Packet} → kindOf (movesLike m) ≡ Token → turn source (s .phase) ≡ end → Leads source s m t → Sends end (At s) m (At t)
-    calms : {s : Stage} {m : Packet} → kindOf (movesLike m) ≡ Quiet → Active s → Sends end (At s) m (At s)
-    ends : {s : Stage} {m : Packet} → kindOf (movesLike m) ≡ Final → Alive s → Sends end (At s) m ClosedByItself
+    moves : {s t : Stage} {m : Packet} → kindOf (rowMessage m) ≡ Moves → turn source (s .phase) ≡ end → Leads source s m t → Sends end (At s) m (At t)
+    calms : {s : Stage} {m : Packet} → kindOf (rowMessage m) ≡ Stays → Active (s .phase) → Sends end (At s) m (At s)
+    ends : {s : Stage} {m : Packet} → kindOf (rowMessage m) ≡ Ends → Alive (s .phase) → Sends end (At s) m ClosedByItself
 
 -- whose token it is
 
@@ -230,7 +230,7 @@ unfolding turn
 turn-batch source phase batched = simp batched refl
 
 module _ (source end : End) where
-  token-turn : {flow phase n type-data next count : ℕ} {message : MessageType} → kindOf message ≡ Token → (flow ≡ producer → phase ≡ batch → source ≡ end) → Moved (roleOf end) flow phase n message type-data next count → turn source phase ≡ end
+  token-turn : {flow phase n type-data next count : ℕ} {message : MessageType} → kindOf message ≡ Moves → (flow ≡ producer → phase ≡ batch → source ≡ end) → Moved (roleOf end) flow phase n message type-data next count → turn source phase ≡ end
   unfolding turn
   token-turn token there (opens role begins) = simp begins (is-client end role)
   token-turn {phase = phase} token there (offers differs low high begins) =
@@ -251,27 +251,27 @@ module _ (source end : End) (flow phase n : ℕ) (m : Packet) where
   abbrev From : Standing → Type 0
   From = Sends source end (At (record { phase = phase; n = n })) m
 
-  token-sends : (next count : ℕ) → (flow ≡ producer → phase ≡ batch → source ≡ end) → kindOf (movesLike m) ≡ Token
-      → Moved (roleOf end) flow phase n (movesLike m) (typeDataIn m) next count → From (landing next count)
+  token-sends : (next count : ℕ) → (flow ≡ producer → phase ≡ batch → source ≡ end) → kindOf (rowMessage m) ≡ Moves
+      → Moved (roleOf end) flow phase n (rowMessage m) (typeDataIn m) next count → From (landing next count)
   token-sends next count there token move =
       let own = token-turn source end token there move in
       let row = moved-row (of-flow producer (λ batched. refl) move) in
       subst From (landing-at next count (onward-alive (token-onward token move) .1))
-      (moves token own (ap (λ turning. rowOf (roleOf turning) producer phase n (movesLike m) (typeDataIn m)) own ∙ row))
+      (moves token own (ap (λ turning. rowOf (roleOf turning) producer phase n (rowMessage m) (typeDataIn m)) own ∙ row))
 
-  quiet-sends : {role type-data next count : ℕ} → kindOf (movesLike m) ≡ Quiet → Moved role flow phase n Noop type-data next count → From (landing next count)
+  quiet-sends : {role type-data next count : ℕ} → kindOf (rowMessage m) ≡ Stays → Moved role flow phase n Noop type-data next count → From (landing next count)
   quiet-sends quiet (rests low high) = subst From (landing-at phase n high) (calms quiet (low, high))
 
-  closing-sends : {role type-data next count : ℕ} → kindOf (movesLike m) ≡ Final → Moved role flow phase n Close type-data next count → From (landing next count)
+  closing-sends : {role type-data next count : ℕ} → kindOf (rowMessage m) ≡ Ends → Moved role flow phase n Close type-data next count → From (landing next count)
   closing-sends closing (closes low high) = ends closing (low, high)
 
   -- an allowed send is a move
-  pub row-sends : (next count : ℕ) → rowOf (roleOf end) flow phase n (movesLike m) (typeDataIn m) ≡ To next count → (flow ≡ producer → phase ≡ batch → source ≡ end)
+  pub row-sends : (next count : ℕ) → rowOf (roleOf end) flow phase n (rowMessage m) (typeDataIn m) ≡ To next count → (flow ≡ producer → phase ≡ batch → source ≡ end)
       → Sends source end (At (record { phase = phase; n = n })) m (landing next count)
   row-sends next count leads there =
-      go (movesLike m) refl (row-moved (roleOf end) flow phase n (movesLike m) (typeDataIn m) next count leads)
+      go (rowMessage m) refl (row-moved (roleOf end) flow phase n (rowMessage m) (typeDataIn m) next count leads)
     where
-      go : (message : MessageType) → movesLike m ≡ message → Moved (roleOf end) flow phase n (movesLike m) (typeDataIn m) next count → From (landing next count)
+      go : (message : MessageType) → rowMessage m ≡ message → Moved (roleOf end) flow phase n (rowMessage m) (typeDataIn m) next count → From (landing next count)
       go Open same move = token-sends next count there (ap kindOf same) move
       go Ready same move = token-sends next count there (ap kindOf same) move
       go Noop same move = quiet-sends (ap kindOf same) (rw same at move)
@@ -295,9 +295,9 @@ other-role Server = refl
 
 -- the message of a kind that has one alone
 abbrev sole : Kind → MessageType → MessageType
-sole Token message = message
-sole Quiet message = Noop
-sole Final message = Close
+sole Moves message = message
+sole Stays message = Noop
+sole Ends message = Close
 
 is-sole : (message : MessageType) → message ≡ sole (kindOf message) message
 is-sole Open = refl
@@ -314,14 +314,14 @@ sole-row kind role flow phase n message type-data same =
 -- a move is heard
 pub row-hears : (source end : End) (flow : ℕ) (s : Stage) (m : Packet) (a : Standing) → Hears source end (At s) m a
     → (source ≡ across end → s .phase ≡ batch → other flow ≡ producer)
-    → rowOf (other (roleOf end)) (other flow) (s .phase) (s .n) (movesLike m) (typeDataIn m) ≡ To (phaseIn a) (nIn a)
+    → rowOf (other (roleOf end)) (other flow) (s .phase) (s .n) (rowMessage m) (typeDataIn m) ≡ To (phaseIn a) (nIn a)
 row-hears source end flow s m (At t) (moved token theirs leads) there =
     let role = ap roleOf theirs ∙ other-role end in
-    let move = row-moved (other (roleOf end)) producer (s .phase) (s .n) (movesLike m) (typeDataIn m) (t .phase) (t .n) (rw role at leads) in
+    let move = row-moved (other (roleOf end)) producer (s .phase) (s .n) (rowMessage m) (typeDataIn m) (t .phase) (t .n) (rw role at leads) in
     moved-row (of-flow (other flow) (λ batched. there (sym (turn-batch source (s .phase) batched) ∙ theirs) batched) move)
 row-hears source end flow s m _ (rested quiet active) there =
-    sole-row Quiet (other (roleOf end)) (other flow) (s .phase) (s .n) (movesLike m) (typeDataIn m) quiet
+    sole-row Stays (other (roleOf end)) (other flow) (s .phase) (s .n) (rowMessage m) (typeDataIn m) quiet
     ∙ moved-row {role = other (roleOf end)} {flow = other flow} {type-data = typeDataIn m} (rests (active .0) (active .1))
 row-hears source end flow s m _ (closed closing alive) there =
-    sole-row Final (other (roleOf end)) (other flow) (s .phase) (s .n) (movesLike m) (typeDataIn m) closing
+    sole-row Ends (other (roleOf end)) (other flow) (s .phase) (s .n) (rowMessage m) (typeDataIn m) closing
     ∙ moved-row {role = other (roleOf end)} {flow = other flow} {n = s .n} {type-data = typeDataIn m} (closes (alive .0) (alive .1))

@@ -5,8 +5,8 @@ use Prim.Native.Nat.{ℕ}
 use mathlib.Core.List.{List, [], _∷_, _++_}
 use native.Mathlib.Omega.{arith}
 use Rattle.session.specs.World.{End, across, Client, Server}
-use Rattle.session.specs.Packets.{Packet, movesLike}
-use Rattle.session.specs.Turns.{turn, Kind, kindOf, Stage, Standing, IsOpen, Active, Alive, Still, Leads, Hears, Drains, Meets, Token, Quiet, Final, At, ClosedByOther, ClosedByItself, nothing, quiet, moved, rested, closed, late, empty, head, ahead, behind, over, over-across}
+use Rattle.session.specs.Packets.{Packet, rowMessage}
+use Rattle.session.specs.Turns.{turn, Kind, kindOf, Stage, Standing, IsOpen, Active, Alive, Still, Leads, Hears, Drains, Meets, Moves, Stays, Ends, At, ClosedByOther, ClosedByItself, nothing, quiet, moved, rested, closed, late, empty, head, ahead, behind, over, over-across}
 use Rattle.session.proofs.Table.{Sends, moves, calms, ends, leads-active, leads-alive}
 
 pub across-twice : (end : End) → end ≡ across (across end)
@@ -17,10 +17,10 @@ pub across-differs : (end : End) → across end ≡ end → ⊥
 across-differs Client same = let z : _≡_ {A = ℕ} 0 1 = cc in omega arith
 across-differs Server same = let z : _≡_ {A = ℕ} 0 1 = cc in omega arith
 
-token-not-quiet : {kind : Kind} → kind ≡ Token → kind ≡ Quiet → ⊥
+token-not-quiet : {kind : Kind} → kind ≡ Moves → kind ≡ Stays → ⊥
 token-not-quiet token is-quiet = let z : _≡_ {A = ℕ} 0 1 = cc in omega arith
 
-token-not-closing : {kind : Kind} → kind ≡ Token → kind ≡ Final → ⊥
+token-not-closing : {kind : Kind} → kind ≡ Moves → kind ≡ Ends → ⊥
 token-not-closing token closing = let z : _≡_ {A = ℕ} 0 1 = cc in omega arith
 
 module _ (source : End) where
@@ -41,12 +41,12 @@ module _ (source : End) where
   drains-last empty hears = head hears empty
   drains-last (head first drains) hears = head first (drains-last drains hears)
 
-  still-last : {s : Stage} (m : Packet) {q : List Packet} → kindOf (movesLike m) ≡ Quiet → Active s → Still s q → Still s (q ++ (m ∷ []))
+  still-last : {s : Stage} (m : Packet) {q : List Packet} → kindOf (rowMessage m) ≡ Stays → Active (s .phase) → Still s q → Still s (q ++ (m ∷ []))
   still-last m is-quiet active nothing = quiet is-quiet active nothing
   still-last m is-quiet active (quiet first-quiet first-active still) = quiet first-quiet first-active (still-last m is-quiet active still)
 
   -- a queue that moves nothing does so at any active stage, and is received there
-  still-elsewhere : {s t : Stage} {q : List Packet} → (Active s → Active t) → Still s q → Still t q
+  still-elsewhere : {s t : Stage} {q : List Packet} → (Active (s .phase) → Active (t .phase)) → Still s q → Still t q
   still-elsewhere stays nothing = nothing
   still-elsewhere stays (quiet is-quiet active still) = quiet is-quiet (stays active) (still-elsewhere stays still)
 
@@ -68,13 +68,13 @@ module _ (source : End) where
 
   -- an end that is active, or alive, is so after all that does not close it
 
-  active-drains : {end : End} {s t : Stage} {q : List Packet} → Active s → Drains source end (At s) q (At t) → Active t
+  active-drains : {end : End} {s t : Stage} {q : List Packet} → Active (s .phase) → Drains source end (At s) q (At t) → Active (t .phase)
   active-drains active empty = active
   active-drains active (head (moved {s = s} {t = t} {m = m} token theirs leads) drains) = active-drains (leads-active source s m t token leads active) drains
   active-drains active (head (rested is-quiet _) drains) = active-drains active drains
   active-drains active (head (closed closing alive) drains) = absurd (shut-drains drains)
 
-  alive-drains : {end : End} {s t : Stage} {q : List Packet} → Alive s → Drains source end (At s) q (At t) → Alive t
+  alive-drains : {end : End} {s t : Stage} {q : List Packet} → Alive (s .phase) → Drains source end (At s) q (At t) → Alive (t .phase)
   alive-drains alive empty = alive
   alive-drains alive (head (moved {s = s} {t = t} {m = m} token theirs leads) drains) = alive-drains (leads-alive source s m t token leads) drains
   alive-drains alive (head (rested is-quiet active) drains) = alive-drains alive drains
@@ -88,7 +88,7 @@ module _ (source : End) where
   data Waits (s : Stage) (q : List Packet) : Stage → Type 0 where
     waits : Still s q → Waits s q s
 
-  waits-more : {s t : Stage} {m : Packet} {q : List Packet} → kindOf (movesLike m) ≡ Quiet → Active s → Waits s q t → Waits s (m ∷ q) t
+  waits-more : {s t : Stage} {m : Packet} {q : List Packet} → kindOf (rowMessage m) ≡ Stays → Active (s .phase) → Waits s q t → Waits s (m ∷ q) t
   waits-more is-quiet active (waits still) = waits (quiet is-quiet active still)
 
   own-waits : (end : End) {s t : Stage} {q : List Packet} → turn source (s .phase) ≡ end → Drains source end (At s) q (At t) → Waits s q t
@@ -98,7 +98,7 @@ module _ (source : End) where
   own-waits end own (head (closed closing alive) drains) = absurd (shut-drains drains)
 
   -- or, if the other end has closed, packets that do as much after its own token
-  own-ended : (end : End) {s : Stage} (m : Packet) (t : Stage) {e : Standing} {q : List Packet} → kindOf (movesLike m) ≡ Token → turn source (s .phase) ≡ end → Leads source s m t
+  own-ended : (end : End) {s : Stage} (m : Packet) (t : Stage) {e : Standing} {q : List Packet} → kindOf (rowMessage m) ≡ Moves → turn source (s .phase) ≡ end → Leads source s m t
       → (IsOpen e → ⊥) → Drains source end (At s) q e → Drains source end (At t) q e
   own-ended end m t token own leads ended empty = absurd (ended tt)
   own-ended end m t token own leads ended (head (moved {s = s} _ theirs _) drains) = not-theirs end s own theirs
@@ -108,10 +108,10 @@ module _ (source : End) where
 
   -- an end sends
 
-  theirs-too : (end : End) {s t : Stage} {m : Packet} → kindOf (movesLike m) ≡ Token → turn source (s .phase) ≡ end → Leads source s m t → Hears source (across end) (At s) m (At t)
+  theirs-too : (end : End) {s t : Stage} {m : Packet} → kindOf (rowMessage m) ≡ Moves → turn source (s .phase) ≡ end → Leads source s m t → Hears source (across end) (At s) m (At t)
   theirs-too end token own leads = moved token (own ∙ across-twice end) leads
 
-  waits-meets : (end : End) {s t u : Stage} {p q : List Packet} (m : Packet) → Still u p → Waits s q u → kindOf (movesLike m) ≡ Token → turn source (s .phase) ≡ end → Leads source s m t
+  waits-meets : (end : End) {s t u : Stage} {p q : List Packet} (m : Packet) → Still u p → Waits s q u → kindOf (rowMessage m) ≡ Moves → turn source (s .phase) ≡ end → Leads source s m t
       → Meets source end (At t) (p ++ (m ∷ [])) (At u) q
   waits-meets end {s = s} {t = t} m still (waits still-across) token own leads =
       ahead (still-elsewhere (leads-active source s m t token leads) still-across) (drains-last (still-drains still) (theirs-too end token own leads))
@@ -136,7 +136,7 @@ module _ (source : End) where
   hears-meets end (over-across ended (head hears drains)) = (_, hears, over-across ended drains)
 
   -- an end refuses a token, and closes
-  pub refuses-meets : (end : End) {s : Stage} {b : Standing} {p q : List Packet} {m : Packet} (close : Packet) → kindOf (movesLike m) ≡ Token → kindOf (movesLike close) ≡ Final
+  pub refuses-meets : (end : End) {s : Stage} {b : Standing} {p q : List Packet} {m : Packet} (close : Packet) → kindOf (rowMessage m) ≡ Moves → kindOf (rowMessage close) ≡ Ends
       → Meets source end (At s) p b (m ∷ q) → Meets source end ClosedByItself (p ++ (close ∷ [])) b q
   refuses-meets end close token closing (ahead (quiet is-quiet active still) drains) = absurd (token-not-quiet token is-quiet)
   refuses-meets end close token closing (behind still (head (moved {s = s} {t = t} {m = m} _ theirs leads) drains)) =

@@ -26,7 +26,7 @@ afterEntry end x call number count block out =
 abbrev pub slot : List ℕ → ℕ → ℕ
 slot slots i = getD slots i 0
 
--- "DATA that is no confirmation: its body"
+-- "DATA without ACK-REPLY .. Heard too is the place of its body."
 abbrev pub dataTold : List ℕ → List ℕ → List Datum
 dataTold s slots =
     cond (eqb (slot slots 0) (typeOf Data) && not (eqb (slot slots 1) ackReply))
@@ -76,8 +76,9 @@ loadedSide x = record { self = loadOf (x .self); queue = x .queue; past = x .pas
 abbrev pub loaded : World (List ℕ) → World Endpoint
 loaded w = record { client = loadedSide (w .client); server = loadedSide (w .server) }
 
--- what holds of two blocks: demand 3 of the records that they hold, and so
+-- what holds of two blocks
 pub record HoldsOnBlocks (w : World (List ℕ)) : Type 0 where
+  -- they are good, and demand 3 holds of the records in them
   pub good : (end : End) → isGood (side w end .self) ≡ true
   pub holds : Holds (loaded w)
   -- the number that `fbdp_receive` gives for the head of the other's queue is one that it may answer

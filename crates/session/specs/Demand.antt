@@ -17,6 +17,7 @@ use Rattle.endpoint.specs.Record.{fresh, offer, batch, shut, givenOf}
 use Rattle.receiving.specs.Receiving.{answerNumber, receivedOf}
 use Rattle.sending.specs.Calls.{Call, OPEN, READY, DATA, NOOP, CLOSE, written}
 use Rattle.sending.specs.Sending.{sendOf}
+use Rattle.machine.specs.Good.{Fits}
 use Rattle.session.specs.World.{End, Client, across, Ending, Going, HeardClose, WroteClose, agreed, Side, World, side, start, Event, receives, AllFit, step, run}
 use Rattle.session.specs.Turns.{producing, turn}
 
@@ -54,8 +55,8 @@ movesOn (DATA type-data ask body) = true
 movesOn (NOOP type-data ask) = false
 movesOn (CLOSE code) = false
 
--- what may be sent at rest, when both ends are in the client's phase: by the end whose turn it is, an OPEN for the pipe `a`, the whole of the
--- offer, a DATA without ask and body, an offer of one
+-- what may be sent at rest, where both ends are in the client's phase, by the end whose turn it is: in phase 0 an OPEN for the pipe `a`, in
+-- phase 3 a READY for the whole offer, in phase 4 a DATA with no ask and an empty body, in phases 1 and 2 an offer of one
 abbrev pub nextEnd : World Endpoint → End
 nextEnd w = turn (producing Client (w .client .self .flow)) (w .client .self .phase)
 
@@ -68,6 +69,7 @@ nextCall w =
 
 -- an end may send a call in every output with room for it
 pub record MaySend (e : Endpoint) (call : Call) : Type 0 where
+  pub fits : Fits call
   pub moves-on : movesOn call ≡ true
   pub sent : (room : ℕ) → length (written e call) ≤ room → sendOf e call room .number ≡ 0
 
@@ -87,7 +89,8 @@ pub record Holds (w : World Endpoint) : Type 0 where
   -- "data accepted is always a prefix of data sent", and so are the READYs heard of those sent
   pub data-leads : (end : End) → IsPrefix (side w end .past .accepted) (side w (across end) .past .sent)
   pub readies-lead : (end : End) → IsPrefix (side w end .past .readies-heard) (side w (across end) .past .readies)
-  -- "and never more than the batches agreed": in all of them, and, as it holds after every call, in each
+  -- "and never more than the batches agreed": in all of them, and in the newest; a batch that is over was the newest until the READY that began
+  -- the next, so this holds of each
   pub within : length (w .client .past .accepted) + length (w .server .past .accepted) ≤ sum (agreed Client (w .client .past))
   pub within-newest : (end : End) → length (side w end .past .batch) ≤ newest (agreed end (side w end .past))
   -- "while neither has closed and nothing is in transit, one end may still send something other than NOOP and CLOSE"

@@ -18,14 +18,14 @@ use lib.Dec.{eqb}
 use Rattle.double.specs.Limit.{mostLimit}
 use Rattle.endpoint.specs.declared.Endpoint.{Endpoint}
 use Rattle.endpoint.specs.declared.Given.the-variants.{Good}
-use Rattle.endpoint.specs.Record.{opening, batch, awaited, givenOf}
+use Rattle.endpoint.specs.Record.{batch, awaited, givenOf}
 use Rattle.receiving.specs.Hearing.{confirmable}
 use Rattle.sending.specs.Calls.{Call}
 use Rattle.sending.specs.Sending.{sendOf}
 use Rattle.machine.specs.Good.{Sound, Fits}
 use Rattle.session.specs.World.{End, Client, Server, across, agreed, History, Side, World, Event, EventFits, start, step}
 use Rattle.session.specs.Packets.{Packet, Called, Confirms, Closes, bytesIn, dataIn, readyIn}
-use Rattle.session.specs.Turns.{Standing, IsOpen, standing, roleOf, producing, Meets}
+use Rattle.session.specs.Turns.{Standing, IsOpen, standing, roleOf, producing, Alive, Meets}
 use Rattle.session.specs.Confirmations.{Awaits}
 use Rattle.session.specs.Demand.{PhaseFits, sum, newest, Holds}
 
@@ -50,7 +50,7 @@ pub record Delivers {A : Type 0} (carried : Packet → List A) (sent : List A) (
 -- a client knows the terms from the start, a server while it is open
 abbrev pub Knows : End → ℕ → Type 0
 Knows Client phase = Unit
-Knows Server phase = (opening ≤ phase) × (phase ≤ batch)
+Knows Server phase = Alive phase
 
 -- the end that produces, once the server has heard the OPEN of a client of this flow
 abbrev pub source : ℕ → End

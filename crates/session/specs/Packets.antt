@@ -22,10 +22,10 @@ bytesIn (Confirms message type-data) = replyBytes (Frame message ackReply type-d
 bytesIn (Closes code) = replyBytes (Frame Close 0 code)
 
 -- the message whose row it takes: "NOOP, and any message with ACK-REPLY"
-abbrev pub movesLike : Packet → MessageType
-movesLike (Called e call room) = messageOf call
-movesLike (Confirms message type-data) = Noop
-movesLike (Closes code) = Close
+abbrev pub rowMessage : Packet → MessageType
+rowMessage (Called e call room) = messageOf call
+rowMessage (Confirms message type-data) = Noop
+rowMessage (Closes code) = Close
 
 abbrev pub typeDataIn : Packet → ℕ
 typeDataIn (Called e call room) = typeDataOf call
@@ -39,4 +39,4 @@ dataIn (Confirms message type-data) = []
 dataIn (Closes code) = []
 
 abbrev pub readyIn : Packet → List ℕ
-readyIn m = readyCount (movesLike m) (typeDataIn m)
+readyIn m = readyCount (rowMessage m) (typeDataIn m)

@@ -13,7 +13,7 @@ use Rattle.endpoint.specs.Record.{client, server, producer, fresh, opening, idl
 use Rattle.table.specs.declared.Row.the-variants.{To}
 use Rattle.table.specs.Table.{rowOf}
 use Rattle.session.specs.World.{End, Client, Server, across, Ending, Going, HeardClose, WroteClose, Side}
-use Rattle.session.specs.Packets.{Packet, movesLike, typeDataIn}
+use Rattle.session.specs.Packets.{Packet, rowMessage, typeDataIn}
 
 abbrev pub roleOf : End → ℕ
 roleOf Client = client
@@ -29,19 +29,22 @@ turn source phase = cond (eqb phase fresh || eqb phase offer) Client (cond (eqb 
 
 -- what a message does to the stage: it moves it, leaves it, or ends it
 pub data Kind : Type 0 where
-  Token Quiet Final : Kind
+  Moves Stays Ends : Kind
 
 abbrev pub kindOf : MessageType → Kind
-kindOf Open = Token
-kindOf Ready = Token
-kindOf Noop = Quiet
-kindOf Data = Token
-kindOf Close = Final
+kindOf Open = Moves
+kindOf Ready = Moves
+kindOf Noop = Stays
+kindOf Data = Moves
+kindOf Close = Ends
 
 -- phase and n, which both ends follow
 pub record Stage : Type 0 where
   pub phase : ℕ
   pub n : ℕ
+
+abbrev pub stageOf : Endpoint → Stage
+stageOf e = record { phase = e .phase; n = e .n }
 
 -- where an end stands: at a stage, or closed by the CLOSE that it heard, or by one that it wrote
 pub data Standing : Type 0 where
@@ -49,7 +52,7 @@ pub data Standing : Type 0 where
   ClosedByOther ClosedByItself : Standing
 
 abbrev pub stands : Ending → Endpoint → Standing
-stands Going e = At (record { phase = e .phase; n = e .n })
+stands Going e = At (stageOf e)
 stands HeardClose e = ClosedByOther
 stands WroteClose e = ClosedByItself
 
@@ -62,28 +65,28 @@ IsOpen ClosedByOther = ⊥
 IsOpen ClosedByItself = ⊥
 
 -- NOOP and confirmations: "phase 2, 3, 4"; CLOSE: "phase 1 to 4"
-abbrev pub Active : Stage → Type 0
-Active s = (idle ≤ s .phase) × (s .phase ≤ batch)
+abbrev pub Active : ℕ → Type 0
+Active phase = (idle ≤ phase) × (phase ≤ batch)
 
-abbrev pub Alive : Stage → Type 0
-Alive s = (opening ≤ s .phase) × (s .phase ≤ batch)
+abbrev pub Alive : ℕ → Type 0
+Alive phase = (opening ≤ phase) × (phase ≤ batch)
 
 -- a queue that moves nothing at this stage
 pub data Still (s : Stage) : List Packet → Type 0 where
   nothing : Still s []
-  quiet : {m : Packet} {rest : List Packet} → kindOf (movesLike m) ≡ Quiet → Active s → Still s rest → Still s (m ∷ rest)
+  quiet : {m : Packet} {rest : List Packet} → kindOf (rowMessage m) ≡ Stays → Active (s .phase) → Still s rest → Still s (m ∷ rest)
 
 module _ (source : End) where
   -- the row of the end whose turn it is; only DATA's asks for the flow, and DATA is the producer's turn
   abbrev pub Leads : Stage → Packet → Stage → Type 0
   Leads s m t =
-      rowOf (roleOf (turn source (s .phase))) producer (s .phase) (s .n) (movesLike m) (typeDataIn m) ≡ To (t .phase) (t .n)
+      rowOf (roleOf (turn source (s .phase))) producer (s .phase) (s .n) (rowMessage m) (typeDataIn m) ≡ To (t .phase) (t .n)
 
   -- an end receives: a token only where it is the other's turn, and after its own close anything
   pub data Hears (end : End) : Standing → Packet → Standing → Type 0 where
-    moved : {s t : Stage} {m : Packet} → kindOf (movesLike m) ≡ Token → turn source (s .phase) ≡ across end → Leads s m t → Hears end (At s) m (At t)
-    rested : {s : Stage} {m : Packet} → kindOf (movesLike m) ≡ Quiet → Active s → Hears end (At s) m (At s)
-    closed : {s : Stage} {m : Packet} → kindOf (movesLike m) ≡ Final → Alive s → Hears end (At s) m ClosedByOther
+    moved : {s t : Stage} {m : Packet} → kindOf (rowMessage m) ≡ Moves → turn source (s .phase) ≡ across end → Leads s m t → Hears end (At s) m (At t)
+    rested : {s : Stage} {m : Packet} → kindOf (rowMessage m) ≡ Stays → Active (s .phase) → Hears end (At s) m (At s)
+    closed : {s : Stage} {m : Packet} → kindOf (rowMessage m) ≡ Ends → Alive (s .phase) → Hears end (At s) m ClosedByOther
     late : {m : Packet} → Hears end ClosedByItself m ClosedByItself
 
   -- an end that has received a whole queue
@@ -91,8 +94,7 @@ module _ (source : End) where
     empty : {a : Standing} → Drains end a [] a
     head : {a b c : Standing} {m : Packet} {rest : List Packet} → Hears end a m b → Drains end b rest c → Drains end a (m ∷ rest) c
 
-  -- an end at a wrote p, and the one across from it at b wrote q: one of them stands at a stage at which nothing that comes moves it, and the
-  -- other, once it has received all, stands there too; or one wrote a CLOSE, and the other is closed once it has received all
+  -- an end at a wrote p, and the one across from it at b wrote q: one is ahead of the other, or has written a CLOSE
   pub data Meets (end : End) : Standing → List Packet → Standing → List Packet → Type 0 where
     ahead : {s : Stage} {b : Standing} {p q : List Packet} → Still s q → Drains (across end) b p (At s) → Meets end (At s) p b q
     behind : {a : Standing} {s : Stage} {p q : List Packet} → Still s p → Drains end a q (At s) → Meets end a p (At s) q

@@ -45,11 +45,11 @@ pub record History : Type 0 where
   -- the counts of the READYs sent and of those heard
   pub readies : List ℕ
   pub readies-heard : List ℕ
-  -- the data accepted since the client's last READY
+  -- the data accepted since the client's last READY, as this end sent or heard it
   pub batch : List Datum
   pub ending : Ending
 
--- "Batches agreed": the READYs of the client, which the server has heard
+-- "Batches agreed": the READYs that the client sent; at the server, those of them that it heard
 abbrev pub agreed : End → History → List ℕ
 agreed Client past = past .readies
 agreed Server past = past .readies-heard
@@ -70,7 +70,7 @@ pub data Event : Type 0 where
   sends : End → Call → ℕ → Event
   receives : End → List ℕ → List ℕ → ℕ → Event
 
--- "type-data (2 bytes)": the count, type-data or code of a call is a number of two bytes
+-- the arguments of a send are of their types
 abbrev pub EventFits : Event → Type 0
 EventFits (sends end call room) = Fits call
 EventFits (receives end name format room) = Unit
