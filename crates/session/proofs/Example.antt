@@ -7,35 +7,31 @@ use lib.ListN.{length}
 use lib.Ieee.{inUnsigned, ofBits, ofInt, toBits, toUnsigned, whole}
 use Rattle.bytes_be.specs.Number.{fromBytesBehind, fromBytes, toBytes, numberAt}
 use Rattle.bytes_be.specs.Part.{same, putAt}
-use Rattle.bundle.specs.Reading.{countOf, lengthOf, lengthsBefore, startOf, good, sizeOf, contentsOf, frameOf, framesOf}
-use Rattle.bundle.specs.Writing.{bundleOf, headOf, lengthsFit, writable}
-use Rattle.control.specs.Frame.{signedOf, versionOf, knownTypeOf, controlOf, bytesOf}
-use Rattle.utf8.specs.Held.{ranges, rangesOf, dueAfter}
+use Rattle.bundle.specs.Reading.{countOf, lengthOf, lengthsBefore, startOf, good, sizeOf, contentsOf, frameOf}
+use Rattle.bundle.specs.Writing.{bundleOf}
+use Rattle.control.specs.Frame.{signedOf, versionOf, knownTypeOf, bytesOf}
 use Rattle.utf8.specs.Text.{table, dueBehind, rest, wellFormed}
 use Rattle.wire.specs.Fields.{payloadAt, fieldAt, fieldsWithin, fieldsOf}
-use Rattle.wire.specs.Varint.{saidAt, varintAt, shortestWithin, shortestOf, varintLength}
+use Rattle.wire.specs.Varint.{saidAt, varintAt, shortestWithin, shortestOf}
 use Rattle.wire.specs.Written.{tagOf, varintField, eightField, bytesField}
 use Rattle.double.specs.Double.{bitsAt, bytesOf as Double·bytesOf}
 use Rattle.double.specs.Limit.{limitOf}
 use Rattle.params.specs.Keys.{keyOf, valuePlace, findIn}
 use Rattle.params.specs.Message.{walk, firstOf, placeIn}
-use Rattle.params.specs.Rules.{valueWire, valueText, valueAllowed, valueRule, valueField, valueCheck, bytesRule, keyRule, seenOf, entryField, entryDone, entryCheck, itemField, itemsCheck, inside, structCheck, aloneCheck}
+use Rattle.params.specs.Rules.{valueWire, valueText, valueAllowed, valueRule, valueField, valueCheck, bytesRule, keyRule, seenOf, entryField, entryDone, entryCheck, itemField, itemsCheck, inside, structCheck}
 use Rattle.terms.specs.Announced.{limitIn}
-use Rattle.terms.specs.Lookup.{readLayers, findLayers, lookUp}
-use Rattle.terms.specs.Value.{heldBy, valueAt, valueOf}
+use Rattle.terms.specs.Value.{heldBy, valueAt}
 use Rattle.open.specs.Frame.{oversized, frameWire, isThere, frameText, frameRule, frameField, placeIf, socketIf, keep, kept, frameCheck, partsOf}
 use Rattle.open.specs.Open.{openingOf, readable, outOfRange, inRange, knownSocket, offeredPipe, offeredFormat, openOf, offered}
-use Rattle.open_write.specs.Frame.{goodName, goodFormat, isGood, formatField, parametersField, frameFor, givenOf, written}
-use Rattle.open_write.specs.Round.{answerTo}
+use Rattle.open_write.specs.Frame.{goodName, goodFormat, isGood, formatField, parametersField, frameFor}
 use Rattle.message.specs.Reading.{strangeFlags, bodyOf, readAs, readingOf}
-use Rattle.endpoint.specs.Block.{headBytes, bytesOf as Block·bytesOf, recordIn, spareIsZero, isGood as Block·isGood, loadOf}
-use Rattle.endpoint.specs.Record.{entryBytes, entryAt, inRanges, countFits, waitFits, awaitable, isNone, entryFits, entriesFit, good as Record·good, givenOf as Record·givenOf, freshOf, closed, atPhase, asked, confirmed, limited}
+use Rattle.endpoint.specs.Record.{entryBytes, entryAt, inRanges, countFits, waitFits, awaitable, isNone, entryFits, entriesFit, good as Record·good, freshOf, closed, atPhase, asked, confirmed, limited}
 use Rattle.table.specs.Table.{begun, openRow, readyRow, dataRow, noopRow, closeRow, atRow}
 use Rattle.receiving.specs.Hearing.{movesAs, hearRow, tooLarge, openAt, carriedBy, matchesOldest, unmatched, confirmedBy, replyTo, accepted, hearContent, hearMessage, hearOf}
 use Rattle.receiving.specs.Receiving.{replied, receivedOf}
 use Rattle.receiving.specs.Refusing.{versionCode, closeCode, silent, refused, unchanged}
 use Rattle.sending.specs.Calls.{goodCode, bundleWith}
-use Rattle.sending.specs.Sending.{sendRow, isFull, numberFor, askedBy, sentBy, leftBy}
+use Rattle.sending.specs.Sending.{sendRow, isFull, numberFor, askedBy, sentBy}
 use Rattle.sending.specs.Calls.{OPEN, READY, DATA, NOOP, CLOSE}
 use Rattle.endpoint.specs.declared.Endpoint.{Endpoint}
 use Rattle.session.specs.World.{Datum, Ending, World, Event, start, afterSend, afterReceive, step, run, Client, Server, Going, HeardClose, WroteClose, sends, receives}
@@ -150,5 +146,5 @@ sessions :
       to-client = 0;
     }
     ∷ []
-unfolding flatMap flatten inUnsigned ofBits ofInt toBits toUnsigned whole fromBytesBehind fromBytes toBytes numberAt same putAt countOf lengthOf lengthsBefore startOf good sizeOf contentsOf frameOf framesOf bundleOf headOf lengthsFit writable signedOf versionOf knownTypeOf controlOf bytesOf ranges rangesOf dueAfter table dueBehind rest wellFormed payloadAt fieldAt fieldsWithin fieldsOf saidAt varintAt shortestWithin shortestOf varintLength tagOf varintField eightField bytesField bitsAt Double·bytesOf limitOf keyOf valuePlace findIn walk firstOf placeIn valueWire valueText valueAllowed valueRule valueField valueCheck bytesRule keyRule seenOf entryField entryDone entryCheck itemField itemsCheck inside structCheck aloneCheck limitIn readLayers findLayers lookUp heldBy valueAt valueOf oversized frameWire isThere frameText frameRule frameField placeIf socketIf keep kept frameCheck partsOf openingOf readable outOfRange inRange knownSocket offeredPipe offeredFormat openOf offered goodName goodFormat isGood formatField parametersField frameFor givenOf written answerTo strangeFlags bodyOf readAs readingOf headBytes Block·bytesOf recordIn spareIsZero Block·isGood loadOf entryBytes entryAt inRanges countFits waitFits awaitable isNone entryFits entriesFit Record·good Record·givenOf freshOf closed atPhase asked confirmed limited begun openRow readyRow dataRow noopRow closeRow atRow movesAs hearRow tooLarge openAt carriedBy matchesOldest unmatched confirmedBy replyTo accepted hearContent hearMessage hearOf replied receivedOf versionCode closeCode silent refused unchanged goodCode bundleWith sendRow isFull numberFor askedBy sentBy leftBy afterSend afterReceive step run client-produces server-produces both-produce
+unfolding flatMap flatten inUnsigned ofBits ofInt toBits toUnsigned whole fromBytesBehind fromBytes toBytes numberAt same putAt countOf lengthOf lengthsBefore startOf good sizeOf contentsOf frameOf bundleOf signedOf versionOf knownTypeOf bytesOf table dueBehind rest wellFormed payloadAt fieldAt fieldsWithin fieldsOf saidAt varintAt shortestWithin shortestOf tagOf varintField eightField bytesField bitsAt Double·bytesOf limitOf keyOf valuePlace findIn walk firstOf placeIn valueWire valueText valueAllowed valueRule valueField valueCheck bytesRule keyRule seenOf entryField entryDone entryCheck itemField itemsCheck inside structCheck limitIn heldBy valueAt oversized frameWire isThere frameText frameRule frameField placeIf socketIf keep kept frameCheck partsOf openingOf readable outOfRange inRange knownSocket offeredPipe offeredFormat openOf offered goodName goodFormat isGood formatField parametersField frameFor strangeFlags bodyOf readAs readingOf entryBytes entryAt inRanges countFits waitFits awaitable isNone entryFits entriesFit Record·good freshOf closed atPhase asked confirmed limited begun openRow readyRow dataRow noopRow closeRow atRow movesAs hearRow tooLarge openAt carriedBy matchesOldest unmatched confirmedBy replyTo accepted hearContent hearMessage hearOf replied receivedOf versionCode closeCode silent refused unchanged goodCode bundleWith sendRow isFull numberFor askedBy sentBy afterSend afterReceive step run client-produces server-produces both-produce
 sessions = refl
