@@ -29,7 +29,7 @@ use Rattle.machine.proofs.Good.{sent-good}
 use Rattle.machine.proofs.Refusals.{receive-comes-to, refused-send-stays}
 use Rattle.fbdp.specs.Blocks.{SendAnswer, ReceiveAnswer, keptAfter, keptBy, leaves, stored}
 use Rattle.session.specs.World.{End, across, Side, World, Event, EventFits, endingReplied, endingHeard, replies, side, joined, became, withQueue, wrote, took, afterSend, afterBundle, isKept, afterReceive, step, Client, Server, receives}
-use Rattle.session.specs.Blocks.{afterEntry, dataTold, readyTold, repliesTold, endingTold, afterReceived, Calls, loadedSide, loaded, sent, received, nothing-there, none}
+use Rattle.session.specs.Blocks.{afterEntry, dataTold, readyTold, repliesTold, endingTold, afterReceived, Calls, loadedSide, loaded, sent, received, nothing-there}
 use Rattle.session.proofs.Demand.{joined-sides}
 use Rattle.session.proofs.Told.{replies-told, told}
 

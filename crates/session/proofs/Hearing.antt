@@ -21,7 +21,7 @@ use Rattle.table.specs.declared.Row.the-variants.{To}
 use Rattle.table.specs.Table.{other, rowOf}
 use Rattle.receiving.specs.Hearing.{hearOf}
 use Rattle.sending.specs.Calls.{OPEN, READY, DATA, NOOP, CLOSE, askOf, messageOf, typeDataOf}
-use Rattle.session.specs.World.{End, across, Ending, Side, endedBy, withQueue, wrote, took, afterBundle, Client, Server, Going, HeardClose, WroteClose}
+use Rattle.session.specs.World.{End, across, Ending, Side, endedBy, withQueue, took, afterBundle, Client, Server, Going, HeardClose, WroteClose}
 use Rattle.session.specs.Packets.{Packet, bytesIn, rowMessage, typeDataIn, dataIn, readyIn, Called, Confirms, Closes}
 use Rattle.session.specs.Turns.{roleOf, producing, turn, Kind, kindOf, Stage, Standing, stands, standing, IsOpen, Hears, Meets, Moves, Stays, Ends, At, ClosedByItself, moved, rested, closed as Hears·closed}
 use Rattle.session.specs.Confirmations.{entryFor, askedIn, confirmedIn}

@@ -38,7 +38,7 @@ use Rattle.fbdp.specs.Blocks.{answerSlots, heardSlots, replyLength}
 use Rattle.machine.specs.Refusals.{Closing, Staying}
 use Rattle.machine.proofs.Stages.{Passed, received-holds}
 use Rattle.session.specs.World.{Ending, dataAt, dataHeard, readyCount, readyHeard, endedBy, endingReplied, endingHeard, replies, HeardClose, WroteClose}
-use Rattle.session.specs.Blocks.{dataTold, readyTold, repliesTold, endingTold, none}
+use Rattle.session.specs.Blocks.{dataTold, readyTold, repliesTold, endingTold}
 
 -- the slots of what a receive came to
 abbrev pub slotsOf : Received → List ℕ
