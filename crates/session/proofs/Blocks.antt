@@ -13,18 +13,18 @@ use Rattle.endpoint.specs.declared.Given.the-variants.{Good, Bad}
 use Rattle.endpoint.specs.Record.{freshClient, freshOf, freshServer, givenNumber, givenOf}
 use Rattle.endpoint.specs.Block.{loadOf}
 use Rattle.endpoint.proofs.Round.{loaded-good}
-use Rattle.receiving.specs.Receiving.{answerNumber, replied}
+use Rattle.receiving.specs.Receiving.{answerNumber, receivedOf, replied}
 use Rattle.sending.specs.Calls.{Call, written}
-use Rattle.sending.specs.Sending.{leftBy}
+use Rattle.sending.specs.Sending.{leftBy, sendOf}
 use Rattle.fbdp.specs.Blocks.{MakeAnswer, SendAnswer, ReceiveAnswer, answerSlots, keptAfter, keptBy, makeNumber, receivedOn, replyLength, sentOn, stored}
 use Rattle.machine.specs.Good.{Sound}
-use Rattle.session.specs.World.{End, across, World, Event, AllFit, side, made, start, step, Client, Server, sends, receives}
+use Rattle.session.specs.World.{End, across, Side, World, Event, AllFit, side, made, start, step, Client, Server, sends, receives}
 use Rattle.session.specs.Demand.{MayAnswer, nextEnd, nextCall, MaySend, Holds}
 use Rattle.session.specs.Invariant.{Invariant}
 use Rattle.session.specs.Blocks.{Calls, Runs, loaded, HoldsOnBlocks, DemandOnBlocks, RunsExist, sent, received, nothing-there, none, more}
 use Rattle.session.proofs.Step.{step-keeps}
 use Rattle.session.proofs.Demand.{start-keeps, invariant-holds}
-use Rattle.session.proofs.Entries.{AllSound, block-sound, call-loads, stored-back}
+use Rattle.session.proofs.Entries.{AllSound, loaded-at, block-sound, call-loads, stored-back}
 
 -- what was made has 64 bytes and the flow and limit of an endpoint, and is loaded again
 
@@ -55,14 +55,16 @@ made-loads fresh memory block good sound = ap loadOf (good .kept) ∙ stored-bac
 module _ (w : World (List ℕ)) (holds : Holds (loaded w)) where
   block-answers : (end : End) (s : List ℕ) (rest : List (List ℕ)) → side w (across end) .queue ≡ s ∷ rest → (name format out : List ℕ) (number : ℕ) (slots block′ out′ : List ℕ)
       → 14 ≤ length out → ReceiveAnswer s name format (side w end .self) out number slots block′ out′ → MayAnswer (side (loaded w) end) (side (loaded w) (across end)) s name format number
-  block-answers Client s rest queued name format out number slots block′ out′ room answer = rw (answer .numbered) (holds .answers Client s rest queued name format (length out) room)
-  block-answers Server s rest queued name format out number slots block′ out′ room answer = rw (answer .numbered) (holds .answers Server s rest queued name format (length out) room)
+  block-answers end s rest queued name format out number slots block′ out′ room answer =
+      let there = ap (λ (y : Side Endpoint). y .queue) (sym (loaded-at w (across end))) ∙ queued in
+      let same = ap (λ (x : Side Endpoint). answerNumber (receivedOf (x .self) s name format (length out) .answer)) (sym (loaded-at w end)) ∙ sym (answer .numbered) in
+      subst (MayAnswer (side (loaded w) end) (side (loaded w) (across end)) s name format) same (holds .answers end s rest there name format (length out) room)
 
   -- what the record of a block may send, its entry sends
   block-sends : (call : Call) (end : End) → MaySend (side (loaded w) end .self) call → (out : List ℕ) (number count : ℕ) (block′ out′ : List ℕ)
       → SendAnswer call (side w end .self) out number count block′ out′ → length (written (side (loaded w) end .self) call) ≤ length out → number ≡ 0
-  block-sends call Client may out number count block′ out′ answer enough = answer .finished .numbered ∙ may .sent (length out) enough
-  block-sends call Server may out number count block′ out′ answer enough = answer .finished .numbered ∙ may .sent (length out) enough
+  block-sends call end may out number count block′ out′ answer enough =
+      answer .finished .numbered ∙ ap (λ (x : Side Endpoint). sendOf (x .self) call (length out) .number) (loaded-at w end) ∙ may .sent (length out) enough
 
 module _ (flow limit serverFlow : ℕ) where
   both-sound : (w : World Endpoint) → Invariant flow limit serverFlow w → AllSound w

@@ -33,8 +33,8 @@ unfolding givenOf
 given-well flow limit given = took-first (goodFlow flow && inLimits limit) (λ same. let z : _≡_ {A = ℕ} 0 1 = cc in omega arith) given .0
 
 -- the phases that are neither 0, 3, 4 nor 5 are 1 and 2
-between : (phase : ℕ) → phase ≤ batch → (phase ≡ fresh → ⊥) → (phase ≡ offer → ⊥) → (phase ≡ batch → ⊥) → (opening ≤ phase) × (phase ≤ idle)
-between phase low later neither not-batch = (omega (arith, later), omega (arith, low, neither, not-batch))
+one-or-two : (phase : ℕ) → phase ≤ batch → (phase ≡ fresh → ⊥) → (phase ≡ offer → ⊥) → (phase ≡ batch → ⊥) → (opening ≤ phase) × (phase ≤ idle)
+one-or-two phase low later neither not-batch = (omega (arith, later), omega (arith, low, neither, not-batch))
 
 -- the two ends of a world, joined again, are that world
 pub joined-sides : {A : Type 0} (w : World A) (end : End) → joined end (side w end) (side w (across end)) ≡ w
@@ -185,8 +185,8 @@ module _ (flow limit serverFlow : ℕ) where
         from-batch false other later neither =
             let not-batch = eqb-false phase batch other in
             offers-one Server (w .server .self) (linked .there .sound) (linked .there .role) refl
-            (omega (arith, rests .same-phase, between phase (rests .low) later neither not-batch .0))
-            (omega (arith, rests .same-phase, between phase (rests .low) later neither not-batch .1))
+            (omega (arith, rests .same-phase, one-or-two phase (rests .low) later neither not-batch .0))
+            (omega (arith, rests .same-phase, one-or-two phase (rests .low) later neither not-batch .1))
 
         from-offer : (t : Bool) → eqb phase offer ≡ t → (phase ≡ fresh → ⊥) → spoken false t (eqb phase batch)
         from-offer true offered later = takes-all Client (w .client .self) (linked .here .sound) (linked .here .role) refl (eqb-true phase offer offered)

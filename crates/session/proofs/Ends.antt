@@ -17,7 +17,7 @@ use Rattle.session.specs.Packets.{Packet, bytesIn, rowMessage, typeDataI
 use Rattle.session.specs.Turns.{roleOf, producing}
 use Rattle.session.specs.Demand.{PhaseFits}
 use Rattle.session.specs.Invariant.{Knows, source, Settled, Proper, AllProper, OneEnd}
-use Rattle.session.proofs.Table.{Moved, opens, offers, takes, gives, rests, closes, row-moved, begun-low, moved-low}
+use Rattle.session.proofs.Table.{Moved, opens, offers, takes, gives, rests, closes, row-moved, moved-low, Landed, goes-on, closes-both, moved-lands}
 use Rattle.session.proofs.Counts.{sent-counted, heard-counted, closed-counted}
 use Rattle.session.proofs.Packets.{SentOn, Comes, answersIn, limitAfter, isOpenMessage, OpenOrOther, an-open, another, open-or-other}
 
@@ -29,14 +29,9 @@ is-going WroteClose phase ends low = absurd (omega (arith, ends))
 
 -- where a row leads, the writer and the hearer of its message have closed in phase 5 and nowhere else
 
-moved-ends : (how : Ending) → PhaseFits how shut → {role flow phase n type-data next count : ℕ} {message : MessageType} → Moved role flow phase n message type-data next count
-    → PhaseFits (endedBy how message Going) next
-moved-ends how closing (opens role begins) = omega arith
-moved-ends how closing (offers differs low high begins) = begun-low (omega arith) begins
-moved-ends how closing (takes role offered few begins) = begun-low (omega arith) begins
-moved-ends how closing (gives produces batched begins) = begun-low (omega arith) begins
-moved-ends how closing (rests low high) = high
-moved-ends how closing (closes low high) = closing
+landed-ends : (how : Ending) → PhaseFits how shut → {message : MessageType} {next count : ℕ} → Landed message next count → PhaseFits (endedBy how message Going) next
+landed-ends how closing (goes-on stays low) = rw (stays how) low
+landed-ends how closing closes-both = closing
 
 -- a message other than OPEN leads on only an open server
 server-knows : {role flow phase n type-data next count : ℕ} {message : MessageType} → isOpenMessage message ≡ false → Moved role flow phase n message type-data next count
@@ -107,7 +102,7 @@ module _ (flow limit serverFlow : ℕ) where
           sound = comes .sound;
           role = comes .role ∙ here .role;
           flows = comes .flow ∙ here .flows;
-          ends = rw (going, comes .phased) (moved-ends WroteClose refl moves);
+          ends = rw (going, comes .phased) (landed-ends WroteClose refl (moved-lands moves));
           queued = queued-append x p (Called (x .self) call room ∷ []) (written (x .self) call ∷ []) (here .queued) refl;
           proper =
               proper-append end p (Called (x .self) call room ∷ []) (here .proper)
@@ -132,7 +127,7 @@ module _ (flow limit serverFlow : ℕ) where
           sound = comes .sound;
           role = comes .role ∙ here .role;
           flows = comes .flow ∙ here .flows;
-          ends = rw (comes .phased) (moved-ends HeardClose refl moves);
+          ends = rw (comes .phased) (landed-ends HeardClose refl (moved-lands moves));
           queued = queued-append x p (answersIn m) (map bytesIn (answersIn m)) (here .queued) refl;
           proper = proper-append end p (answersIn m) (here .proper) (answers-proper end m proper);
           terms = λ known. record { limited = comes .limited ∙ terms-there .0; produced = ap (producing end) (comes .flow) ∙ terms-there .1 };

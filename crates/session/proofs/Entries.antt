@@ -43,7 +43,7 @@ loaded-joined : (end : End) (x y : Side (List ℕ)) → loaded (joined end x y) 
 loaded-joined Client x y = refl
 loaded-joined Server x y = refl
 
-loaded-at : (w : World (List ℕ)) (end : End) → loadedSide (side w end) ≡ side (loaded w) end
+pub loaded-at : (w : World (List ℕ)) (end : End) → loadedSide (side w end) ≡ side (loaded w) end
 loaded-at w Client = refl
 loaded-at w Server = refl
 
@@ -52,8 +52,7 @@ abbrev pub AllSound : World Endpoint → Type 0
 AllSound w = (end : End) → Sound (side w end .self)
 
 pub block-sound : (w : World (List ℕ)) → AllSound (loaded w) → (end : End) → Sound (loadOf (side w end .self))
-block-sound w sound Client = sound Client
-block-sound w sound Server = sound Server
+block-sound w sound end = subst (λ (x : Side Endpoint). Sound (x .self)) (sym (loaded-at w end)) (sound end)
 
 -- a record that is stored in 64 bytes is loaded again
 

@@ -23,7 +23,7 @@ use Rattle.receiving.specs.Hearing.{hearOf}
 use Rattle.sending.specs.Calls.{OPEN, READY, DATA, NOOP, CLOSE, askOf, messageOf, typeDataOf}
 use Rattle.session.specs.World.{End, across, Ending, Side, endedBy, withQueue, took, afterBundle, Client, Server, Going, HeardClose, WroteClose}
 use Rattle.session.specs.Packets.{Packet, bytesIn, rowMessage, typeDataIn, dataIn, readyIn, Called, Confirms, Closes}
-use Rattle.session.specs.Turns.{roleOf, producing, turn, Kind, kindOf, Stage, Standing, stands, standing, IsOpen, Hears, Meets, Moves, Stays, Ends, At, ClosedByItself, moved, rested, closed as Hears·closed}
+use Rattle.session.specs.Turns.{roleOf, producing, turn, Kind, kindOf, Stage, stageOf, Standing, stands, standing, IsOpen, Hears, Meets, Moves, Stays, Ends, At, ClosedByItself, moved, rested, closed as Hears·closed}
 use Rattle.session.specs.Confirmations.{entryFor, askedIn, confirmedIn}
 use Rattle.session.specs.Invariant.{Knows, source, Proper, OneEnd, Linked}
 use Rattle.session.proofs.Table.{calms, Moved, opens, gives, row-moved, row-hears, other-role, phaseIn, nIn, leads-alive, leads-active}
@@ -52,15 +52,15 @@ heard-ending message same = ended-kind HeardClose message ∙ ap (endingOf Heard
 
 hearer-stands : (from end : End) (s : Stage) (m : Packet) (a : Standing) (e : Endpoint) → Hears from end (At s) m a → e .phase ≡ phaseIn a → e .n ≡ nIn a
     → stands (endedBy HeardClose (rowMessage m) Going) e ≡ a
-hearer-stands from end s m (At t) e (moved token theirs leads) phased counted =
-    ap (λ (ending : Ending). stands ending e) (heard-ending (rowMessage m) token) ∙ rw (phased, counted) refl
+hearer-stands from end s m (At t) e (moved moving theirs leads) phased counted =
+    ap (λ (ending : Ending). stands ending e) (heard-ending (rowMessage m) moving) ∙ rw (phased, counted) refl
 hearer-stands from end s m _ e (rested still active) phased counted =
     ap (λ (ending : Ending). stands ending e) (heard-ending (rowMessage m) still) ∙ rw (phased, counted) refl
 hearer-stands from end s m _ e (Hears·closed closing alive) phased counted = ap (λ (ending : Ending). stands ending e) (heard-ending (rowMessage m) closing)
 
 -- an end that is still open is not in phase 5
 hearer-low : (from end : End) (s : Stage) (m : Packet) (a : Standing) → Hears from end (At s) m a → IsOpen a → phaseIn a ≡ shut → ⊥
-hearer-low from end s m (At t) (moved token theirs leads) is-open is-shut = omega (arith, leads-alive from s m t token leads .1, is-shut)
+hearer-low from end s m (At t) (moved moving theirs leads) is-open is-shut = omega (arith, leads-alive from s m t moving leads .1, is-shut)
 hearer-low from end s m _ (rested still active) is-open is-shut = omega (arith, active .1, is-shut)
 hearer-low from end s m _ (Hears·closed closing alive) is-open is-shut = is-open
 
@@ -96,13 +96,13 @@ answers-meets : (from end : End) {s : Stage} {a b : Standing} {p q : List Packet
     → Meets from end a p b q → Meets from end a (p ++ answersIn m) b q
 answers-meets from end (Called e (OPEN name format) room) hears meets = rw append-nil meets
 answers-meets from end (Called e (READY count) room) hears meets = rw append-nil meets
-answers-meets from end {s} (Called e (DATA type-data true body) room) (moved {t = t} token theirs leads) meets =
+answers-meets from end {s} (Called e (DATA type-data true body) room) (moved {t = t} moving theirs leads) meets =
     let move = row-moved (roleOf (turn from (s .phase))) producer (s .phase) (s .n) Data type-data (t .phase) (t .n) leads in
-    sends-meets from end meets (calms refl (leads-active from s (Called e (DATA type-data true body) room) t token leads (data-active move)))
+    sends-meets from end meets (calms refl (leads-active from s (Called e (DATA type-data true body) room) t moving leads (data-active move)))
 answers-meets from end (Called e (DATA type-data true body) room) (rested still active) meets = let z : _≡_ {A = ℕ} 0 1 = cc in absurd (omega arith)
 answers-meets from end (Called e (DATA type-data true body) room) (Hears·closed closing alive) meets = let z : _≡_ {A = ℕ} 0 1 = cc in absurd (omega arith)
 answers-meets from end (Called e (DATA type-data false body) room) hears meets = rw append-nil meets
-answers-meets from end (Called e (NOOP type-data true) room) (moved token theirs leads) meets = let z : _≡_ {A = ℕ} 0 1 = cc in absurd (omega arith)
+answers-meets from end (Called e (NOOP type-data true) room) (moved moving theirs leads) meets = let z : _≡_ {A = ℕ} 0 1 = cc in absurd (omega arith)
 answers-meets from end (Called e (NOOP type-data true) room) (rested still active) meets = sends-meets from end meets (calms refl active)
 answers-meets from end (Called e (NOOP type-data true) room) (Hears·closed closing alive) meets = let z : _≡_ {A = ℕ} 0 1 = cc in absurd (omega arith)
 answers-meets from end (Called e (NOOP type-data false) room) hears meets = rw append-nil meets
@@ -136,12 +136,9 @@ pub clients-open : {flow phase n type-data next count : ℕ} → Moved (roleOf S
 clients-open (opens role begins) = omega (arith, role)
 
 module _ (flow limit serverFlow : ℕ) where
-  abbrev from : End
-  from = source flow
-
   -- and so agrees on who produces
   open-source : (end : End) (r : Endpoint) (m : Packet) → OpenOrOther m → (name format : List ℕ) {seen phase n next count : ℕ} → Proper flow limit serverFlow (across end) m
-      → Moved (roleOf (across end)) seen phase n (rowMessage m) (typeDataIn m) next count → offeredIn m r name format ≡ true → isOpenMessage (rowMessage m) ≡ true → producing end (r .flow) ≡ from
+      → Moved (roleOf (across end)) seen phase n (rowMessage m) (typeDataIn m) next count → offeredIn m r name format ≡ true → isOpenMessage (rowMessage m) ≡ true → producing end (r .flow) ≡ source flow
   open-source Client r _ (an-open e asked wanted room) name format made moves offered is = absurd (clients-open moves)
   open-source Server r _ (an-open e asked wanted room) name format made moves offered is =
       let all = both-true (same asked name && eqb (socketOf (e .flow)) (offeredSocket (r .flow))) (eqb (length wanted) 0 || same wanted format) offered in
@@ -151,7 +148,7 @@ module _ (flow limit serverFlow : ℕ) where
 
   module _ (end : End) (x y : Side Endpoint) (p q : List Packet) (m : Packet) (linked : Linked flow limit serverFlow end x y p (m ∷ q)) where
     abbrev stage : Stage
-    stage = record { phase = x .self .phase; n = x .self .n }
+    stage = stageOf (x .self)
 
     -- the writer of a packet that was received
     left-sides : OneEnd flow limit serverFlow (across end) (withQueue y (map bytesIn q)) q
@@ -180,10 +177,10 @@ module _ (flow limit serverFlow : ℕ) where
       unfolding flatMap
       awaited-first = linked .awaits .held (rw was tt) ∙ append-assoc (confirmedIn m) (flatMap confirmedIn q) (linked .awaits .rest)
 
-      module _ (a : Standing) (hears : Hears from end (At stage) m a) where
+      module _ (a : Standing) (hears : Hears (source flow) end (At stage) m a) where
         pub leads : rowOf (other (roleOf end)) (other (x .self .flow)) (x .self .phase) (x .self .n) (rowMessage m) (typeDataIn m) ≡ To (phaseIn a) (nIn a)
         leads =
-            row-hears from end (x .self .flow) stage m a hears
+            row-hears (source flow) end (x .self .flow) stage m a hears
             (λ theirs batching. hearer-consumes end (x .self .flow) (linked .here .terms (batch-known end (x .self .phase) batching) .produced ∙ theirs))
 
         pub moves : Moved (roleOf (across end)) (other (x .self .flow)) (x .self .phase) (x .self .n) (rowMessage m) (typeDataIn m) (phaseIn a) (nIn a)
@@ -205,21 +202,21 @@ module _ (flow limit serverFlow : ℕ) where
             })
 
         -- a packet that was heard
-        taken-linked : (next : Endpoint) → Meets from end a p (standing y) q → (isOpenMessage (rowMessage m) ≡ true → producing end (x .self .flow) ≡ from)
+        taken-linked : (next : Endpoint) → Meets (source flow) end a p (standing y) q → (isOpenMessage (rowMessage m) ≡ true → producing end (x .self .flow) ≡ source flow)
             → Comes (x .self) (phaseIn a) (nIn a) (limitAfter m (x .self .limit)) next → ((phaseIn a ≡ shut → ⊥) → awaited next ≡ later)
             → Linked flow limit serverFlow end
             (took end x (dataIn m) (readyIn m) (endedBy HeardClose (rowMessage m) Going) (map bytesIn (answersIn m)) next)
             (withQueue y (map bytesIn q)) (p ++ answersIn m) q
         taken-linked next meets produces comes awaits =
-            let after = hearer-stands from end stage m a next hears (comes .phased) (comes .counted) in
+            let after = hearer-stands (source flow) end stage m a next hears (comes .phased) (comes .counted) in
             record {
               here = heard-sides flow limit serverFlow end x p (linked .here) m (phaseIn a) (nIn a) next (linked .there .proper .0) moves produces comes;
               there = left-sides;
-              meets = rw after (answers-meets from end m hears meets);
+              meets = rw after (answers-meets (source flow) end m hears meets);
               awaits =
                   rw after
                   (hears-awaits (standing x) a m (answersIn m) (awaited next) (answers-none askedIn (λ message type-data. refl) m) (linked .awaits)
-                  (λ is-open. awaits (hearer-low from end stage m a hears is-open)));
+                  (λ is-open. awaits (hearer-low (source flow) end stage m a hears is-open)));
               awaits-across = rw after (across-hears-awaits (standing y) a stage m (answersIn m) (answers-confirm m) (rw was at (linked .awaits-across)));
               delivers = writes-delivers dataIn (standing y) (answersIn m) (answers-none dataIn (λ message type-data. refl) m) (linked .delivers);
               delivers-across = rw after (hears-delivers dataIn stage a m (rw was at (linked .delivers-across)));
@@ -233,7 +230,7 @@ module _ (flow limit serverFlow : ℕ) where
             ≡ took end x (dataIn m) (readyIn m) (endedBy HeardClose (rowMessage m) Going) (map bytesIn (answersIn m)) (hearOf (x .self) (bytesIn m) name format .next)
         taken-noted name format taken = simp (taken .answered, taken .carried, taken .readied, taken .replied, going, taken .ends Going)
 
-        pub heard-linked : (name format : List ℕ) → offeredIn m (x .self) name format ≡ true → Meets from end a p (standing y) q
+        pub heard-linked : (name format : List ℕ) → offeredIn m (x .self) name format ≡ true → Meets (source flow) end a p (standing y) q
             → Linked flow limit serverFlow end (afterBundle end x (bytesIn m) (hearOf (x .self) (bytesIn m) name format)) (withQueue y (map bytesIn q)) (p ++ answersIn m) q
         heard-linked name format offered meets =
             let taken = head-taken name format offered in
@@ -244,11 +241,11 @@ module _ (flow limit serverFlow : ℕ) where
       pub refused-linked : (code : ℕ) → code < 256 ^ 2 → kindOf (rowMessage m) ≡ Moves
           → Linked flow limit serverFlow end (took end x [] [] WroteClose (map bytesIn (Closes code ∷ [])) (closed (x .self))) (withQueue y (map bytesIn q)) (p ++ (Closes code ∷ [])) q
       unfolding flatMap
-      refused-linked code few token =
+      refused-linked code few moving =
           record {
             here = refused-sides flow limit serverFlow end x p (linked .here) code few;
             there = left-sides;
-            meets = refuses-meets from end (Closes code) token refl (rw was at (linked .meets));
+            meets = refuses-meets (source flow) end (Closes code) moving refl (rw was at (linked .meets));
             awaits = gone-awaits (standing x) m (Closes code ∷ []) _ refl (linked .awaits);
             awaits-across = across-gone-awaits (standing y) (standing x) m (Closes code ∷ []) refl (linked .awaits-across);
             delivers = writes-delivers dataIn (standing y) (Closes code ∷ []) refl (linked .delivers);
@@ -258,7 +255,7 @@ module _ (flow limit serverFlow : ℕ) where
           }
 
     -- a packet that came after the own close
-    pub late-linked : x .past .ending ≡ WroteClose → Meets from end ClosedByItself p (standing y) q → Linked flow limit serverFlow end x (withQueue y (map bytesIn q)) p q
+    pub late-linked : x .past .ending ≡ WroteClose → Meets (source flow) end ClosedByItself p (standing y) q → Linked flow limit serverFlow end x (withQueue y (map bytesIn q)) p q
     late-linked wrote meets =
         let gone : standing x ≡ ClosedByItself = ap (λ (ending : Ending). stands ending (x .self)) wrote in
         record {

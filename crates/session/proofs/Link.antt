@@ -1,12 +1,11 @@
 -- Two ends, of which one sends: an accepted send keeps what links them, from whichever end they are seen. Assumes nothing.
 use mathlib.Core.Path.{_≡_, refl, sym, _∙_, ap, subst}
-use Prim.Native.Nat.{ℕ, _≤_}
+use Prim.Native.Nat.{ℕ}
 use mathlib.Core.List.{List, [], _∷_, _++_, flatMap}
-use native.Mathlib.Omega.{arith}
 use borrow.Author.Tests.{eq-eqb}
 use Rattle.control.specs.declared.MessageType.{MessageType}
 use Rattle.endpoint.specs.declared.Endpoint.{Endpoint}
-use Rattle.endpoint.specs.Record.{producer, batch, shut}
+use Rattle.endpoint.specs.Record.{producer, shut}
 use Rattle.sending.specs.Calls.{Call, messageOf, typeDataOf, written}
 use Rattle.sending.specs.Sending.{sendOf}
 use Rattle.machine.specs.Good.{Fits}
@@ -14,7 +13,7 @@ use Rattle.session.specs.World.{End, across, Ending, Side, endedBy, wrot
 use Rattle.session.specs.Packets.{Packet, dataIn, readyIn, Called}
 use Rattle.session.specs.Turns.{roleOf, producing, stageOf, stands, standing, IsOpen, At}
 use Rattle.session.specs.Invariant.{source, OneEnd, Linked}
-use Rattle.session.proofs.Table.{Moved, opens, offers, takes, gives, rests, closes, row-moved, row-sends, begun-low, moved-low, landing, landing-at}
+use Rattle.session.proofs.Table.{row-moved, moved-low, Landed, goes-on, closes-both, moved-lands, landing, landing-at, row-sends}
 use Rattle.session.proofs.Turns.{across-meets, across-twice, sends-meets}
 use Rattle.session.proofs.Streams.{sends-awaits, across-awaits, sends-delivers, across-delivers}
 use Rattle.session.proofs.Packets.{SentOn, sent-on}
@@ -22,32 +21,23 @@ use Rattle.session.proofs.Ends.{is-going, sender-knows, sent-sides}
 
 -- where an end stands that sent a message
 
-at-lands : (e : Endpoint) {next count : ℕ} → e .phase ≡ next → e .n ≡ count → next ≤ batch → At (stageOf e) ≡ landing next count
-at-lands e {next} {count} phased counted low = rw (phased, counted) (landing-at next count low)
-
-writer-stands : (e : Endpoint) {role flow phase n type-data next count : ℕ} {message : MessageType} → e .phase ≡ next → e .n ≡ count
-    → Moved role flow phase n message type-data next count → stands (endedBy WroteClose message Going) e ≡ landing next count
-writer-stands e phased counted (opens role begins) = at-lands e phased counted (omega arith)
-writer-stands e phased counted (offers differs low high begins) = at-lands e phased counted (begun-low (omega arith) begins)
-writer-stands e phased counted (takes role offered few begins) = at-lands e phased counted (begun-low (omega arith) begins)
-writer-stands e phased counted (gives produces batched begins) = at-lands e phased counted (begun-low (omega arith) begins)
-writer-stands e phased counted (rests low high) = at-lands e phased counted high
-writer-stands e phased counted (closes low high) = refl
+writer-stands : (e : Endpoint) {message : MessageType} {next count : ℕ} → e .phase ≡ next → e .n ≡ count → Landed message next count
+    → stands (endedBy WroteClose message Going) e ≡ landing next count
+writer-stands e {next = next} {count = count} phased counted (goes-on stays low) =
+    ap (λ (ending : Ending). stands ending e) (stays WroteClose) ∙ rw (phased, counted) (landing-at next count low)
+writer-stands e phased counted closes-both = refl
 
 lands-low : (next count : ℕ) → IsOpen (landing next count) → next ≡ shut → ⊥
 lands-low next count is-open is-shut = rw (eq-eqb next shut is-shut) at is-open
 
 module _ (flow limit serverFlow : ℕ) where
-  abbrev from : End
-  from = source flow
-
   -- the same two ends, seen from the other
   pub across-linked : (end : End) (x y : Side Endpoint) (p q : List Packet) → Linked flow limit serverFlow end x y p q → Linked flow limit serverFlow (across end) y x q p
   across-linked end x y p q linked =
       record {
         here = linked .there;
         there = subst (λ (e : End). OneEnd flow limit serverFlow e x p) (across-twice end) (linked .here);
-        meets = across-meets from end (linked .meets);
+        meets = across-meets (source flow) end (linked .meets);
         awaits = linked .awaits-across;
         awaits-across = linked .awaits;
         delivers = linked .delivers-across;
@@ -57,7 +47,7 @@ module _ (flow limit serverFlow : ℕ) where
       }
 
   -- who produces, seen from an end that does
-  own-source : (end : End) (own : ℕ) → producing end own ≡ from → own ≡ producer → from ≡ end
+  own-source : (end : End) (own : ℕ) → producing end own ≡ source flow → own ≡ producer → source flow ≡ end
   own-source end own agreed is-producer = sym agreed ∙ rw is-producer refl
 
   module _ (end : End) (x y : Side Endpoint) (p q : List Packet) (linked : Linked flow limit serverFlow end x y p q) where
@@ -73,7 +63,7 @@ module _ (flow limit serverFlow : ℕ) where
         let going = is-going (x .past .ending) (x .self .phase) (here .ends) (moved-low moves) in
         let knows = here .terms (sender-knows end moves) in
         let after : stands (endedBy WroteClose (messageOf call) (x .past .ending)) (sendOf (x .self) call room .next) ≡ landing (sent .phase) (sent .n) =
-        rw going (writer-stands (sendOf (x .self) call room .next) (sent .comes .phased) (sent .comes .counted) moves) in
+        rw going (writer-stands (sendOf (x .self) call room .next) (sent .comes .phased) (sent .comes .counted) (moved-lands moves)) in
         let was : standing x ≡ At (stageOf (x .self)) = ap (λ (ending : Ending). stands ending (x .self)) going in
         let was-open : IsOpen (standing x) = rw was tt in
         record {
@@ -81,8 +71,8 @@ module _ (flow limit serverFlow : ℕ) where
           there = linked .there;
           meets =
               rw after
-              (sends-meets from end (rw was at (linked .meets))
-              (row-sends from end (x .self .flow) (x .self .phase) (x .self .n) m (sent .phase) (sent .n) leads (λ produces batching. own-source end (x .self .flow) (knows .produced) produces)));
+              (sends-meets (source flow) end (rw was at (linked .meets))
+              (row-sends (source flow) end (x .self .flow) (x .self .phase) (x .self .n) m (sent .phase) (sent .n) leads (λ produces batching. own-source end (x .self .flow) (knows .produced) produces)));
           awaits =
               rw after
               (sends-awaits (stageOf (x .self)) (landing (sent .phase) (sent .n)) m _

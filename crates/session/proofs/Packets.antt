@@ -33,7 +33,7 @@ use Rattle.session.specs.Packets.{Packet, bytesIn, rowMessage, typeDataI
 use Rattle.session.specs.Confirmations.{entryFor, askedIn, confirmedIn}
 use Rattle.session.specs.Demand.{MayAnswer}
 use Rattle.session.specs.Invariant.{Proper}
-use Rattle.session.proofs.Table.{row-moved, moved-empties}
+use Rattle.session.proofs.Table.{row-moved, Landed, goes-on, closes-both, moved-lands}
 
 -- the limit of an end that has heard a packet
 abbrev pub limitAfter : Packet → ℕ → ℕ
@@ -130,6 +130,11 @@ pub record OpenRefused (x y : Side Endpoint) (s name format : List ℕ) : Type 0
 
 -- ---- where a row leads
 
+-- a row that leads to phase 5 leaves no n
+landed-empty : {message : MessageType} {next count : ℕ} → Landed message next count → next ≡ shut → count ≡ 0
+landed-empty (goes-on stays low) is-shut = absurd (omega (arith, is-shut, low))
+landed-empty closes-both is-shut = refl
+
 module _ (e : Endpoint) (sound : Sound e) (role flow : ℕ) (message : MessageType) (type-data phase n : ℕ) (few : type-data < 256 ^ 2)
     (leads : rowOf role flow (e .phase) (e .n) message type-data ≡ To phase n) where
   -- an endpoint comes to the phase and n of its row, and stays the same in role, flow and limit
@@ -140,7 +145,7 @@ module _ (e : Endpoint) (sound : Sound e) (role flow : ℕ) (message : MessageTy
       go : (t : Bool) → eqb phase shut ≡ t → Sound (cond t (closed e) (atPhase e phase n)) → Comes e phase n (e .limit) (cond t (closed e) (atPhase e phase n))
       go true ends good =
           let same = eqb-true phase shut ends in
-          let none = moved-empties (row-moved role flow (e .phase) (e .n) message type-data phase n leads) same in
+          let none = landed-empty (moved-lands (row-moved role flow (e .phase) (e .n) message type-data phase n leads)) same in
           record { sound = good; phased = sym same; counted = sym none; role = refl; flow = refl; limited = refl }
       go false goes good = record { sound = good; phased = refl; counted = refl; role = refl; flow = refl; limited = refl }
 

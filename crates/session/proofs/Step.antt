@@ -67,9 +67,6 @@ gone-hears : (from end : End) {m : Packet} {a : Standing} → Hears from end Clo
 gone-hears from end late = refl
 
 module _ (flow limit serverFlow : ℕ) where
-  abbrev from : End
-  from = source flow
-
   -- two ends with what is on its way between them
   pub record Joint (end : End) (x y : Side Endpoint) : Type 0 where
     pub from-here : List Packet
@@ -119,7 +116,7 @@ module _ (flow limit serverFlow : ℕ) where
         }
 
   module _ (end : End) (x y : Side Endpoint) (p q : List Packet) (m : Packet) (linked : Linked flow limit serverFlow end x y p (m ∷ q)) (name format : List ℕ) where
-    heard-delivered : x .past .ending ≡ Going → (a : Standing) → Hears from end (At (stageOf (x .self))) m a → Meets from end a p (standing y) q
+    heard-delivered : x .past .ending ≡ Going → (a : Standing) → Hears (source flow) end (At (stageOf (x .self))) m a → Meets (source flow) end a p (standing y) q
         → offeredIn m (x .self) name format ≡ true → Delivered end x y m q name format
     heard-delivered going a hears meets offered =
         let taken = head-taken flow limit serverFlow end x y p q m linked going a hears name format offered in
@@ -133,7 +130,7 @@ module _ (flow limit serverFlow : ℕ) where
               };
         }
 
-    late-delivered : x .past .ending ≡ WroteClose → (a : Standing) → a ≡ ClosedByItself → Meets from end a p (standing y) q → Delivered end x y m q name format
+    late-delivered : x .past .ending ≡ WroteClose → (a : Standing) → a ≡ ClosedByItself → Meets (source flow) end a p (standing y) q → Delivered end x y m q name format
     unfolding unchanged
     late-delivered wrote a gone meets =
         let is-shut : x .self .phase ≡ shut = subst (λ (ending : Ending). PhaseFits ending (x .self .phase)) wrote (linked .here .ends) in
@@ -152,7 +149,7 @@ module _ (flow limit serverFlow : ℕ) where
 
   -- a packet that is not offered is an OPEN to a server
   unoffered-delivered : (end : End) (x y : Side Endpoint) (p q : List Packet) (m : Packet) → OpenOrOther m → (linked : Linked flow limit serverFlow end x y p (m ∷ q)) (name format : List ℕ)
-      → (going : x .past .ending ≡ Going) → (a : Standing) → Hears from end (At (stageOf (x .self))) m a
+      → (going : x .past .ending ≡ Going) → (a : Standing) → Hears (source flow) end (At (stageOf (x .self))) m a
       → offeredIn m (x .self) name format ≡ false → Delivered end x y m q name format
   unoffered-delivered Client x y p q m (an-open e asked wanted sent-room) linked name format going a hears other = absurd (clients-open (moves flow limit serverFlow Client x y p q m linked going a hears))
   unoffered-delivered Server x y p q m (an-open e asked wanted sent-room) linked name format going a hears other =
@@ -168,19 +165,19 @@ module _ (flow limit serverFlow : ℕ) where
   module _ (end : End) (x y : Side Endpoint) (p q : List Packet) (m : Packet) (linked : Linked flow limit serverFlow end x y p (m ∷ q)) (name format : List ℕ) where
     pub head-delivered : Delivered end x y m q name format
     head-delivered =
-        let step = hears-meets from end (linked .meets) in
+        let step = hears-meets (source flow) end (linked .meets) in
         by-ending (x .past .ending) refl (step .0) (step .1) (step .2)
       where
-        by-offer : x .past .ending ≡ Going → (a : Standing) → Hears from end (At (stageOf (x .self))) m a → Meets from end a p (standing y) q
+        by-offer : x .past .ending ≡ Going → (a : Standing) → Hears (source flow) end (At (stageOf (x .self))) m a → Meets (source flow) end a p (standing y) q
             → (t : Bool) → offeredIn m (x .self) name format ≡ t → Delivered end x y m q name format
         by-offer going a hears meets true offered = heard-delivered end x y p q m linked name format going a hears meets offered
         by-offer going a hears meets false other = unoffered-delivered end x y p q m (open-or-other m) linked name format going a hears other
 
-        by-ending : (ending : Ending) → x .past .ending ≡ ending → (a : Standing) → Hears from end (stands ending (x .self)) m a → Meets from end a p (standing y) q
+        by-ending : (ending : Ending) → x .past .ending ≡ ending → (a : Standing) → Hears (source flow) end (stands ending (x .self)) m a → Meets (source flow) end a p (standing y) q
             → Delivered end x y m q name format
         by-ending Going going a hears meets = by-offer going a hears meets (offeredIn m (x .self) name format) refl
-        by-ending HeardClose shut-down a hears meets = absurd (shut-hears from hears)
-        by-ending WroteClose wrote a hears meets = late-delivered end x y p q m linked name format wrote a (gone-hears from end hears) meets
+        by-ending HeardClose shut-down a hears meets = absurd (shut-hears (source flow) hears)
+        by-ending WroteClose wrote a hears meets = late-delivered end x y p q m linked name format wrote a (gone-hears (source flow) end hears) meets
 
   -- the queue of y, as the packets that it holds, is received by x
   received-keeps : (end : End) (x y : Side Endpoint) (p q : List Packet) → Linked flow limit serverFlow end x y p q → (name format : List ℕ) (room : ℕ)

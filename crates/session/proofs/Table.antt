@@ -12,7 +12,7 @@ use Rattle.endpoint.specs.Record.{client, producer, fresh, opening, idle, offer
 use Rattle.table.specs.declared.Row.{Row}
 use Rattle.table.specs.declared.Row.the-variants.{NotAllowed, AboveOffer, To}
 use Rattle.table.specs.Table.{allowed, begun, closeRow, dataRow, noopRow, openRow, other, readyRow, rowOf, upTo}
-use Rattle.session.specs.World.{End, across, Client, Server}
+use Rattle.session.specs.World.{End, across, Ending, endedBy, Client, Server, Going}
 use Rattle.session.specs.Packets.{Packet, rowMessage, typeDataIn}
 use Rattle.session.specs.Turns.{roleOf, turn, Kind, kindOf, Stage, Standing, Active, Alive, Leads, Hears, Moves, Stays, Ends, At, ClosedByOther, ClosedByItself, moved, rested, closed}
 
@@ -127,18 +127,22 @@ moved-low (rests low high) = high
 moved-low (closes low high) = high
 
 -- a batch or an offer that begins is no phase 5
-pub begun-low : {begins count next m : ℕ} → begins ≤ batch → Begun begins count next m → next ≤ batch
+begun-low : {begins count next m : ℕ} → begins ≤ batch → Begun begins count next m → next ≤ batch
 begun-low low (nothing none) = omega arith
 begun-low low (something some) = low
 
--- and a row that leads there leaves no n
-pub moved-empties : {role flow phase n type-data next count : ℕ} {message : MessageType} → Moved role flow phase n message type-data next count → next ≡ shut → count ≡ 0
-moved-empties (opens role begins) is-shut = refl
-moved-empties (offers differs low high begins) is-shut = absurd (omega (arith, is-shut, begun-low {begins = offer} (omega arith) begins))
-moved-empties (takes role offered few begins) is-shut = absurd (omega (arith, is-shut, begun-low {begins = batch} (omega arith) begins))
-moved-empties (gives produces batched begins) is-shut = absurd (omega (arith, is-shut, begun-low {begins = batch} (omega arith) begins))
-moved-empties (rests low high) is-shut = absurd (omega (arith, is-shut, high))
-moved-empties (closes low high) is-shut = refl
+-- where a row leads: to a phase in which neither end has closed by it, or, by a CLOSE, to phase 5 without n
+pub data Landed : MessageType → ℕ → ℕ → Type 0 where
+  goes-on : {message : MessageType} {next count : ℕ} → ((how : Ending) → endedBy how message Going ≡ Going) → next ≤ batch → Landed message next count
+  closes-both : Landed Close shut 0
+
+pub moved-lands : {role flow phase n type-data next count : ℕ} {message : MessageType} → Moved role flow phase n message type-data next count → Landed message next count
+moved-lands (opens role begins) = goes-on {next = opening} (λ how. refl) (omega arith)
+moved-lands (offers differs low high begins) = goes-on (λ how. refl) (begun-low {begins = offer} (omega arith) begins)
+moved-lands (takes role offered few begins) = goes-on (λ how. refl) (begun-low {begins = batch} (omega arith) begins)
+moved-lands (gives produces batched begins) = goes-on (λ how. refl) (begun-low {begins = batch} (omega arith) begins)
+moved-lands (rests low high) = goes-on (λ how. refl) high
+moved-lands (closes low high) = closes-both
 
 -- and each of these leads on
 
@@ -173,7 +177,7 @@ of-flow seen there (gives produces batched begins) = gives (there batched) batch
 of-flow seen there (rests low high) = rests low high
 of-flow seen there (closes low high) = closes low high
 
--- where a token leads: from phase 0 to 1, or to 2, 3 or 4
+-- where a message that moves leads: from phase 0 to 1, or to 2, 3 or 4
 data Onward (phase next : ℕ) : Type 0 where
   first : phase ≡ fresh → next ≡ opening → Onward phase next
   later : idle ≤ next → next ≤ batch → Onward phase next
@@ -182,13 +186,13 @@ begun-onward : {phase begins count next m : ℕ} → idle ≤ begins → begins 
 begun-onward low high (nothing none) = later (omega arith) (omega arith)
 begun-onward low high (something some) = later low high
 
-token-onward : {role flow phase n type-data next count : ℕ} {message : MessageType} → kindOf message ≡ Moves → Moved role flow phase n message type-data next count → Onward phase next
-token-onward token (opens is-client begins) = first begins refl
-token-onward token (offers differs low high begins) = begun-onward (omega arith) (omega arith) begins
-token-onward token (takes is-client offered few begins) = begun-onward (omega arith) (omega arith) begins
-token-onward token (gives produces batched begins) = begun-onward (omega arith) (omega arith) begins
-token-onward token (rests low high) = later low high
-token-onward token (closes low high) = let z : _≡_ {A = ℕ} 0 1 = cc in absurd (omega arith)
+moves-onward : {role flow phase n type-data next count : ℕ} {message : MessageType} → kindOf message ≡ Moves → Moved role flow phase n message type-data next count → Onward phase next
+moves-onward moving (opens is-client begins) = first begins refl
+moves-onward moving (offers differs low high begins) = begun-onward (omega arith) (omega arith) begins
+moves-onward moving (takes is-client offered few begins) = begun-onward (omega arith) (omega arith) begins
+moves-onward moving (gives produces batched begins) = begun-onward (omega arith) (omega arith) begins
+moves-onward moving (rests low high) = later low high
+moves-onward moving (closes low high) = let z : _≡_ {A = ℕ} 0 1 = cc in absurd (omega arith)
 
 onward-alive : {phase next : ℕ} → Onward phase next → (opening ≤ next) × (next ≤ batch)
 onward-alive (first begins opened) = (omega arith, omega arith)
@@ -198,9 +202,9 @@ onward-active : {phase next : ℕ} → Onward phase next → idle ≤ phase → 
 onward-active (first begins opened) active = absurd (omega arith)
 onward-active (later low high) active = (low, high)
 
-module _ (source : End) (s : Stage) (m : Packet) (t : Stage) (token : kindOf (rowMessage m) ≡ Moves) (leads : Leads source s m t) where
+module _ (source : End) (s : Stage) (m : Packet) (t : Stage) (moving : kindOf (rowMessage m) ≡ Moves) (leads : Leads source s m t) where
   leads-onward : Onward (s .phase) (t .phase)
-  leads-onward = token-onward token (row-moved (roleOf (turn source (s .phase))) producer (s .phase) (s .n) (rowMessage m) (typeDataIn m) (t .phase) (t .n) leads)
+  leads-onward = moves-onward moving (row-moved (roleOf (turn source (s .phase))) producer (s .phase) (s .n) (rowMessage m) (typeDataIn m) (t .phase) (t .n) leads)
 
   pub leads-alive : Alive (t .phase)
   leads-alive = onward-alive leads-onward
@@ -208,14 +212,14 @@ module _ (source : End) (s : Stage) (m : Packet) (t : Stage) (token : kindOf (ro
   pub leads-active : Active (s .phase) → Active (t .phase)
   leads-active active = onward-active leads-onward (active .0)
 
--- an end sends: a token only where it is its turn
+-- an end sends: what moves the stage only where it is its turn
 module _ (source : End) where
   pub data Sends (end : End) : Standing → Packet → Standing → Type 0 where
     moves : {s t : Stage} {m : Packet} → kindOf (rowMessage m) ≡ Moves → turn source (s .phase) ≡ end → Leads source s m t → Sends end (At s) m (At t)
     calms : {s : Stage} {m : Packet} → kindOf (rowMessage m) ≡ Stays → Active (s .phase) → Sends end (At s) m (At s)
     ends : {s : Stage} {m : Packet} → kindOf (rowMessage m) ≡ Ends → Alive (s .phase) → Sends end (At s) m ClosedByItself
 
--- whose token it is
+-- whose turn it is
 
 is-client : (end : End) → roleOf end ≡ client → Client ≡ end
 is-client Client _ = refl
@@ -230,15 +234,15 @@ unfolding turn
 turn-batch source phase batched = simp batched refl
 
 module _ (source end : End) where
-  token-turn : {flow phase n type-data next count : ℕ} {message : MessageType} → kindOf message ≡ Moves → (flow ≡ producer → phase ≡ batch → source ≡ end) → Moved (roleOf end) flow phase n message type-data next count → turn source phase ≡ end
+  moves-turn : {flow phase n type-data next count : ℕ} {message : MessageType} → kindOf message ≡ Moves → (flow ≡ producer → phase ≡ batch → source ≡ end) → Moved (roleOf end) flow phase n message type-data next count → turn source phase ≡ end
   unfolding turn
-  token-turn token there (opens role begins) = simp begins (is-client end role)
-  token-turn {phase = phase} token there (offers differs low high begins) =
+  moves-turn moving there (opens role begins) = simp begins (is-client end role)
+  moves-turn {phase = phase} moving there (offers differs low high begins) =
       simp (ne-eqb phase fresh (λ same. omega arith), ne-eqb phase offer (λ same. omega arith), ne-eqb phase batch (λ same. omega arith)) (is-server end differs)
-  token-turn token there (takes role offered few begins) = simp offered (is-client end role)
-  token-turn {phase = phase} token there (gives produces batched begins) = turn-batch source phase batched ∙ there produces batched
-  token-turn token there (rests low high) = let z : _≡_ {A = ℕ} 0 1 = cc in absurd (omega arith)
-  token-turn token there (closes low high) = let z : _≡_ {A = ℕ} 0 1 = cc in absurd (omega arith)
+  moves-turn moving there (takes role offered few begins) = simp offered (is-client end role)
+  moves-turn {phase = phase} moving there (gives produces batched begins) = turn-batch source phase batched ∙ there produces batched
+  moves-turn moving there (rests low high) = let z : _≡_ {A = ℕ} 0 1 = cc in absurd (omega arith)
+  moves-turn moving there (closes low high) = let z : _≡_ {A = ℕ} 0 1 = cc in absurd (omega arith)
 
 -- where a row leads an end that sends
 abbrev pub landing : ℕ → ℕ → Standing
@@ -251,19 +255,19 @@ module _ (source end : End) (flow phase n : ℕ) (m : Packet) where
   abbrev From : Standing → Type 0
   From = Sends source end (At (record { phase = phase; n = n })) m
 
-  token-sends : (next count : ℕ) → (flow ≡ producer → phase ≡ batch → source ≡ end) → kindOf (rowMessage m) ≡ Moves
+  moving-sends : (next count : ℕ) → (flow ≡ producer → phase ≡ batch → source ≡ end) → kindOf (rowMessage m) ≡ Moves
       → Moved (roleOf end) flow phase n (rowMessage m) (typeDataIn m) next count → From (landing next count)
-  token-sends next count there token move =
-      let own = token-turn source end token there move in
+  moving-sends next count there moving move =
+      let own = moves-turn source end moving there move in
       let row = moved-row (of-flow producer (λ batched. refl) move) in
-      subst From (landing-at next count (onward-alive (token-onward token move) .1))
-      (moves token own (ap (λ turning. rowOf (roleOf turning) producer phase n (rowMessage m) (typeDataIn m)) own ∙ row))
+      subst From (landing-at next count (onward-alive (moves-onward moving move) .1))
+      (moves moving own (ap (λ turning. rowOf (roleOf turning) producer phase n (rowMessage m) (typeDataIn m)) own ∙ row))
 
-  quiet-sends : {role type-data next count : ℕ} → kindOf (rowMessage m) ≡ Stays → Moved role flow phase n Noop type-data next count → From (landing next count)
-  quiet-sends quiet (rests low high) = subst From (landing-at phase n high) (calms quiet (low, high))
+  staying-sends : {role type-data next count : ℕ} → kindOf (rowMessage m) ≡ Stays → Moved role flow phase n Noop type-data next count → From (landing next count)
+  staying-sends quiet (rests low high) = subst From (landing-at phase n high) (calms quiet (low, high))
 
-  closing-sends : {role type-data next count : ℕ} → kindOf (rowMessage m) ≡ Ends → Moved role flow phase n Close type-data next count → From (landing next count)
-  closing-sends closing (closes low high) = ends closing (low, high)
+  ending-sends : {role type-data next count : ℕ} → kindOf (rowMessage m) ≡ Ends → Moved role flow phase n Close type-data next count → From (landing next count)
+  ending-sends closing (closes low high) = ends closing (low, high)
 
   -- an allowed send is a move
   pub row-sends : (next count : ℕ) → rowOf (roleOf end) flow phase n (rowMessage m) (typeDataIn m) ≡ To next count → (flow ≡ producer → phase ≡ batch → source ≡ end)
@@ -272,11 +276,11 @@ module _ (source end : End) (flow phase n : ℕ) (m : Packet) where
       go (rowMessage m) refl (row-moved (roleOf end) flow phase n (rowMessage m) (typeDataIn m) next count leads)
     where
       go : (message : MessageType) → rowMessage m ≡ message → Moved (roleOf end) flow phase n (rowMessage m) (typeDataIn m) next count → From (landing next count)
-      go Open same move = token-sends next count there (ap kindOf same) move
-      go Ready same move = token-sends next count there (ap kindOf same) move
-      go Noop same move = quiet-sends (ap kindOf same) (rw same at move)
-      go Data same move = token-sends next count there (ap kindOf same) move
-      go Close same move = closing-sends (ap kindOf same) (rw same at move)
+      go Open same move = moving-sends next count there (ap kindOf same) move
+      go Ready same move = moving-sends next count there (ap kindOf same) move
+      go Noop same move = staying-sends (ap kindOf same) (rw same at move)
+      go Data same move = moving-sends next count there (ap kindOf same) move
+      go Close same move = ending-sends (ap kindOf same) (rw same at move)
 
 -- the phase and n of where a hearer is led
 abbrev pub phaseIn : Standing → ℕ
@@ -315,7 +319,7 @@ sole-row kind role flow phase n message type-data same =
 pub row-hears : (source end : End) (flow : ℕ) (s : Stage) (m : Packet) (a : Standing) → Hears source end (At s) m a
     → (source ≡ across end → s .phase ≡ batch → other flow ≡ producer)
     → rowOf (other (roleOf end)) (other flow) (s .phase) (s .n) (rowMessage m) (typeDataIn m) ≡ To (phaseIn a) (nIn a)
-row-hears source end flow s m (At t) (moved token theirs leads) there =
+row-hears source end flow s m (At t) (moved moving theirs leads) there =
     let role = ap roleOf theirs ∙ other-role end in
     let move = row-moved (other (roleOf end)) producer (s .phase) (s .n) (rowMessage m) (typeDataIn m) (t .phase) (t .n) (rw role at leads) in
     moved-row (of-flow (other flow) (λ batched. there (sym (turn-batch source (s .phase) batched) ∙ theirs) batched) move)

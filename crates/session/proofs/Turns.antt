@@ -17,11 +17,11 @@ pub across-differs : (end : End) → across end ≡ end → ⊥
 across-differs Client same = let z : _≡_ {A = ℕ} 0 1 = cc in omega arith
 across-differs Server same = let z : _≡_ {A = ℕ} 0 1 = cc in omega arith
 
-token-not-quiet : {kind : Kind} → kind ≡ Moves → kind ≡ Stays → ⊥
-token-not-quiet token is-quiet = let z : _≡_ {A = ℕ} 0 1 = cc in omega arith
+moves-not-stays : {kind : Kind} → kind ≡ Moves → kind ≡ Stays → ⊥
+moves-not-stays moving is-quiet = let z : _≡_ {A = ℕ} 0 1 = cc in omega arith
 
-token-not-closing : {kind : Kind} → kind ≡ Moves → kind ≡ Ends → ⊥
-token-not-closing token closing = let z : _≡_ {A = ℕ} 0 1 = cc in omega arith
+moves-not-ends : {kind : Kind} → kind ≡ Moves → kind ≡ Ends → ⊥
+moves-not-ends moving closing = let z : _≡_ {A = ℕ} 0 1 = cc in omega arith
 
 module _ (source : End) where
   across-drains : (end : End) {a b : Standing} {q : List Packet} → Drains source end a q b → Drains source (across (across end)) a q b
@@ -70,13 +70,13 @@ module _ (source : End) where
 
   active-drains : {end : End} {s t : Stage} {q : List Packet} → Active (s .phase) → Drains source end (At s) q (At t) → Active (t .phase)
   active-drains active empty = active
-  active-drains active (head (moved {s = s} {t = t} {m = m} token theirs leads) drains) = active-drains (leads-active source s m t token leads active) drains
+  active-drains active (head (moved {s = s} {t = t} {m = m} moving theirs leads) drains) = active-drains (leads-active source s m t moving leads active) drains
   active-drains active (head (rested is-quiet _) drains) = active-drains active drains
   active-drains active (head (closed closing alive) drains) = absurd (shut-drains drains)
 
   alive-drains : {end : End} {s t : Stage} {q : List Packet} → Alive (s .phase) → Drains source end (At s) q (At t) → Alive (t .phase)
   alive-drains alive empty = alive
-  alive-drains alive (head (moved {s = s} {t = t} {m = m} token theirs leads) drains) = alive-drains (leads-alive source s m t token leads) drains
+  alive-drains alive (head (moved {s = s} {t = t} {m = m} moving theirs leads) drains) = alive-drains (leads-alive source s m t moving leads) drains
   alive-drains alive (head (rested is-quiet active) drains) = alive-drains alive drains
   alive-drains alive (head (closed closing _) drains) = absurd (shut-drains drains)
 
@@ -93,38 +93,38 @@ module _ (source : End) where
 
   own-waits : (end : End) {s t : Stage} {q : List Packet} → turn source (s .phase) ≡ end → Drains source end (At s) q (At t) → Waits s q t
   own-waits end own empty = waits nothing
-  own-waits end own (head (moved {s = s} token theirs leads) drains) = not-theirs end s own theirs
+  own-waits end own (head (moved {s = s} moving theirs leads) drains) = not-theirs end s own theirs
   own-waits end own (head (rested is-quiet active) drains) = waits-more is-quiet active (own-waits end own drains)
   own-waits end own (head (closed closing alive) drains) = absurd (shut-drains drains)
 
-  -- or, if the other end has closed, packets that do as much after its own token
+  -- or, if the other end has closed, packets that do as much after its own message
   own-ended : (end : End) {s : Stage} (m : Packet) (t : Stage) {e : Standing} {q : List Packet} → kindOf (rowMessage m) ≡ Moves → turn source (s .phase) ≡ end → Leads source s m t
       → (IsOpen e → ⊥) → Drains source end (At s) q e → Drains source end (At t) q e
-  own-ended end m t token own leads ended empty = absurd (ended tt)
-  own-ended end m t token own leads ended (head (moved {s = s} _ theirs _) drains) = not-theirs end s own theirs
-  own-ended end m t token own leads ended (head (rested {s = s} is-quiet active) drains) =
-      head (rested is-quiet (leads-active source s m t token leads active)) (own-ended end m t token own leads ended drains)
-  own-ended end m t token own leads ended (head (closed {s = s} closing alive) drains) = head (closed closing (leads-alive source s m t token leads)) drains
+  own-ended end m t moving own leads ended empty = absurd (ended tt)
+  own-ended end m t moving own leads ended (head (moved {s = s} _ theirs _) drains) = not-theirs end s own theirs
+  own-ended end m t moving own leads ended (head (rested {s = s} is-quiet active) drains) =
+      head (rested is-quiet (leads-active source s m t moving leads active)) (own-ended end m t moving own leads ended drains)
+  own-ended end m t moving own leads ended (head (closed {s = s} closing alive) drains) = head (closed closing (leads-alive source s m t moving leads)) drains
 
   -- an end sends
 
   theirs-too : (end : End) {s t : Stage} {m : Packet} → kindOf (rowMessage m) ≡ Moves → turn source (s .phase) ≡ end → Leads source s m t → Hears source (across end) (At s) m (At t)
-  theirs-too end token own leads = moved token (own ∙ across-twice end) leads
+  theirs-too end moving own leads = moved moving (own ∙ across-twice end) leads
 
   waits-meets : (end : End) {s t u : Stage} {p q : List Packet} (m : Packet) → Still u p → Waits s q u → kindOf (rowMessage m) ≡ Moves → turn source (s .phase) ≡ end → Leads source s m t
       → Meets source end (At t) (p ++ (m ∷ [])) (At u) q
-  waits-meets end {s = s} {t = t} m still (waits still-across) token own leads =
-      ahead (still-elsewhere (leads-active source s m t token leads) still-across) (drains-last (still-drains still) (theirs-too end token own leads))
+  waits-meets end {s = s} {t = t} m still (waits still-across) moving own leads =
+      ahead (still-elsewhere (leads-active source s m t moving leads) still-across) (drains-last (still-drains still) (theirs-too end moving own leads))
 
   pub sends-meets : (end : End) {a b c : Standing} {p q : List Packet} {m : Packet} → Meets source end a p b q → Sends source end a m c → Meets source end c (p ++ (m ∷ [])) b q
-  sends-meets end (ahead still drains) (moves {s = s} {t = t} {m = m} token own leads) =
-      ahead (still-elsewhere (leads-active source s m t token leads) still) (drains-last drains (theirs-too end token own leads))
+  sends-meets end (ahead still drains) (moves {s = s} {t = t} {m = m} moving own leads) =
+      ahead (still-elsewhere (leads-active source s m t moving leads) still) (drains-last drains (theirs-too end moving own leads))
   sends-meets end (ahead still drains) (calms is-quiet active) = ahead still (drains-last drains (rested is-quiet active))
   sends-meets end (ahead still drains) (ends closing alive) = over (λ is-open. is-open) (drains-last drains (closed closing alive))
-  sends-meets end (behind still drains) (moves {m = m} token own leads) = waits-meets end m still (own-waits end own drains) token own leads
+  sends-meets end (behind still drains) (moves {m = m} moving own leads) = waits-meets end m still (own-waits end own drains) moving own leads
   sends-meets end (behind still drains) (calms {m = m} is-quiet active) = behind (still-last m is-quiet (active-drains active drains) still) drains
   sends-meets end (behind still drains) (ends closing alive) = over (λ is-open. is-open) (drains-last (still-drains still) (closed closing (alive-drains alive drains)))
-  sends-meets end (over-across ended drains) (moves {t = t} {m = m} token own leads) = over-across ended (own-ended end m t token own leads ended drains)
+  sends-meets end (over-across ended drains) (moves {t = t} {m = m} moving own leads) = over-across ended (own-ended end m t moving own leads ended drains)
   sends-meets end (over-across ended drains) (calms is-quiet active) = over-across ended drains
   sends-meets end (over-across ended drains) (ends closing alive) = over-across (λ is-open. is-open) (gone-drains _)
 
@@ -135,15 +135,15 @@ module _ (source : End) where
   hears-meets end (over ended drains) = (_, late, over ended drains)
   hears-meets end (over-across ended (head hears drains)) = (_, hears, over-across ended drains)
 
-  -- an end refuses a token, and closes
+  -- an end refuses a message that moves the stage, and closes
   pub refuses-meets : (end : End) {s : Stage} {b : Standing} {p q : List Packet} {m : Packet} (close : Packet) → kindOf (rowMessage m) ≡ Moves → kindOf (rowMessage close) ≡ Ends
       → Meets source end (At s) p b (m ∷ q) → Meets source end ClosedByItself (p ++ (close ∷ [])) b q
-  refuses-meets end close token closing (ahead (quiet is-quiet active still) drains) = absurd (token-not-quiet token is-quiet)
-  refuses-meets end close token closing (behind still (head (moved {s = s} {t = t} {m = m} _ theirs leads) drains)) =
-      over (λ is-open. is-open) (drains-last (still-drains still) (closed closing (alive-drains (leads-alive source s m t token leads) drains)))
-  refuses-meets end close token closing (behind still (head (rested is-quiet active) drains)) = absurd (token-not-quiet token is-quiet)
-  refuses-meets end close token closing (behind still (head (closed also alive) drains)) = absurd (token-not-closing token also)
-  refuses-meets end close token closing (over-across ended drains) = over-across (λ is-open. is-open) (gone-drains _)
+  refuses-meets end close moving closing (ahead (quiet is-quiet active still) drains) = absurd (moves-not-stays moving is-quiet)
+  refuses-meets end close moving closing (behind still (head (moved {s = s} {t = t} {m = m} _ theirs leads) drains)) =
+      over (λ is-open. is-open) (drains-last (still-drains still) (closed closing (alive-drains (leads-alive source s m t moving leads) drains)))
+  refuses-meets end close moving closing (behind still (head (rested is-quiet active) drains)) = absurd (moves-not-stays moving is-quiet)
+  refuses-meets end close moving closing (behind still (head (closed also alive) drains)) = absurd (moves-not-ends moving also)
+  refuses-meets end close moving closing (over-across ended drains) = over-across (λ is-open. is-open) (gone-drains _)
 
   -- with nothing on its way both stand at one stage
   pub rests-meets : (end : End) {s t : Stage} → Meets source end (At s) [] (At t) [] → s ≡ t

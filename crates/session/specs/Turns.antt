@@ -82,7 +82,7 @@ module _ (source : End) where
   Leads s m t =
       rowOf (roleOf (turn source (s .phase))) producer (s .phase) (s .n) (rowMessage m) (typeDataIn m) ≡ To (t .phase) (t .n)
 
-  -- an end receives: a token only where it is the other's turn, and after its own close anything
+  -- an end receives: what moves the stage only where it is the other's turn, and after its own close anything
   pub data Hears (end : End) : Standing → Packet → Standing → Type 0 where
     moved : {s t : Stage} {m : Packet} → kindOf (rowMessage m) ≡ Moves → turn source (s .phase) ≡ across end → Leads s m t → Hears end (At s) m (At t)
     rested : {s : Stage} {m : Packet} → kindOf (rowMessage m) ≡ Stays → Active (s .phase) → Hears end (At s) m (At s)
