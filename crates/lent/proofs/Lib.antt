@@ -1,0 +1,3 @@
+-- `Lending` has what the walks share, `Determined` that each contract allows one result.
+pub mod Lending
+pub mod Determined
