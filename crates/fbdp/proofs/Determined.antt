@@ -1,7 +1,8 @@
 -- For each entry: any two results which meet its contract, at the same arguments, coincide. Assumes nothing.
-use mathlib.Core.Path.{_≡_, sym, _∙_}
+use mathlib.Core.Path.{_≡_}
 use mathlib.Core.List.{List}
 use Prim.Native.Nat.{ℕ}
+use Rattle.bytes_be.proofs.Determined.{coincide}
 use Rattle.endpoint.specs.declared.Endpoint.{Endpoint}
 use Rattle.sending.specs.Calls.{Call}
 use Rattle.fbdp.specs.Entries.{FrameAnswer, ValueAnswer, LookupAnswer}
@@ -9,19 +10,19 @@ use Rattle.fbdp.specs.Blocks.{MakeAnswer, SendAnswer, ReceiveAnswer}
 
 pub frame-determined : {bundle : List ℕ} {index number number′ : ℕ} {slots slots′ : List ℕ} → FrameAnswer bundle index number slots →
     FrameAnswer bundle index number′ slots′ → (number ≡ number′) × (slots ≡ slots′)
-frame-determined one other = (one .numbered ∙ sym (other .numbered), one .told ∙ sym (other .told))
+frame-determined one other = (coincide (one .numbered) (other .numbered), coincide (one .told) (other .told))
 
 pub value-determined : {bytes : List ℕ} {number number′ : ℕ} {slots slots′ : List ℕ} → ValueAnswer bytes number slots →
     ValueAnswer bytes number′ slots′ → (number ≡ number′) × (slots ≡ slots′)
-value-determined one other = (one .numbered ∙ sym (other .numbered), one .told ∙ sym (other .told))
+value-determined one other = (coincide (one .numbered) (other .numbered), coincide (one .told) (other .told))
 
 pub lookup-determined : {client defaults key : List ℕ} {number number′ : ℕ} {slots slots′ : List ℕ} → LookupAnswer client defaults key number slots →
     LookupAnswer client defaults key number′ slots′ → (number ≡ number′) × (slots ≡ slots′)
-lookup-determined one other = (one .numbered ∙ sym (other .numbered), one .told ∙ sym (other .told))
+lookup-determined one other = (coincide (one .numbered) (other .numbered), coincide (one .told) (other .told))
 
 pub make-determined : {made : Endpoint} {before : List ℕ} {number number′ : ℕ} {after after′ : List ℕ} →
     MakeAnswer made before number after → MakeAnswer made before number′ after′ → (number ≡ number′) × (after ≡ after′)
-make-determined one other = (one .numbered ∙ sym (other .numbered), one .kept ∙ sym (other .kept))
+make-determined one other = (coincide (one .numbered) (other .numbered), coincide (one .kept) (other .kept))
 
 pub send-determined : {call : Call} {block out : List ℕ} {number number′ count count′ : ℕ} {block₁ block₂ out₁ out₂ : List ℕ} →
     SendAnswer call block out number count block₁ out₁ → SendAnswer call block out number′ count′ block₂ out₂ →
@@ -29,10 +30,10 @@ pub send-determined : {call : Call} {block out : List ℕ} {number number′ cou
 send-determined one other =
     let first = one .finished in
     let second = other .finished in
-    (first .numbered ∙ sym (second .numbered), first .counted ∙ sym (second .counted), first .kept ∙ sym (second .kept), one .left ∙ sym (other .left))
+    (coincide (first .numbered) (second .numbered), coincide (first .counted) (second .counted), coincide (first .kept) (second .kept), coincide (one .left) (other .left))
 
 pub receive-determined : {s name format block out : List ℕ} {number number′ : ℕ} {slots slots′ block₁ block₂ out₁ out₂ : List ℕ} →
     ReceiveAnswer s name format block out number slots block₁ out₁ → ReceiveAnswer s name format block out number′ slots′ block₂ out₂ →
     (number ≡ number′) × (slots ≡ slots′) × (block₁ ≡ block₂) × (out₁ ≡ out₂)
 receive-determined one other =
-    (one .numbered ∙ sym (other .numbered), one .told ∙ sym (other .told), one .kept ∙ sym (other .kept), one .left ∙ sym (other .left))
+    (coincide (one .numbered) (other .numbered), coincide (one .told) (other .told), coincide (one .kept) (other .kept), coincide (one .left) (other .left))

@@ -1,7 +1,8 @@
 -- For the sends and receive of a record that is lent: any two results which meet the contract, at the same arguments, coincide. Assumes nothing.
-use mathlib.Core.Path.{_∙_, _≡_, sym}
+use mathlib.Core.Path.{_≡_}
 use Prim.Native.Nat.{ℕ}
 use mathlib.Core.List.{List}
+use Rattle.bytes_be.proofs.Determined.{coincide}
 use Rattle.endpoint.specs.declared.Endpoint.{Endpoint}
 use Rattle.sending.specs.Calls.{Call}
 use Rattle.lent.specs.declared.Told.{Told}
@@ -10,9 +11,9 @@ use Rattle.lent.specs.Lent.{SendAnswer, ReceiveAnswer}
 
 pub send-determined : {e : Endpoint} {call : Call} {before : List ℕ} {told told′ : Told} {next next′ : Endpoint} {after after′ : List ℕ} →
     SendAnswer e call before told next after → SendAnswer e call before told′ next′ after′ → (told ≡ told′) × (next ≡ next′) × (after ≡ after′)
-send-determined one other = (one .answered ∙ sym (other .answered), one .changed ∙ sym (other .changed), one .left ∙ sym (other .left))
+send-determined one other = (coincide (one .answered) (other .answered), coincide (one .changed) (other .changed), coincide (one .left) (other .left))
 
 pub receive-determined : {e : Endpoint} {s name format before : List ℕ} {outcome outcome′ : Outcome} {next next′ : Endpoint} {after after′ : List ℕ} →
     ReceiveAnswer e s name format before outcome next after → ReceiveAnswer e s name format before outcome′ next′ after′ →
     (outcome ≡ outcome′) × (next ≡ next′) × (after ≡ after′)
-receive-determined one other = (one .answered ∙ sym (other .answered), one .changed ∙ sym (other .changed), one .left ∙ sym (other .left))
+receive-determined one other = (coincide (one .answered) (other .answered), coincide (one .changed) (other .changed), coincide (one .left) (other .left))

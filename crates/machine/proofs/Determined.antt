@@ -1,7 +1,8 @@
 -- For the sends and receive of a record: any two results which meet the contract, at the same arguments, coincide. Assumes nothing.
-use mathlib.Core.Path.{_∙_, _≡_, sym}
+use mathlib.Core.Path.{_≡_}
 use Prim.Native.Nat.{ℕ}
 use mathlib.Core.List.{List}
+use Rattle.bytes_be.proofs.Determined.{coincide}
 use Rattle.endpoint.specs.declared.Endpoint.{Endpoint}
 use Rattle.receiving.specs.declared.Received.{Received}
 use Rattle.receiving.specs.Receiving.{ReceiveAnswer}
@@ -11,9 +12,9 @@ use Rattle.sending.specs.Sending.{SendAnswer}
 
 pub sent-determined : (e : Endpoint) (call : Call) {before : List ℕ} {sent sent′ : Sent} {after after′ : List ℕ} →
     SendAnswer e call before sent after → SendAnswer e call before sent′ after′ → (sent ≡ sent′) × (after ≡ after′)
-sent-determined e call one other = (one .answered ∙ sym (other .answered), one .left ∙ sym (other .left))
+sent-determined e call one other = (coincide (one .answered) (other .answered), coincide (one .left) (other .left))
 
 pub received-determined : {e : Endpoint} {s name format before : List ℕ} {received received′ : Received} {after after′ : List ℕ} →
     ReceiveAnswer e s name format before received after → ReceiveAnswer e s name format before received′ after′ →
     (received ≡ received′) × (after ≡ after′)
-received-determined one other = (one .answered ∙ sym (other .answered), one .left ∙ sym (other .left))
+received-determined one other = (coincide (one .answered) (other .answered), coincide (one .left) (other .left))

@@ -10,7 +10,7 @@ use Rattle.message.specs.declared.Message.{Message}
 use Rattle.message.specs.declared.Reading.{Reading}
 use Rattle.message.specs.declared.Reading.the-variants.{Read, Refused as Reading·Refused}
 use Rattle.message.specs.declared.Refusal.{Refusal}
-use Rattle.message.specs.Reading.{ifPasses, testOf, readingOf}
+use Rattle.message.specs.Reading.{readingOf}
 use Rattle.message.proofs.Inside.{read-refused}
 use Rattle.endpoint.specs.declared.Endpoint.{Endpoint}
 use Rattle.endpoint.specs.Record.{good, shut}
@@ -48,7 +48,7 @@ carried-closes e s name format m number stops =
     (omega (arith, among .0), omega (arith, among .1))
 
 module _ (Holds : Received → Type 0) (e : Endpoint) (s name format : List ℕ) where
-  by-test : (fails : Bool) (refusal next : Received) → Holds refusal → (fails ≡ false → Holds next) → Holds (ifPasses (testOf fails) refusal next)
+  by-test : (fails : Bool) (refusal next : Received) → Holds refusal → (fails ≡ false → Holds next) → Holds (cond fails refusal next)
   by-test true refusal next first second = first
   by-test false refusal next first second = second refl
 

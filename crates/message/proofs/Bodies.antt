@@ -19,7 +19,7 @@ use Rattle.message.specs.declared.Body.the-variants.{Nothing, At}
 use Rattle.message.specs.declared.Message.{Message}
 use Rattle.message.specs.declared.Reading.{Reading}
 use Rattle.message.specs.declared.Reading.the-variants.{Read}
-use Rattle.message.specs.Reading.{badFlags, badFrames, bodyIn, bodyOf, carries, ifPasses, readAs, readingOf, refused, testOf}
+use Rattle.message.specs.Reading.{badFlags, badFrames, bodyIn, bodyOf, carries, readAs, readingOf, refused}
 use Rattle.message.proofs.Stages.{OfMessage, by-stages}
 
 -- a test has one answer
@@ -68,18 +68,18 @@ module _ (s : List ℕ) (count size : ℕ) (control : Place) (contents : content
   -- what is read of a message whose type is known, where its body is what stands behind its control frame
   pub read-behind : (said : ℕ) (message : MessageType) (flags type-data : ℕ) (body : Body) → body ≡ cond (carries message flags) behind Nothing →
       readAs s said message flags type-data (count - 1) size ≡
-      ifPasses (testOf (badFlags message flags)) (refused 14 said)
-      (ifPasses (testOf (badFrames message flags (count - 1))) (refused 15 said)
+      cond (badFlags message flags) (refused 14 said)
+      (cond (badFrames message flags (count - 1)) (refused 15 said)
       (Read (record { message = message; flags = flags; «type_data» = type-data; frames = count - 1; size = size; body = body })))
   unfolding readAs
   read-behind said message flags type-data body is =
-      ap (ifPasses (testOf (badFlags message flags)) (refused 14 said)) (go (badFrames message flags (count - 1)) refl)
+      ap (cond (badFlags message flags) (refused 14 said)) (go (badFrames message flags (count - 1)) refl)
     where
       read-with : Body → Reading
       read-with body = Read (record { message = message; flags = flags; «type_data» = type-data; frames = count - 1; size = size; body = body })
 
       go : (t : Bool) → badFrames message flags (count - 1) ≡ t →
-          ifPasses (testOf t) (refused 15 said) (read-with (bodyOf s message flags)) ≡ ifPasses (testOf t) (refused 15 said) (read-with body)
+          cond t (refused 15 said) (read-with (bodyOf s message flags)) ≡ cond t (refused 15 said) (read-with body)
       go true bad = refl
       go false passes = ap read-with (body-behind message flags passes ∙ sym is)
 

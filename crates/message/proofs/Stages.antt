@@ -2,7 +2,7 @@
 use mathlib.Core.Path.{_≡_, refl}
 use Prim.Native.Nat.{_-_, _≤_, ℕ}
 use mathlib.Core.List.{List}
-use mathlib.Core.Bool.{Bool, true, false}
+use mathlib.Core.Bool.{Bool, true, false, cond}
 use native.Mathlib.Omega.{arith}
 use Rattle.bytes_be.specs.declared.Place.{Place}
 use Rattle.bytes_be.specs.Part.{partAt}
@@ -20,7 +20,7 @@ use Rattle.control.specs.Frame.{typeIn, signedOf, versionOf, knownTypeOf, ifSig
 use Rattle.message.specs.declared.Message.{Message}
 use Rattle.message.specs.declared.Reading.{Reading}
 use Rattle.message.specs.declared.Reading.the-variants.{Read, Refused}
-use Rattle.message.specs.Reading.{badFlags, badFrames, bodyOf, ifPasses, readAs, readingOf, refused, testOf}
+use Rattle.message.specs.Reading.{badFlags, badFrames, bodyOf, readAs, readingOf, refused}
 
 -- the numbers that refuse a message while it is read
 abbrev pub WhileReading : ℕ → Type 0
@@ -50,7 +50,7 @@ module _ (Holds : Message → Type 0) where
   by-type (Known message) number said early next h = h message
   by-type Unknown number said early next h = early
 
-  by-test : (fails : Bool) (number said : ℕ) → WhileReading number → (next : Reading) → (fails ≡ false → OfMessage Holds next) → OfMessage Holds (ifPasses (testOf fails) (refused number said) next)
+  by-test : (fails : Bool) (number said : ℕ) → WhileReading number → (next : Reading) → (fails ≡ false → OfMessage Holds next) → OfMessage Holds (cond fails (refused number said) next)
   by-test true number said early next h = early
   by-test false number said early next h = h refl
 

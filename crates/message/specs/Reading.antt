@@ -74,16 +74,11 @@ bodyPlace (At place) = place
 abbrev pub refused : ℕ → ℕ → Reading
 refused number said = Refused (record { number = number; said = said })
 
--- what follows a test that is passed, or the refusal of one that is not
-abbrev pub ifPasses : {A : Type 0} → Test → A → A → A
-ifPasses Passes refused next = next
-ifPasses Fails refused next = refused
-
 -- 14, 15, and else the message
 abbrev pub tested : ℕ → Message → Reading
 tested said whole =
-    ifPasses (testOf (badFlags (whole .message) (whole .flags))) (refused 14 said)
-    (ifPasses (testOf (badFrames (whole .message) (whole .flags) (whole .frames))) (refused 15 said)
+    cond (badFlags (whole .message) (whole .flags)) (refused 14 said)
+    (cond (badFrames (whole .message) (whole .flags) (whole .frames)) (refused 15 said)
     (Read whole))
 
 unfoldable pub readAs : List ℕ → ℕ → MessageType → ℕ → ℕ → ℕ → ℕ → Reading

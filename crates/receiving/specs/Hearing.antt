@@ -17,7 +17,7 @@ use Rattle.message.specs.declared.Body.the-variants.{Nothing as Body·Nothing, 
 use Rattle.message.specs.declared.Message.{Message}
 use Rattle.message.specs.declared.Reading.{Reading}
 use Rattle.message.specs.declared.Reading.the-variants.{Read, Refused as Reading·Refused}
-use Rattle.message.specs.Reading.{testOf, bodyPlace, ifPasses, readingOf}
+use Rattle.message.specs.Reading.{bodyPlace, readingOf}
 use Rattle.endpoint.specs.declared.Endpoint.{Endpoint}
 use Rattle.endpoint.specs.Record.{shut, oldest, confirmed, limited}
 use Rattle.table.specs.declared.Row.{Row}
@@ -149,15 +149,15 @@ ifRead (Read m) refuse next = next m
 -- 23, 24, and else the message is heard
 unfoldable pub hearContent : Endpoint → Message → Row → Content → Received
 hearContent e m row content =
-    ifPasses (testOf (aboveOffer row)) (refused e (hearNumber AboveOffer) (typeOf (m .message)))
-    (ifPasses (testOf (unmatched e m)) (refused e 24 (typeOf (m .message)))
+    cond (aboveOffer row) (refused e (hearNumber AboveOffer) (typeOf (m .message)))
+    (cond (unmatched e m) (refused e 24 (typeOf (m .message)))
     (accepted e m row content))
 
 -- 16, 17, 18 to 22
 unfoldable pub hearMessage : Endpoint → List ℕ → List ℕ → List ℕ → Message → Received
 hearMessage e s name format m =
-    ifPasses (testOf (tooLarge e m)) (refused e 16 (typeOf (m .message)))
-    (ifPasses (testOf (notAllowed (hearRow e m))) (refused e (hearNumber NotAllowed) (typeOf (m .message)))
+    cond (tooLarge e m) (refused e 16 (typeOf (m .message)))
+    (cond (notAllowed (hearRow e m)) (refused e (hearNumber NotAllowed) (typeOf (m .message)))
     (ifCarried (carriedBy e s name format m) (λ number. refused e number (typeOf (m .message)))
     (hearContent e m (hearRow e m))))
 

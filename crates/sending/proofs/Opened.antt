@@ -18,7 +18,8 @@ use Rattle.open_write.specs.Frame.{isGood, frameFor, givenOf, givenNumber, writ
 use Rattle.open_write.proofs.Fields.{frame-short}
 use Rattle.endpoint.specs.declared.Endpoint.{Endpoint}
 use Rattle.sending.specs.declared.Outgoing.{Outgoing}
-use Rattle.sending.specs.Calls.{OPEN, bundleWith, frameLength}
+use Rattle.sending.specs.Calls.{OPEN, bundleWith}
+use Rattle.sending.specs.Held.{frameLength}
 use Rattle.sending.specs.Sending.{sentBy, sendOf}
 use Rattle.sending.proofs.Decided.{longer, framed-long, misgiven-any}
 

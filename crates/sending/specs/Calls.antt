@@ -9,8 +9,6 @@ use Rattle.bundle.specs.Writing.{bundleOf}
 use Rattle.control.specs.declared.MessageType.{MessageType}
 use Rattle.control.specs.declared.MessageType.the-variants.{Open, Ready, Noop, Data, Close}
 use Rattle.control.specs.Frame.{ackRequest, bytesOf}
-use Rattle.open_write.specs.declared.Given.{Given}
-use Rattle.open_write.specs.declared.Given.the-variants.{Good, Bad}
 use Rattle.open_write.specs.Frame.{isGood, frameFor}
 use Rattle.endpoint.specs.declared.Endpoint.{Endpoint}
 use Rattle.endpoint.specs.Record.{server, opening}
@@ -100,19 +98,6 @@ bundleWith message ask type-data frames = bundleOf (bytesOf message (flagsFor as
 abbrev pub written : Endpoint → Call → List ℕ
 written e call = bundleWith (messageOf call) (askOf call) (typeDataOf call) (dataFrames e call)
 
--- what is to be tested of a message without data frames
-abbrev pub plain : MessageType → ℕ → Bool → Bool → Outgoing
-plain message type-data ask miscoded =
-    record {
-      message = message;
-      «type_data» = type-data;
-      ask = ask;
-      large = false;
-      misgiven = false;
-      miscoded = miscoded;
-      length = length (bundleWith message ask type-data []);
-    }
-
 -- what is to be tested of a call
 abbrev pub outgoing : Endpoint → Call → Outgoing
 outgoing e call =
@@ -125,8 +110,3 @@ outgoing e call =
       miscoded = miscoded e call;
       length = length (written e call);
     }
-
--- how many bytes the frame of an OPEN has; 0 where 34 refuses it
-abbrev pub frameLength : Given → ℕ
-frameLength (Good length) = length
-frameLength Bad = 0

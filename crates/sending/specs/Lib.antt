@@ -1,3 +1,4 @@
 -- Document 01, "Sending" and the numbers 1, 2, 3, 30 to 35.
 pub mod Calls
 pub mod Sending
+pub mod Held

@@ -2,7 +2,8 @@
 ghost use mathlib.Core.Path.{_≡_};
 ghost use mathlib.Core.List.{[]};
 ghost use Rattle.control.specs.Frame.{bytesOf};
-ghost use Rattle.sending.specs.Calls.{OPEN, READY, DATA, NOOP, CLOSE, flagsFor, goodCode as Calls·goodCode, bundleWith, frameLength, plain};
+ghost use Rattle.sending.specs.Calls.{OPEN, READY, DATA, NOOP, CLOSE, flagsFor, goodCode as Calls·goodCode, bundleWith};
+ghost use Rattle.sending.specs.Held.{plain, frameLength};
 ghost use Rattle.sending.specs.Sending.{sendRow, isFull, numberFor, askedBy, sentIf, sentBy, Answered, SendAnswer};
 use control::MessageType;
 use endpoint::Endpoint;

@@ -1,14 +1,15 @@
 -- `message::tested` meets its contract: each answer is the case whose tests were passed.
 -- Assumes nothing.
-use mathlib.Core.Path.{_∙_, _≡_, ap, sym}
+use mathlib.Core.Path.{_≡_}
+use mathlib.Core.Bool.{false}
 use borrow.Author.Needs.{needs}
-use Rattle.message.specs.declared.Test.the-variants.{Passes}
-use Rattle.message.specs.Reading.{badFlags, testOf}
+use Rattle.message.specs.Reading.{badFlags}
+use Rattle.message.proofs.Tests.{passed, failed}
 use Rattle.message.proofs.tested.Statement.{statement}
 use Rattle.message.proofs.tested.Tie as tie
 
-flagged : (c : tie.After-enum-told) → testOf (badFlags (c .before .before .before .before .args .whole .message) (c .before .before .before .before .args .whole .flags)) ≡ Passes
-flagged c = ap testOf (sym (c .before .before .before .bad-flags .ensures)) ∙ sym (c .before .before .test-of .ensures) ∙ c .enum-told .given .1
+flagged : (c : tie.After-enum-told) → badFlags (c .before .before .before .before .args .whole .message) (c .before .before .before .before .args .whole .flags) ≡ false
+flagged c = passed (c .before .before .before .bad-flags .ensures) (c .before .before .test-of .ensures) (c .enum-told .given .1)
 
 bad-flags-requires : tie.Need-bad-flags-requires
 bad-flags-requires c κs = search needs
@@ -26,7 +27,7 @@ refused-requires : tie.Need-refused-requires
 refused-requires c κs = search needs
 
 returns : tie.Need-returns
-returns c = simp (ap testOf (sym (c .before .before .before .before .bad-flags .ensures)) ∙ sym (c .before .before .before .test-of .ensures) ∙ c .before .enum-told2 .given .1) (c .refused .ensures)
+returns c = simp (failed (c .before .before .before .before .bad-flags .ensures) (c .before .before .before .test-of .ensures) (c .before .enum-told2 .given .1)) (c .refused .ensures)
 
 bad-frames-requires : tie.Need-bad-frames-requires
 bad-frames-requires c κs = search needs
@@ -44,10 +45,10 @@ refused-requires-2 : tie.Need-refused-requires-2
 refused-requires-2 c κs = search needs
 
 returns-2 : tie.Need-returns-2
-returns-2 c = simp (flagged (c .before .before .before .before .before), ap testOf (sym (c .before .before .before .before .bad-frames .ensures)) ∙ sym (c .before .before .before .test-of2 .ensures) ∙ c .before .enum-told4 .given .1) (c .refused2 .ensures)
+returns-2 c = simp (flagged (c .before .before .before .before .before), failed (c .before .before .before .before .bad-frames .ensures) (c .before .before .before .test-of2 .ensures) (c .before .enum-told4 .given .1)) (c .refused2 .ensures)
 
 returns-3 : tie.Need-returns-3
-returns-3 c = simp (flagged (c .before .before .before .before), ap testOf (sym (c .before .before .before .bad-frames .ensures)) ∙ sym (c .before .before .test-of2 .ensures) ∙ c .enum-told3 .given .1)
+returns-3 c = simp (flagged (c .before .before .before .before), passed (c .before .before .before .bad-frames .ensures) (c .before .before .test-of2 .ensures) (c .enum-told3 .given .1))
 
 pub tested-spec : {M : Type 1} → statement M
 tested-spec =

@@ -1,16 +1,16 @@
 -- `receiving::hear_content` meets its contract: each answer is the case of `hearContent` whose tests were passed.
 -- Assumes nothing.
-use mathlib.Core.Path.{_∙_, _≡_, ap, sym}
+use mathlib.Core.Path.{_≡_, sym}
+use mathlib.Core.Bool.{false}
 use borrow.Author.Needs.{needs}
-use Rattle.message.specs.declared.Test.the-variants.{Passes}
-use Rattle.message.specs.Reading.{testOf}
+use Rattle.message.proofs.Tests.{passed, failed}
 use Rattle.table.specs.Table.{aboveOffer}
 use Rattle.receiving.specs.Hearing.{hearContent}
 use Rattle.receiving.proofs.hear_content.Statement.{statement}
 use Rattle.receiving.proofs.hear_content.Tie as tie
 
-within : (c : tie.After-enum-told) → testOf (aboveOffer (c .before .before .before .before .before .args .row)) ≡ Passes
-within c = ap testOf (sym (c .before .before .before .above-offer .ensures)) ∙ sym (c .before .before .test-of .ensures) ∙ c .enum-told .given .1
+within : (c : tie.After-enum-told) → aboveOffer (c .before .before .before .before .before .args .row) ≡ false
+within c = passed (c .before .before .before .above-offer .ensures) (c .before .before .test-of .ensures) (c .enum-told .given .1)
 
 type-of-requires : tie.Need-type-of-requires
 type-of-requires c κs = search needs
@@ -32,7 +32,7 @@ refuse-requires c κs = search needs
 
 returns : tie.Need-returns
 unfolding hearContent
-returns c = simp (ap testOf (sym (c .before .before .before .before .above-offer .ensures)) ∙ sym (c .before .before .before .test-of .ensures) ∙ c .before .enum-told2 .given .1, sym (c .before .before .before .before .before .type-of .ensures)) (c .refuse .ensures)
+returns c = simp (failed (c .before .before .before .before .above-offer .ensures) (c .before .before .before .test-of .ensures) (c .before .enum-told2 .given .1), sym (c .before .before .before .before .before .type-of .ensures)) (c .refuse .ensures)
 
 is-unmatched-requires : tie.Need-is-unmatched-requires
 is-unmatched-requires c κs = search needs
@@ -51,14 +51,14 @@ refuse-requires-2 c κs = search needs
 
 returns-2 : tie.Need-returns-2
 unfolding hearContent
-returns-2 c = simp (within (c .before .before .before .before .before), ap testOf (sym (c .before .before .before .before .is-unmatched .ensures)) ∙ sym (c .before .before .before .test-of2 .ensures) ∙ c .before .enum-told4 .given .1, sym (c .before .before .before .before .before .before .before .before .before .type-of .ensures)) (c .refuse2 .ensures)
+returns-2 c = simp (within (c .before .before .before .before .before), failed (c .before .before .before .before .is-unmatched .ensures) (c .before .before .before .test-of2 .ensures) (c .before .enum-told4 .given .1), sym (c .before .before .before .before .before .before .before .before .before .type-of .ensures)) (c .refuse2 .ensures)
 
 accept-requires : tie.Need-accept-requires
 accept-requires c κs = search needs
 
 returns-3 : tie.Need-returns-3
 unfolding hearContent
-returns-3 c = simp (within (c .before .before .before .before .before), ap testOf (sym (c .before .before .before .before .is-unmatched .ensures)) ∙ sym (c .before .before .before .test-of2 .ensures) ∙ c .before .enum-told3 .given .1) (c .accept .ensures)
+returns-3 c = simp (within (c .before .before .before .before .before), passed (c .before .before .before .before .is-unmatched .ensures) (c .before .before .before .test-of2 .ensures) (c .before .enum-told3 .given .1)) (c .accept .ensures)
 
 pub hear-content-spec : {M : Type 1} → statement M
 hear-content-spec =

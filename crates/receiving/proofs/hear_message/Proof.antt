@@ -1,23 +1,21 @@
 -- `receiving::hear_message` meets its contract: each answer is the case of `hearMessage` whose tests were passed.
 -- Assumes nothing.
 use mathlib.Core.Path.{_∙_, _≡_, ap, sym}
+use mathlib.Core.Bool.{false}
 use borrow.Author.Needs.{needs}
-use Rattle.message.specs.declared.Test.the-variants.{Passes}
-use Rattle.message.specs.Reading.{testOf}
+use Rattle.message.proofs.Tests.{passed, failed}
 use Rattle.table.specs.declared.Row.{Row}
 use Rattle.table.specs.Table.{notAllowed}
 use Rattle.receiving.specs.Hearing.{hearMessage, hearRow, tooLarge, hearContent}
 use Rattle.receiving.proofs.hear_message.Statement.{statement}
 use Rattle.receiving.proofs.hear_message.Tie as tie
 
-small : (c : tie.After-enum-told) → testOf (tooLarge (c .before .before .before .before .before .before .before .before .before .args .e) (c .before .before .before .before .before .before .before .before .before .args .m)) ≡ Passes
-small c = ap testOf (sym (c .before .before .before .too-large .ensures)) ∙ sym (c .before .before .test-of .ensures) ∙ c .enum-told .given .1
+small : (c : tie.After-enum-told) → tooLarge (c .before .before .before .before .before .before .before .before .before .args .e) (c .before .before .before .before .before .before .before .before .before .args .m) ≡ false
+small c = passed (c .before .before .before .too-large .ensures) (c .before .before .test-of .ensures) (c .enum-told .given .1)
 
-permitted : (c : tie.After-enum-told3) → testOf (notAllowed (hearRow (c .before .before .before .before .before .before .before .before .before .before .before .before .before .args .e) (c .before .before .before .before .before .before .before .before .before .before .before .before .before .args .m))) ≡ Passes
+permitted : (c : tie.After-enum-told3) → notAllowed (hearRow (c .before .before .before .before .before .before .before .before .before .before .before .before .before .args .e) (c .before .before .before .before .before .before .before .before .before .before .before .before .before .args .m)) ≡ false
 permitted c =
-    ap testOf (ap notAllowed (sym (c .before .before .before .before .before .before .before .before .hear-row .ensures)) ∙ sym (c .before .before .before .not-allowed .ensures))
-    ∙ sym (c .before .before .test-of2 .ensures)
-    ∙ c .enum-told3 .given .1
+    passed (c .before .before .before .not-allowed .ensures ∙ ap notAllowed (c .before .before .before .before .before .before .before .before .hear-row .ensures)) (c .before .before .test-of2 .ensures) (c .enum-told3 .given .1)
 
 type-of-requires : tie.Need-type-of-requires
 type-of-requires c κs = search needs
@@ -42,7 +40,7 @@ refuse-requires c κs = search needs
 
 returns : tie.Need-returns
 unfolding hearMessage
-returns c = simp (ap testOf (sym (c .before .before .before .before .too-large .ensures)) ∙ sym (c .before .before .before .test-of .ensures) ∙ c .before .enum-told2 .given .1, sym (c .before .before .before .before .before .before .type-of .ensures)) (c .refuse .ensures)
+returns c = simp (failed (c .before .before .before .before .too-large .ensures) (c .before .before .before .test-of .ensures) (c .before .enum-told2 .given .1), sym (c .before .before .before .before .before .before .type-of .ensures)) (c .refuse .ensures)
 
 not-allowed-requires : tie.Need-not-allowed-requires
 not-allowed-requires c κs = search needs
@@ -61,7 +59,7 @@ refuse-requires-2 c κs = search needs
 
 returns-2 : tie.Need-returns-2
 unfolding hearMessage
-returns-2 c = simp (small (c .before .before .before .before .before), ap testOf (ap notAllowed (sym (c .before .before .before .before .before .before .before .before .before .hear-row .ensures)) ∙ sym (c .before .before .before .before .not-allowed .ensures)) ∙ sym (c .before .before .before .test-of2 .ensures) ∙ c .before .enum-told4 .given .1, sym (c .before .before .before .before .before .before .before .before .before .before .type-of .ensures)) (c .refuse2 .ensures)
+returns-2 c = simp (small (c .before .before .before .before .before), failed (c .before .before .before .before .not-allowed .ensures ∙ ap notAllowed (c .before .before .before .before .before .before .before .before .before .hear-row .ensures)) (c .before .before .before .test-of2 .ensures) (c .before .enum-told4 .given .1), sym (c .before .before .before .before .before .before .before .before .before .before .type-of .ensures)) (c .refuse2 .ensures)
 
 carried-by-requires : tie.Need-carried-by-requires
 carried-by-requires c κs = search needs

@@ -14,7 +14,8 @@ use Rattle.control.specs.declared.MessageType.the-variants.{Open}
 use Rattle.open_write.specs.Frame.{written}
 use Rattle.open_write.specs.Frame.{isGood}
 use Rattle.sending.specs.declared.Sent.{Sent}
-use Rattle.sending.specs.Calls.{OPEN, bundleWith, frameLength, outgoing}
+use Rattle.sending.specs.Calls.{OPEN, bundleWith, outgoing}
+use Rattle.sending.specs.Held.{frameLength}
 use Rattle.sending.specs.Sending.{sendOf}
 use Rattle.sending.proofs.Decided.{accepted-passed, framed-long, wrote-bytes, wrote-nothing}
 use Rattle.sending.proofs.Opened.{given-long, given-short, open-decided, openFrame, openGiven, put-open}

@@ -9,7 +9,8 @@ use Rattle.bytes_be.specs.Part.{putAt}
 use Rattle.bundle.specs.Writing.{bundleOf}
 use Rattle.bundle.proofs.Outputs.{left-put, one-made}
 use Rattle.control.proofs.Round.{length-control}
-use Rattle.sending.specs.Calls.{bundleWith, flagsFor, plain}
+use Rattle.sending.specs.Calls.{bundleWith, flagsFor}
+use Rattle.sending.specs.Held.{plain}
 use Rattle.sending.specs.Sending.{sentBy}
 use Rattle.sending.proofs.Decided.{longer, plain-long, wrote-bytes, wrote-nothing}
 use Rattle.sending.proofs.send_plain.Statement.{statement}

@@ -1,0 +1,28 @@
+-- What the parts of a send are held to: a message without data frames, and the length of the frame of an OPEN.
+use Prim.Native.Nat.{ℕ}
+use mathlib.Core.List.{[]}
+use mathlib.Core.Bool.{Bool, false}
+use lib.ListN.{length}
+use Rattle.control.specs.declared.MessageType.{MessageType}
+use Rattle.open_write.specs.declared.Given.{Given}
+use Rattle.open_write.specs.declared.Given.the-variants.{Good, Bad}
+use Rattle.sending.specs.declared.Outgoing.{Outgoing}
+use Rattle.sending.specs.Calls.{bundleWith}
+
+-- what is to be tested of a message without data frames
+abbrev pub plain : MessageType → ℕ → Bool → Bool → Outgoing
+plain message type-data ask miscoded =
+    record {
+      message = message;
+      «type_data» = type-data;
+      ask = ask;
+      large = false;
+      misgiven = false;
+      miscoded = miscoded;
+      length = length (bundleWith message ask type-data []);
+    }
+
+-- how many bytes the frame of an OPEN has; 0 where 34 refuses it
+abbrev pub frameLength : Given → ℕ
+frameLength (Good length) = length
+frameLength Bad = 0
