@@ -73,17 +73,50 @@ pub fn frames(bundle: &[u8]) -> Option<Frames<'_>> {
     (frames.at + frames.size() == bundle.len() as u64).then_some(frames)
 }
 
+/// A frame by numbers: found, at, length; zeros where there is none.
+fn numbers(frame: Option<Place>) -> [u64; 3] {
+    frame.map_or([0; 3], |place| [1, place.at, place.length])
+}
+
 /// The number answered for the frame at `index`, and its place: found, at, length.
 ///
 /// A bad bundle is refused with zeros; behind the last frame there is none, and zeros too.
 pub fn frame(bundle: &[u8], index: u32) -> (u64, [u64; 3]) {
     let Some(mut frames) = frames(bundle) else {
-        return (BAD_BUNDLE, [0, 0, 0]);
+        return (BAD_BUNDLE, numbers(None));
     };
-    match frames.nth(index as usize) {
-        Some(place) => (0, [1, place.at, place.length]),
-        None => (0, [0, 0, 0]),
+    (0, numbers(frames.nth(index as usize)))
+}
+
+/// A reader over a lent bundle, which hands out its frames one by one.
+pub struct Reader<'a> {
+    pub bundle: &'a [u8],
+    /// How many frames it has handed out.
+    pub position: usize,
+}
+
+impl Reader<'_> {
+    /// Hands out the next frame, or none behind the last; the number of the refusal for a bad bundle.
+    ///
+    /// The position moves only where a frame is handed out.
+    pub fn hand_out(&mut self) -> Result<Option<Place>, u64> {
+        let next = frames(self.bundle).ok_or(BAD_BUNDLE)?.nth(self.position);
+        if next.is_some() {
+            self.position += 1;
+        }
+        Ok(next)
     }
+}
+
+/// The number answered by a reader at `position`, and what it hands out: found, at, length, its position afterwards.
+pub fn handed_out(bundle: &[u8], position: usize) -> (u64, [u64; 4]) {
+    let mut reader = Reader { bundle, position };
+    let (number, next) = match reader.hand_out() {
+        Ok(next) => (0, next),
+        Err(number) => (number, None),
+    };
+    let [found, at, length] = numbers(next);
+    (number, [found, at, length, reader.position as u64])
 }
 
 /// The number answered for a bundle, and its contents: frame count, place and length of the control frame, size of the
@@ -193,6 +226,56 @@ mod tests {
         assert_eq!(contents(&K2[..13]).0, 10);
         assert_eq!(contents(&[]).0, 10);
         assert_eq!(frame(&of_frames(&[&[], &[]]), 1), (0, [1, 10, 0]));
+    }
+
+    #[test]
+    fn a_reader_hands_out_each_frame_once_in_order_and_then_none_for_ever() {
+        let bundle = of_frames(&[&[1, 2, 3], &[], &[4], &[5, 6]]);
+        let mut reader = Reader { bundle: &bundle, position: 0 };
+        for (handed, (at, length)) in [(18, 3), (21, 0), (21, 1), (22, 2)].into_iter().enumerate() {
+            assert_eq!((reader.position, reader.hand_out()), (handed, Ok(Some(Place { at, length }))));
+        }
+        for _ in 0..100 {
+            assert_eq!((reader.hand_out(), reader.position), (Ok(None), 4));
+        }
+    }
+
+    #[test]
+    fn a_reader_goes_on_where_its_position_says() {
+        let bundle = of_frames(&[&[1, 2, 3], &[], &[4], &[5, 6]]);
+        assert_eq!(handed_out(&bundle, 0), (0, [1, 18, 3, 1]));
+        assert_eq!(handed_out(&bundle, 3), (0, [1, 22, 2, 4]));
+        assert_eq!(handed_out(&bundle, 4), (0, [0, 0, 0, 4]));
+        assert_eq!(handed_out(&bundle, 5), (0, [0, 0, 0, 5]));
+        assert_eq!(handed_out(&of_frames(&[&b""[..]; 16]), 15), (0, [1, 66, 0, 16]));
+    }
+
+    #[test]
+    fn a_reader_hands_out_none_of_a_bad_bundle() {
+        let bundle = of_frames(&[&[1, 2, 3], &[], &[4]]);
+        let mut bad: Vec<Vec<u8>> = (0..bundle.len()).map(|length| bundle[..length].to_vec()).collect();
+        bad.extend([[&bundle[..], &[0]].concat(), of_frames(&[&b""[..]; 17]), of_frames(&[])]);
+        for bundle in &bad {
+            for position in (0..=17).chain([usize::MAX]) {
+                let mut reader = Reader { bundle, position };
+                for _ in 0..3 {
+                    assert_eq!((reader.hand_out(), reader.position), (Err(10), position));
+                }
+                assert_eq!(handed_out(bundle, position), (10, [0, 0, 0, position as u64]));
+            }
+        }
+    }
+
+    /// Neither the position nor four times the position is taken for a small number.
+    #[test]
+    fn a_reader_far_behind_the_last_frame_stays_there() {
+        let bundle = of_frames(&[&b"a"[..]; 16]);
+        let quarter = usize::MAX / 4 + 1;
+        for start in [1 << 8, 1 << 16, quarter, 2 * quarter, 3 * quarter, usize::MAX - 16] {
+            for position in start..=start + 16 {
+                assert_eq!(handed_out(&bundle, position), (0, [0, 0, 0, position as u64]));
+            }
+        }
     }
 
     #[test]
