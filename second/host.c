@@ -293,6 +293,14 @@ static uint64_t call_contents(struct call *call)
     return probe_contents(bundle.bytes, bundle.length, contents);
 }
 
+static uint64_t call_hand_out(struct call *call)
+{
+    const struct input bundle = lend_input(call);
+    const size_t position = (size_t)number(call);
+    uint64_t *handed = lend_numbers(call, 4);
+    return probe_hand_out(bundle.bytes, bundle.length, position, handed);
+}
+
 static uint64_t call_control(struct call *call)
 {
     const struct input frame = lend_input(call);
@@ -503,6 +511,7 @@ static uint64_t (*const calls[])(struct call *call) = {
     call_store64,
     call_copy,
     call_contents,
+    call_hand_out,
     call_control,
     call_write_one,
     call_write_two,

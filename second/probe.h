@@ -25,6 +25,11 @@ void probe_copy(uint8_t *out, size_t out_length, size_t at, const uint8_t *bytes
  * 10 and zeros for a bad bundle. */
 uint32_t probe_contents(const uint8_t *bundle, size_t length, uint64_t contents[4]);
 
+/* Hands out the next frame of a reader that has handed out `position` frames of this bundle. handed = found (0 or 1),
+ * place and length of the frame, zeros where there is none, and how many frames the reader has handed out afterwards:
+ * one more where there was a frame, else as many as before. 10 and no frame for a bad bundle. */
+uint32_t probe_hand_out(const uint8_t *bundle, size_t length, size_t position, uint64_t handed[4]);
+
 /* control = type, flags, type-data of a control frame; 11, 12 or 13 and zeros where it is refused. */
 uint32_t probe_control(const uint8_t *frame, size_t length, uint64_t control[3]);
 

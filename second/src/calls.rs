@@ -26,6 +26,7 @@ pub enum Function {
     Store64,
     Copy,
     Contents,
+    HandOut,
     Control,
     WriteOne,
     WriteTwo,
@@ -50,7 +51,7 @@ pub enum Function {
     Receive,
 }
 
-pub const FUNCTION_NAMES: [&str; 32] = [
+pub const FUNCTION_NAMES: [&str; 33] = [
     "fbdp_frame",
     "probe_read8",
     "probe_read16",
@@ -61,6 +62,7 @@ pub const FUNCTION_NAMES: [&str; 32] = [
     "probe_store64",
     "probe_copy",
     "probe_contents",
+    "probe_hand_out",
     "probe_control",
     "probe_write without a body",
     "probe_write with a body",
@@ -290,6 +292,29 @@ impl Call for Contents {
 
     fn answer(&self, _: &[Vec<u8>]) -> Answer {
         Answer::numbers(bundle::contents(&self.bundle))
+    }
+}
+
+pub struct HandOut {
+    pub bundle: Vec<u8>,
+    pub position: u64,
+}
+
+impl Call for HandOut {
+    fn function(&self) -> Function {
+        Function::HandOut
+    }
+
+    fn arguments(&self) -> Vec<(&'static str, Argument<'_>)> {
+        vec![
+            ("bundle", Argument::Input(&self.bundle)),
+            ("position", Argument::Number(self.position)),
+            ("handed", Argument::Numbers(4)),
+        ]
+    }
+
+    fn answer(&self, _: &[Vec<u8>]) -> Answer {
+        Answer::numbers(bundle::handed_out(&self.bundle, self.position as usize))
     }
 }
 

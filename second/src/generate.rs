@@ -12,6 +12,7 @@ mod lines;
 mod lookups;
 mod messages;
 mod open;
+mod readers;
 mod small;
 mod stored;
 mod structs;
@@ -19,7 +20,7 @@ mod texts;
 mod trees;
 mod writers;
 
-use crate::calls::{Call, Contents, FrameAt, Line, ReadControl};
+use crate::calls::{Call, Contents, FrameAt, HandOut, Line, ReadControl};
 use crate::random::Random;
 
 pub type Calls = Vec<Box<dyn Call>>;
@@ -39,6 +40,7 @@ pub const EXHAUSTIVE: &[Set] = &[
     Set { kind: "every length of a control frame", make: control::every_length },
     Set { kind: "every index", make: indexes::every_index },
     Set { kind: "every frame count", make: indexes::every_frame_count },
+    Set { kind: "every position of a reader", make: readers::every_position },
     Set { kind: "every type and room for a control frame alone", make: writers::every_room_for_one },
     Set { kind: "every room for a control frame and a body", make: writers::every_room_for_two },
     Set { kind: "every room for a control frame and a long body", make: writers::every_room_for_long_bodies },
@@ -115,6 +117,7 @@ pub const GENERATED: &[Set] = &[
     Set { kind: "random bytes", make: bundles::random_bytes },
     Set { kind: "random bytes behind a plausible count", make: bundles::plausible_count },
     Set { kind: "random bytes behind plausible lengths", make: bundles::plausible_lengths },
+    Set { kind: "bundles read whole", make: readers::whole_readings },
     Set { kind: "random control frames", make: control::random_frames },
     Set { kind: "random places to read from", make: bytes::random_reads },
     Set { kind: "random places to store at", make: bytes::random_stores },
@@ -179,10 +182,13 @@ fn add(calls: &mut Calls, call: impl Call + 'static) {
     calls.push(Box::new(call));
 }
 
-/// Adds what is asked about a bundle that may be bad: some frame of it, its contents and its line.
+/// Adds what is asked about a bundle that may be bad: some frame of it, what a reader hands out at some position, its
+/// contents and its line.
 fn add_bundle(calls: &mut Calls, random: &mut Random, bundle: Vec<u8>) {
     let index = random.between(0, 17) as u32;
     add(calls, FrameAt { bundle: bundle.clone(), index });
+    let position = readers::position(random);
+    add(calls, HandOut { bundle: bundle.clone(), position });
     add(calls, Contents { bundle: bundle.clone() });
     add(calls, Line { input: bundle });
 }

@@ -1,5 +1,6 @@
 //! Bundles: valid ones, ones that break one rule, damaged and cut ones, and random bytes.
 
+use super::readers::add_reading;
 use super::{add, add_bundle, add_control, control, Calls};
 use crate::calls::{Contents, FrameAt, Line, ReadControl};
 use crate::control::{SIGNATURE, VERSION};
@@ -49,7 +50,7 @@ fn first_frame(random: &mut Random) -> Vec<u8> {
 }
 
 /// So many frames, the first one mostly a good control frame.
-fn frames(random: &mut Random, count: usize) -> Parts {
+pub fn frames(random: &mut Random, count: usize) -> Parts {
     let mut bodies = vec![first_frame(random)];
     bodies.extend((1..count).map(|_| body(random)));
     Parts::of_frames(bodies)
@@ -81,6 +82,7 @@ pub fn valid_bundles(random: &mut Random) -> Calls {
         for index in 0..=u32::from(parts.count) + 1 {
             add(&mut calls, FrameAt { bundle: bundle.clone(), index });
         }
+        add_reading(&mut calls, &bundle);
         add(&mut calls, ReadControl { frame: parts.bodies[0].clone() });
         add(&mut calls, Contents { bundle: bundle.clone() });
         add(&mut calls, Line { input: bundle });
@@ -305,15 +307,19 @@ pub fn plausible_count(random: &mut Random) -> Calls {
     calls
 }
 
-/// The lengths are small, so that their sum is right now and then.
+/// Random bytes behind lengths that are small, so that their sum is right now and then.
+pub fn with_plausible_lengths(random: &mut Random) -> Vec<u8> {
+    let count = random.between(1, 4);
+    let lengths = (0..count).map(|_| random.between(0, 4) as u32).collect();
+    let rest = random.between(0, 3 * count);
+    Parts { count: count as u16, lengths, bodies: vec![random.bytes(rest)] }.bytes()
+}
+
 pub fn plausible_lengths(random: &mut Random) -> Calls {
     let mut calls = Calls::new();
     for _ in 0..60 {
-        let count = random.between(1, 4);
-        let lengths = (0..count).map(|_| random.between(0, 4) as u32).collect();
-        let rest = random.between(0, 3 * count);
-        let parts = Parts { count: count as u16, lengths, bodies: vec![random.bytes(rest)] };
-        add_bundle(&mut calls, random, parts.bytes());
+        let bundle = with_plausible_lengths(random);
+        add_bundle(&mut calls, random, bundle);
     }
     calls
 }

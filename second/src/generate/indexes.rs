@@ -2,7 +2,7 @@
 
 use super::bundles::Parts;
 use super::{add, control, Calls};
-use crate::calls::{Contents, FrameAt};
+use crate::calls::{Contents, FrameAt, HandOut};
 use crate::random::Random;
 
 /// The indexes that are looked for in each bundle: every one up to 18, and those that look small in fewer bits.
@@ -16,8 +16,8 @@ fn indexes() -> Vec<u32> {
 }
 
 /// Bundles of 0 to 18 frames, and each with a byte missing or extra.
-pub fn every_index(random: &mut Random) -> Calls {
-    let mut calls = Calls::new();
+pub fn bundles_of_every_count(random: &mut Random) -> Vec<Vec<u8>> {
+    let mut bundles = Vec::new();
     for count in 0..=18 {
         let mut bodies = vec![control::good(random)];
         for _ in 1..count {
@@ -28,10 +28,16 @@ pub fn every_index(random: &mut Random) -> Calls {
         let bundle = Parts::of_frames(bodies).bytes();
         let missing = bundle[..bundle.len() - 1].to_vec();
         let extra = [&bundle[..], &[0]].concat();
-        for bundle in [bundle, missing, extra] {
-            for index in indexes() {
-                add(&mut calls, FrameAt { bundle: bundle.clone(), index });
-            }
+        bundles.extend([bundle, missing, extra]);
+    }
+    bundles
+}
+
+pub fn every_index(random: &mut Random) -> Calls {
+    let mut calls = Calls::new();
+    for bundle in bundles_of_every_count(random) {
+        for index in indexes() {
+            add(&mut calls, FrameAt { bundle: bundle.clone(), index });
         }
     }
     calls
@@ -42,10 +48,13 @@ pub fn every_frame_count(_: &mut Random) -> Calls {
     let mut calls = Calls::new();
     for count in 0..=u16::MAX {
         let lengths = vec![0; usize::from(count).min(20)];
-        add(&mut calls, Contents { bundle: Parts { count, lengths, bodies: Vec::new() }.bytes() });
+        let bundle = Parts { count, lengths, bodies: Vec::new() }.bytes();
+        add(&mut calls, HandOut { bundle: bundle.clone(), position: 0 });
+        add(&mut calls, Contents { bundle });
     }
     let empty_frames = Parts::of_frames(vec![Vec::new(); usize::from(u16::MAX)]).bytes();
     add(&mut calls, FrameAt { bundle: empty_frames.clone(), index: 0 });
+    add(&mut calls, HandOut { bundle: empty_frames.clone(), position: 0 });
     add(&mut calls, Contents { bundle: empty_frames });
     calls
 }
