@@ -6,14 +6,14 @@ use Prim.Native.Nat.{ℕ, zero, suc, _+_, _*_, _-_, _≤_, _<_}
 use native.Mathlib.Nat.{add-zero, add-suc}
 use native.Mathlib.Numerals.{add-one}
 use native.Mathlib.Omega.{arith}
-use lib.Dec.{leb, eqb}
+use lib.Dec.{leb, ltb, eqb}
 use lib.ListN.{length}
-use borrow.Author.Tests.{lt-ltb, le-ltb, leb-true, eqb-true}
+use borrow.Author.Tests.{lt-ltb, le-ltb, ltb-true, leb-true, eqb-true}
 use Rattle.bytes_be.proofs.Tests.{both-true, took-first, took-second}
 use Rattle.bytes_be.specs.declared.Place.{Place}
 use Rattle.bundle.specs.Reading.{countOf, counted, lengthOf, lengthsBefore, startOf, placeOf, good, sizeOf, contentsOf, frameOf}
 use Rattle.bundle.specs.declared.Contents.the-variants.{Frames, BadBundle as Contents·BadBundle}
-use Rattle.bundle.specs.declared.Frame.the-variants.{At, Behind}
+use Rattle.bundle.specs.declared.Frame.the-variants.{At, Behind, BadBundle}
 
 pub before-suc : (s : List ℕ) (k : ℕ) → lengthsBefore s (suc k) ≡ lengthsBefore s k + lengthOf s k
 unfolding lengthsBefore
@@ -62,6 +62,20 @@ frame-there s g k h = simp (g, lt-ltb k (countOf s) h)
 pub frame-behind : (s : List ℕ) → good s ≡ true → (k : ℕ) → countOf s ≤ k → frameOf s k ≡ Behind
 unfolding frameOf
 frame-behind s g k h = simp (g, le-ltb k (countOf s) h)
+
+-- and what is handed out is a frame of a good bundle
+
+bad-at : {place : Place} → BadBundle ≡ At place → ⊥
+bad-at e = let z : _≡_ {A = ℕ} 0 1 = cc in omega arith
+
+behind-at : {place : Place} → Behind ≡ At place → ⊥
+behind-at e = let z : _≡_ {A = ℕ} 0 1 = cc in omega arith
+
+pub frame-told : (s : List ℕ) (k : ℕ) {place : Place} → frameOf s k ≡ At place → (good s ≡ true) × (k < countOf s)
+unfolding frameOf
+frame-told s k e =
+    let taken = took-first (good s) bad-at e in
+    (taken .0, ltb-true k (countOf s) (took-first (ltb k (countOf s)) behind-at (taken .1) .0))
 
 -- contents are those of a good bundle alone
 
