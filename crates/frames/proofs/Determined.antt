@@ -7,8 +7,8 @@ use Rattle.bundle.specs.declared.Frame.{Frame}
 use Rattle.frames.specs.declared.Reader.{Reader}
 use Rattle.frames.specs.Frames.{begunOver, NextAnswer}
 
-pub over-determined : {bundle : RefT (List ℕ)} {reader reader′ : Reader} → reader ≡ begunOver bundle → reader′ ≡ begunOver bundle → reader ≡ reader′
-over-determined one other = one ∙ sym other
+pub over-determined : (bundle : RefT (List ℕ)) {reader reader′ : Reader} → reader ≡ begunOver bundle → reader′ ≡ begunOver bundle → reader ≡ reader′
+over-determined bundle one other = one ∙ sym other
 
 pub next-determined : {before : Reader} {frame frame′ : Frame} {after after′ : Reader} → NextAnswer before frame after →
     NextAnswer before frame′ after′ → (frame ≡ frame′) × (after ≡ after′)

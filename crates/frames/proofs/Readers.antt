@@ -30,7 +30,7 @@ use Rattle.frames.specs.declared.Reader.{Reader}
 use Rattle.frames.proofs.Reader as reader
 use Rattle.frames.proofs.Reader.Laws as reader-laws
 
--- a reader over a bundle that is lent for κ, with the name that a lent reader's own type gives that lifetime
+-- a reader over a bundle that is lent for κ, which is the second lifetime where the reader is lent itself
 module _ (κ : Lft) where
   abbrev α : NamedLft
   α = record { mir = named 1; lft = κ }
@@ -77,6 +77,7 @@ module _ (κ : Lft) where
         nothing ! $ owned ! usize (Is usize) (uint-makes 𝓤 H A W w64) (r .position) _ (refl, fits) $ fjoin ! $ move ! (1 ∷ 0 ∷ []) $ fjoin ! $
         use1 W (‵ (Own r)) (own-shut 𝓤 H A W declaration laws (field-values r)) $ done !
 
+    -- a reader gives its bundle out, and keeps it
     pub bundle-of : (r : Reader) → ent 𝓤 ⟦ Own r ⟧ (sep 𝓤 ⟦ Bundle (r .bundle) ⟧ ⟦ Own r ⟧)
     bundle-of r =
         qed W (‵ (Own r) ∷ []) ∵ use1 W (‵ (Own r) ⊛ ‵ (Own r)) (Struct.copy declaration (reader-laws.the-copy α) 𝓤 H A W .twice r (reader-laws.lowered r ∷ [])) $ split ! $
@@ -84,6 +85,7 @@ module _ (κ : Lft) where
         use1 W (‵ (ownAt (declaration .parts) laws 0 (r .bundle)) ⊛ ‵ (rest (declaration .parts) laws 0 (field-values r))) (own-out 𝓤 H A W (declaration .parts) laws 0 (field-values r)) $ split ! $
         frame ! $ drop ! $ done !)
 
+    -- a reader at another position
     pub moved : (r : Reader) (position : ℕ) → position < 2 ^ 64 → ent 𝓤 ⟦ Own r ⟧ ⟦ Own (record { bundle = r .bundle; position = position }) ⟧
     moved r position fits =
         let next : Reader = record { bundle = r .bundle; position = position } in
