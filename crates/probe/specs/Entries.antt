@@ -6,10 +6,13 @@ use mathlib.Core.Bool.{Bool, true, false, cond}
 use lib.ListN.{length}
 use lib.Dec.{eqb}
 use Rattle.bytes_be.specs.Part.{putAt}
-use Rattle.bundle.specs.Reading.{contentsOf, contentsNumber}
+use Rattle.bundle.specs.Reading.{contentsOf, contentsNumber, frameNumber}
 use Rattle.bundle.specs.Writing.{Written}
 use Rattle.bundle.specs.declared.Contents.{Contents}
 use Rattle.bundle.specs.declared.Contents.the-variants.{Frames, BadBundle}
+use Rattle.bundle.specs.declared.Frame.{Frame}
+use Rattle.bundle.specs.declared.Frame.the-variants.{At, Behind, BadBundle as Frame·BadBundle}
+use Rattle.frames.specs.Frames.{handedAt}
 use Rattle.control.specs.Frame.{typeOf, controlOf, numberOf, bytesOf}
 use Rattle.control.specs.declared.KnownType.{KnownType}
 use Rattle.control.specs.declared.KnownType.the-variants.{Known, Unknown}
@@ -46,6 +49,16 @@ contentsSlots BadBundle = 0 ∷ 0 ∷ 0 ∷ 0 ∷ []
 pub record ContentsAnswer (bundle : List ℕ) (number : ℕ) (slots : List ℕ) : Type 0 where
   pub numbered : number ≡ contentsNumber (contentsOf bundle)
   pub told : slots ≡ contentsSlots (contentsOf bundle)
+
+-- found (0 or 1), at, length, and the position afterwards
+abbrev pub handedSlots : Frame → ℕ → List ℕ
+handedSlots (At place) position = 1 ∷ place .at ∷ place .length ∷ position ∷ []
+handedSlots Behind position = 0 ∷ 0 ∷ 0 ∷ position ∷ []
+handedSlots Frame·BadBundle position = 0 ∷ 0 ∷ 0 ∷ position ∷ []
+
+pub record HandOutAnswer (bundle : List ℕ) (position number : ℕ) (slots : List ℕ) : Type 0 where
+  pub numbered : number ≡ frameNumber (handedAt bundle position .frame)
+  pub told : slots ≡ handedSlots (handedAt bundle position .frame) (handedAt bundle position .position)
 
 -- type, flags and type-data
 abbrev pub controlSlots : Control → List ℕ

@@ -11,8 +11,9 @@ ghost use Rattle.line.specs.Report.{reportOf, lineOf, Put};
 ghost use Rattle.open.specs.declared.Refusal.the-variants.{Unreadable};
 ghost use Rattle.open.specs.Open.{heardBy};
 ghost use Rattle.utf8.specs.Text.{wellFormed};
-ghost use Rattle.probe.specs.Entries.{contentsSlots, ContentsAnswer, controlSlots, ControlAnswer, bodies, Wrote, kindNumber, readingNumber, readingSlots, FieldAnswer, Stored, checkOf, checkSlots, CheckAnswer, announcedSlots, ifReadable, LimitAnswer, flowOf, openingSlots, refusalSlots, openSlots, OpenAnswer, givenLength, OpenFrameAnswer};
+ghost use Rattle.probe.specs.Entries.{contentsSlots, ContentsAnswer, handedSlots, HandOutAnswer, controlSlots, ControlAnswer, bodies, Wrote, kindNumber, readingNumber, readingSlots, FieldAnswer, Stored, checkOf, checkSlots, CheckAnswer, announcedSlots, ifReadable, LimitAnswer, flowOf, openingSlots, refusalSlots, openSlots, OpenAnswer, givenLength, OpenFrameAnswer};
 use bundle::Contents;
+use bundle::Frame;
 use control::Control;
 use control::KnownType;
 use open::Open;
@@ -106,6 +107,31 @@ pub extern "C" fn probe_contents(bundle: &[u8], slots: &mut [u64; 4]) -> u32
     let contents = bundle::contents_of(bundle);
     *slots = contents_slots(contents);
     bundle::contents_number(contents) as u32
+}
+
+fn handed_slots(frame: Frame, position: usize) -> [u64; 4]
+    ensures { λ r. ⌜ r ≡ handedSlots frame position ⌝ }
+{
+    let next = position as u64;
+    match frame {
+        Frame::At(place) => {
+            let at = place.at as u64;
+            let length = place.length as u64;
+            [1, at, length, next]
+        }
+        Frame::Behind => [0, 0, 0, next],
+        Frame::BadBundle => [0, 0, 0, next],
+    }
+}
+
+#[no_mangle]
+pub extern "C" fn probe_hand_out(bundle: &[u8], position: usize, slots: &mut [u64; 4]) -> u32
+    ensures { λ r. ⌜ HandOutAnswer (now (bundle .entry)) position r (now (slots .exit)) ⌝ }
+{
+    let handed = frames::hand_out(bundle, position);
+    let frame = handed.frame;
+    *slots = handed_slots(frame, handed.position);
+    bundle::frame_number(frame) as u32
 }
 
 fn control_slots(control: Control) -> [u64; 3]
