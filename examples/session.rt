@@ -1,5 +1,6 @@
 // A press and the estimating desk as two records that are lent: the press opens a pipe, a batch of two reports is agreed on and sent, the first is
-// confirmed, and the press closes. Each line is checked as it runs.
+// confirmed, and the press closes. A reader hands out the frames of a message. Each line is checked as it runs.
+use bundle::Frame;
 use endpoint::Endpoint;
 use receiving::Answer;
 use receiving::Content;
@@ -30,6 +31,23 @@ fn arrives(e: &mut Endpoint, message: &[u8], reply: &mut [u8]) -> Answer {
     outcome.answer
 }
 
+// How many bytes a frame has that was handed out.
+fn length_of(frame: Frame) -> usize {
+    match frame {
+        Frame::At(place) => place.length,
+        Frame::Behind => 0,
+        Frame::BadBundle => 0,
+    }
+}
+
+// A message of a control frame and a body of 8 bytes hands out both, and then nothing more.
+fn framed(message: &[u8]) {
+    let mut reader = frames::over(message);
+    check::expect(length_of(frames::next(&mut reader)) == 8);
+    check::expect((length_of(frames::next(&mut reader)) == 8) & (reader.position == 2));
+    check::expect((length_of(frames::next(&mut reader)) == 0) & (reader.position == 2));
+}
+
 // The press asks for the pipe, and the desk hears it.
 fn opened(press: &mut Endpoint, desk: &mut Endpoint, message: &mut [u8], reply: &mut [u8]) {
     let told = lent::send_open(press, b"press7", &[], message);
@@ -57,6 +75,7 @@ fn agreed(press: &mut Endpoint, desk: &mut Endpoint, message: &mut [u8], reply: 
 fn confirmed(press: &mut Endpoint, desk: &mut Endpoint, message: &mut [u8], reply: &mut [u8]) {
     let told = lent::send_data(press, 7, true, b"run 4711", message);
     check::expect((told.number == 0) & (told.written == 26) & (press.n == 1) & (press.w == 1));
+    framed(&message[..26]);
     let answer = arrives(desk, &message[..26], reply);
     check::expect((number_of(answer) == 0) & (body_of(answer) == 8) & (desk.n == 1));
     let answer = arrives(press, &reply[..14], message);
