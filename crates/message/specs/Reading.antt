@@ -15,7 +15,7 @@ use Rattle.control.specs.declared.MessageType.the-variants.{Open, Ready, Noop, 
 use Rattle.control.specs.declared.Signed.the-variants.{Unsigned}
 use Rattle.control.specs.declared.Version.the-variants.{Other}
 use Rattle.control.specs.declared.KnownType.the-variants.{Unknown}
-use Rattle.control.specs.Frame.{ackRequest, ackReply, typeIn, signedOf, versionOf, knownTypeOf, signedNumber, versionNumber, knownTypeNumber, ifSigned, ifVersionOne, ifKnown}
+use Rattle.control.specs.Frame.{ackRequest, ackReply, typeOf, typeIn, signedOf, versionOf, knownTypeOf, signedNumber, versionNumber, knownTypeNumber, ifSigned, ifVersionOne, ifKnown}
 use Rattle.message.specs.declared.Body.{Body}
 use Rattle.message.specs.declared.Body.the-variants.{Nothing, At}
 use Rattle.message.specs.declared.Message.{Message}
@@ -101,3 +101,13 @@ readingOf s =
     ifVersionOne (versionOf byte) (refused (versionNumber Other) (typeIn byte)) (λ said.
     ifKnown (knownTypeOf said) (refused (knownTypeNumber Unknown) said) (λ message.
     readAs s said message flags type-data (count - 1) size))))
+
+-- the number of each answer
+abbrev pub readingNumber : Reading → ℕ
+readingNumber (Read m) = 0
+readingNumber (Refused refusal) = refusal .number
+
+-- the type that the control byte says, or 0 where none was read
+abbrev pub saidIn : Reading → ℕ
+saidIn (Read m) = typeOf (m .message)
+saidIn (Refused refusal) = refusal .said

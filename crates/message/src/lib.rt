@@ -1,7 +1,7 @@
 // A message as a bundle carries it: its control frame and its data frame, or the first of 10 to 15 that refuses it.
 ghost use mathlib.Core.Path.{_≡_};
 ghost use mathlib.Core.Bool.{cond};
-ghost use Rattle.message.specs.Reading.{testOf, strangeFlags, badFlags, badFrames, carries as Reading·carries, bodyPlace, refused as Reading·refused, tested as Reading·tested, readingOf};
+ghost use Rattle.message.specs.Reading.{testOf, strangeFlags, badFlags, badFrames, carries as Reading·carries, bodyPlace, refused as Reading·refused, tested as Reading·tested, readingOf, readingNumber, saidIn};
 ghost use Rattle.message.specs.declared.Body.the-variants.{Nothing, At as Body·At};
 use bundle::Contents;
 use bytes_be::Place;
@@ -190,4 +190,27 @@ pub fn read(s: &[u8]) -> Reading
         body: body_of(message, flags, end, rest),
     };
     tested(said, whole)
+}
+
+// The number of 01 for a reading: 0, or 10 to 15.
+pub fn reading_number(reading: Reading) -> u8
+    ensures { λ r. ⌜ r ≡ readingNumber reading ⌝ }
+{
+    match reading {
+        Reading::Read(_) => 0,
+        Reading::Refused(refusal) => refusal.number,
+    }
+}
+
+// The type that the control byte says, be the message read or refused; 0 where no control byte was read.
+pub fn said_in(reading: Reading) -> u8
+    ensures { λ r. ⌜ r ≡ saidIn reading ⌝ }
+{
+    match reading {
+        Reading::Read(m) => {
+            let message = m.message;
+            control::type_of(message)
+        }
+        Reading::Refused(refusal) => refusal.said,
+    }
 }

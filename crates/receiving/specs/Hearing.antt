@@ -138,6 +138,11 @@ accepted e m row content =
 
 -- what follows what is carried, or what is read, or its refusal
 
+-- the number of each answer
+abbrev pub carriedNumber : Carried → ℕ
+carriedNumber (Carried·Content content) = 0
+carriedNumber (Refused number) = number
+
 abbrev pub ifCarried : Carried → (ℕ → Received) → (Content → Received) → Received
 ifCarried (Refused number) refusal next = refusal number
 ifCarried (Carried·Content content) refusal next = next content

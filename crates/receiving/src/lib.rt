@@ -4,7 +4,7 @@ ghost use Prim.Native.Nat.{_+_, _≤_};
 ghost use lib.ListN.{length};
 ghost use Rattle.message.specs.Reading.{bodyPlace};
 ghost use Rattle.receiving.specs.Refusing.{versionCode, closeCode, silent, refused, unchanged};
-ghost use Rattle.receiving.specs.Hearing.{confirmable, confirms as Hearing·confirms, asks as Hearing·asks, movesAs, hearRow, tooLarge, openCarried, bodyCarried, openAt, carriedBy, matchesOldest, unmatched, confirmedBy, limitedBy, replyTo, accepted, hearContent, hearMessage, hearOf};
+ghost use Rattle.receiving.specs.Hearing.{confirmable, confirms as Hearing·confirms, asks as Hearing·asks, movesAs, hearRow, tooLarge, openCarried, bodyCarried, openAt, carriedBy, carriedNumber, matchesOldest, unmatched, confirmedBy, limitedBy, replyTo, accepted, hearContent, hearMessage, hearOf};
 ghost use Rattle.receiving.specs.Receiving.{replied, ReceiveAnswer};
 use bytes_be::Place;
 use control::MessageType;
@@ -240,6 +240,16 @@ fn carried_by(e: Endpoint, s: &[u8], name: &[u8], format: &[u8], m: Message) -> 
     }
 }
 
+// The number of 01 for what a message carries: 0, or 18 to 22.
+fn carried_number(carried: Carried) -> u8
+    ensures { λ r. ⌜ r ≡ carriedNumber carried ⌝ }
+{
+    match carried {
+        Carried::Content(_) => 0,
+        Carried::Refused(number) => number,
+    }
+}
+
 // Whether the oldest confirmation awaited has this type and this type-data.
 fn matches_oldest(e: Endpoint, message: MessageType, type_data: u16) -> bool
     ensures { λ r. ⌜ r ≡ matchesOldest e message «type_data» ⌝ }
@@ -343,10 +353,11 @@ fn hear_message(e: Endpoint, s: &[u8], name: &[u8], format: &[u8], m: Message) -
     let Test::Passes = message::test_of(table::not_allowed(row)) else {
         return refuse(e, 17, said);
     };
-    match carried_by(e, s, name, format, m) {
-        Carried::Refused(number) => refuse(e, number, said),
-        Carried::Content(content) => hear_content(e, m, row, content),
-    }
+    let carried = carried_by(e, s, name, format, m);
+    let Carried::Content(content) = carried else {
+        return refuse(e, carried_number(carried), said);
+    };
+    hear_content(e, m, row, content)
 }
 
 // What any endpoint that offers this name and this format makes of a message: 3, 10 to 24, or it is heard, with no byte of a body read and
@@ -357,10 +368,15 @@ pub fn hear(e: Endpoint, s: &[u8], name: &[u8], format: &[u8]) -> Received
     if e.phase == 5 {
         return stay(e, 3);
     }
-    match message::read(s) {
-        Reading::Refused(refusal) => refuse(e, refusal.number, refusal.said),
-        Reading::Read(m) => hear_message(e, s, name, format, m),
-    }
+    let reading = message::read(s);
+    let Reading::Read(m) = reading else {
+        return refuse(
+            e,
+            message::reading_number(reading),
+            message::said_in(reading),
+        );
+    };
+    hear_message(e, s, name, format, m)
 }
 
 // Writes a reply at the start of the output.

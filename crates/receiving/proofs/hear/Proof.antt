@@ -1,8 +1,9 @@
 -- `receiving::hear` meets its contract: each answer is the case of `hearOf` that led there.
 -- Assumes nothing.
-use mathlib.Core.Path.{_∙_, subst, sym}
+use mathlib.Core.Path.{_∙_, ap, subst, sym}
 use borrow.Author.Needs.{needs}
 use borrow.Author.Tests.{eq-eqb, ne-eqb}
+use Rattle.message.specs.Reading.{readingNumber, saidIn}
 use Rattle.message.proofs.Inside.{Inside, read-inside}
 use Rattle.receiving.specs.Hearing.{hearOf}
 use Rattle.receiving.proofs.hear.Statement.{statement}
@@ -18,25 +19,33 @@ returns c = simp (eq-eqb _ _ (c .before .if1 .taken)) (c .stay .ensures)
 read-requires : tie.Need-read-requires
 read-requires c κs = search needs
 
-enum-known-refusal : tie.Need-enum-known-refusal
-enum-known-refusal c = search needs
+enum-known-reading : tie.Need-enum-known-reading
+enum-known-reading c = search needs
+
+enum-told : tie.Need-enum-told
+enum-told c = search needs
+
+reading-number-requires : tie.Need-reading-number-requires
+reading-number-requires c κs = search needs
+
+said-in-requires : tie.Need-said-in-requires
+said-in-requires c κs = search needs
 
 refuse-requires : tie.Need-refuse-requires
 refuse-requires c κs = search needs
 
-enum-known-m : tie.Need-enum-known-m
-enum-known-m c = search needs
-
-hear-message-requires : tie.Need-hear-message-requires
-hear-message-requires c κs = subst (Inside (c .before .before .before .before .before .before .before .before .before .args .s .now)) (sym (c .before .before .before .read .ensures) ∙ c .before .m .given .1) (read-inside (c .before .before .before .before .before .before .before .before .before .args .s .now))
-
 returns-2 : tie.Need-returns-2
 unfolding hearOf
-returns-2 c = simp (ne-eqb _ _ (c .before .before .before .before .before .if1 .left), sym (c .before .before .before .before .read .ensures) ∙ c .before .before .refusal .given .1) (c .refuse .ensures)
+returns-2 c =
+    let stops = c .before .before .before .enum-told .given .1 in
+    simp (ne-eqb _ _ (c .before .before .before .before .before .before .if1 .left), sym (c .before .before .before .before .before .read .ensures) ∙ stops, sym (c .before .before .reading-number .ensures ∙ ap readingNumber stops), sym (c .before .said-in .ensures ∙ ap saidIn stops)) (c .refuse .ensures)
+
+hear-message-requires : tie.Need-hear-message-requires
+hear-message-requires c κs = subst (Inside (c .before .before .before .before .before .before .before .before .before .args .s .now)) (sym (c .before .before .before .read .ensures) ∙ c .before .reading .given .1) (read-inside (c .before .before .before .before .before .before .before .before .before .args .s .now))
 
 returns-3 : tie.Need-returns-3
 unfolding hearOf
-returns-3 c = simp (ne-eqb _ _ (c .before .before .before .before .before .if1 .left), sym (c .before .before .before .before .read .ensures) ∙ c .before .before .m .given .1) (c .hear-message .ensures)
+returns-3 c = simp (ne-eqb _ _ (c .before .before .before .before .before .if1 .left), sym (c .before .before .before .before .read .ensures) ∙ c .before .before .reading .given .1) (c .hear-message .ensures)
 
 pub hear-spec : {M : Type 1} → statement M
 hear-spec =
@@ -45,9 +54,11 @@ hear-spec =
     stay-requires
     returns
     read-requires
-    enum-known-refusal
+    enum-known-reading
+    enum-told
+    reading-number-requires
+    said-in-requires
     refuse-requires
-    enum-known-m
-    hear-message-requires
     returns-2
+    hear-message-requires
     returns-3)

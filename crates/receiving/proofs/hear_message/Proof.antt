@@ -6,7 +6,7 @@ use borrow.Author.Needs.{needs}
 use Rattle.message.proofs.Tests.{passed, failed}
 use Rattle.table.specs.declared.Row.{Row}
 use Rattle.table.specs.Table.{notAllowed}
-use Rattle.receiving.specs.Hearing.{hearMessage, hearRow, tooLarge, hearContent}
+use Rattle.receiving.specs.Hearing.{carriedNumber, hearMessage, hearRow, tooLarge, hearContent}
 use Rattle.receiving.proofs.hear_message.Statement.{statement}
 use Rattle.receiving.proofs.hear_message.Tie as tie
 
@@ -64,28 +64,33 @@ returns-2 c = simp (small (c .before .before .before .before .before), failed (c
 carried-by-requires : tie.Need-carried-by-requires
 carried-by-requires c κs = search needs
 
-enum-known-number : tie.Need-enum-known-number
-enum-known-number c = search needs
+enum-known-carried : tie.Need-enum-known-carried
+enum-known-carried c = search needs
+
+enum-told-5 : tie.Need-enum-told-5
+enum-told-5 c = search needs
+
+carried-number-requires : tie.Need-carried-number-requires
+carried-number-requires c κs = search needs
 
 refuse-requires-3 : tie.Need-refuse-requires-3
 refuse-requires-3 c κs = search needs
 
-enum-known-content : tie.Need-enum-known-content
-enum-known-content c = search needs
+returns-3 : tie.Need-returns-3
+unfolding hearMessage
+returns-3 c =
+    let stops = c .before .before .enum-told5 .given .1 in
+    simp (small (c .before .before .before .before .before .before .before .before .before), permitted (c .before .before .before .before .before), sym (c .before .before .before .before .carried-by .ensures) ∙ stops, sym (c .before .carried-number .ensures ∙ ap carriedNumber stops), sym (c .before .before .before .before .before .before .before .before .before .before .before .before .before .before .type-of .ensures)) (c .refuse3 .ensures)
 
 hear-content-requires : tie.Need-hear-content-requires
 hear-content-requires c κs = search needs
-
-returns-3 : tie.Need-returns-3
-unfolding hearMessage
-returns-3 c = simp (small (c .before .before .before .before .before .before .before .before .before), permitted (c .before .before .before .before .before), sym (c .before .before .before .before .carried-by .ensures) ∙ c .before .before .number .given .1, sym (c .before .before .before .before .before .before .before .before .before .before .before .before .before .before .type-of .ensures)) (c .refuse3 .ensures)
 
 returns-4 : tie.Need-returns-4
 unfolding hearMessage
 returns-4 c =
     let a = c .before .before .before .before .before .before .before .before .before .before .before .before .before .before .before .before .before .before .args in
-    let by-row = ap (λ (row : Row). hearContent (a .e) (a .m) row (c .before .before .content .given .0 .0)) (c .before .before .before .before .before .before .before .before .before .before .before .before .before .hear-row .ensures) in
-    simp (small (c .before .before .before .before .before .before .before .before .before), permitted (c .before .before .before .before .before), sym (c .before .before .before .before .carried-by .ensures) ∙ c .before .before .content .given .1) (c .hear-content .ensures ∙ by-row)
+    let by-row = ap (λ (row : Row). hearContent (a .e) (a .m) row (c .before .before .carried .given .0 .0)) (c .before .before .before .before .before .before .before .before .before .before .before .before .before .hear-row .ensures) in
+    simp (small (c .before .before .before .before .before .before .before .before .before), permitted (c .before .before .before .before .before), sym (c .before .before .before .before .carried-by .ensures) ∙ c .before .before .carried .given .1) (c .hear-content .ensures ∙ by-row)
 
 pub hear-message-spec : {M : Type 1} → statement M
 hear-message-spec =
@@ -106,9 +111,10 @@ hear-message-spec =
     refuse-requires-2
     returns-2
     carried-by-requires
-    enum-known-number
+    enum-known-carried
+    enum-told-5
+    carried-number-requires
     refuse-requires-3
-    enum-known-content
-    hear-content-requires
     returns-3
+    hear-content-requires
     returns-4)
