@@ -36,7 +36,7 @@ install: build/libfbdp.a build/fbdp.h
 	sed 's|@PREFIX@|$(abspath $(PREFIX))|' fbdp.pc.in >"$(DESTDIR)$(PREFIX)/lib/pkgconfig/fbdp.pc"
 
 # The second program, and the C program that makes its calls.
-$(second): $(shell find second -name '*.rs' -o -name 'Cargo.*')
+$(second): $(shell find second -name '*.rs' -o -name 'Cargo.*' -o -path 'second/vectors/*')
 	cargo build --release --offline --quiet --manifest-path second/Cargo.toml --target-dir target/second
 
 build/caller: second/host.c second/probe.h build/fbdp.h build/libfbdp.a build/libprobe.a tools/x86

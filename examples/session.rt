@@ -1,5 +1,6 @@
 // A press and the estimating desk as two records that are lent: the press opens a pipe, a batch of two reports is agreed on and sent, the first is
-// confirmed, and the press closes. A reader hands out the frames of a message. Each line is checked as it runs.
+// confirmed, and the press closes. A reader hands out the frames of a message, and a lookup the part that holds
+// a term. Each line is checked as it runs.
 use bundle::Frame;
 use endpoint::Endpoint;
 use receiving::Answer;
@@ -25,7 +26,7 @@ fn body_of(answer: Answer) -> usize {
     }
 }
 
-// A message arrives at an end that offers the pipe press7 in any format.
+// A message arrives at an end that offers the pipe press7 and no format.
 fn arrives(e: &mut Endpoint, message: &[u8], reply: &mut [u8]) -> Answer {
     let outcome = lent::receive(e, message, b"press7", &[], reply);
     outcome.answer
@@ -46,6 +47,16 @@ fn framed(message: &[u8]) {
     check::expect(length_of(frames::next(&mut reader)) == 8);
     check::expect((length_of(frames::next(&mut reader)) == 8) & (reader.position == 2));
     check::expect((length_of(frames::next(&mut reader)) == 0) & (reader.position == 2));
+}
+
+// A term that the client's parameters lack is handed back as the part of the default Struct that holds its Value; one that neither has is 37.
+fn looked_up() {
+    let defaults: [u8; 9] = [0x0A, 7, 0x0A, 1, b'w', 0x12, 2, 0x20, 1];
+    let mut number: u32 = 0;
+    let part = terms::look_up(&[], &defaults, b"w", &mut number);
+    check::expect((number == 0) & (part.len() == 2) & (part[0] == 0x20) & (part[1] == 1));
+    let part = terms::look_up(&[], &defaults, b"x", &mut number);
+    check::expect((number == 37) & (part.len() == 0));
 }
 
 // The press asks for the pipe, and the desk hears it.
@@ -111,4 +122,5 @@ fn main() {
     agreed(&mut press, &mut desk, &mut message, &mut reply);
     confirmed(&mut press, &mut desk, &mut message, &mut reply);
     closed(&mut press, &mut desk, &mut message, &mut reply);
+    looked_up();
 }

@@ -146,7 +146,7 @@ static inline uint8_t fbdp_awaited(const uint8_t *block) { return block[3]; }
 /* The count that is offered in FBDP_PHASE_OFFER, and that is left in FBDP_PHASE_BATCH; else 0. */
 static inline uint16_t fbdp_count(const uint8_t *block) { return (uint16_t)(block[4] << 8 | block[5]); }
 
-/* The limit that was announced, or FBDP_MOST_LIMIT. */
+/* A client's limit; at a server FBDP_MOST_LIMIT until a client announces another. */
 static inline uint32_t fbdp_limit(const uint8_t *block) {
     return (uint32_t)block[8] << 24 | (uint32_t)block[9] << 16 | (uint32_t)block[10] << 8 | block[11];
 }
@@ -166,8 +166,8 @@ uint32_t fbdp_make_server(uint8_t *block, size_t block_length, uint8_t flow);
  * FBDP_NO_ROOM last; what is allowed when stands beside the phases. A refusal leaves every byte of `block` and `out` as
  * it was, and says that 0 were written. An `ask` is 0, or any other number to ask for a confirmation. */
 
-/* Sends OPEN, a client's first message, for the pipe of this name (1 to 255 bytes of UTF-8) and format (at most 255, or
- * none for any), with the client's limit as its one parameter.
+/* Sends OPEN, a client's first message, for the pipe of this name (1 to 255 bytes of UTF-8) and format (at most 255
+ * bytes of UTF-8, none for any format), with the client's limit as its one parameter unless that is FBDP_MOST_LIMIT.
  * Refuses what every send does, and FBDP_BADLY_GIVEN.
  * Leaves the endpoint in FBDP_PHASE_OPENING, and at most FBDP_OPEN_BYTES in `out`. */
 uint32_t fbdp_send_open(uint8_t *block, size_t block_length, const uint8_t *name, size_t name_length,
@@ -205,7 +205,7 @@ uint32_t fbdp_send_close(uint8_t *block, size_t block_length, uint16_t code, uin
 struct fbdp_heard {
     uint64_t type;                             /* FBDP_OPEN to FBDP_CLOSE */
     uint64_t flags;                            /* as they came */
-    uint64_t type_data;                        /* a count, a code, the other host's number; confirmed: one's own */
+    uint64_t type_data;                        /* READY: count; CLOSE: code; NOOP, DATA: a host's number */
     uint64_t reply;                            /* bytes of the reply in `out`, of a refusal too: 0 or 14 */
     uint64_t frames;                           /* data frames; a CLOSE may have some, which fbdp_frame places */
     uint64_t socket;                           /* OPEN: FBDP_INPUT or FBDP_OUTPUT */
@@ -216,7 +216,7 @@ struct fbdp_heard {
     uint64_t spare[2];                         /* 0 */
 };
 
-/* Receives one message, a whole bundle, at an endpoint that offers this pipe name and format; a client lends two empty
+/* Receives one message, a whole bundle, at an endpoint that offers this pipe name and format; a client may lend two empty
  * slices. They are only compared, at an OPEN: one without a format fits every offer, and an offer that no OPEN may ask
  * for fits none. No byte of a body is read. Where heard->reply is not 0, so many bytes of `out` are a confirmation or a
  * CLOSE: send them, after a refusal too. A CLOSE that is heard is accepted, and not to be answered.

@@ -1,4 +1,4 @@
-/* The parts that the entries of fbdp.h are made of, exported for the comparison alone by libprobe.a.
+/* Parts of the library, exported for the comparison alone by libprobe.a.
  * Conventions are those of fbdp.h. */
 #ifndef PROBE_H
 #define PROBE_H

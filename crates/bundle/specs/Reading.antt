@@ -50,8 +50,7 @@ sizeOf s = lengthsBefore s (countOf s)
 unfoldable pub contentsOf : List ℕ → Contents
 contentsOf s = cond (good s) (Frames (countOf s) (placeOf s 0) (sizeOf s)) Contents·BadBundle
 
--- "A reader over a lent bundle hands out its frames one by one. For a bad bundle it answers 10 and hands out none; behind the last frame
--- it answers that there is none."
+-- by its index: "For a bad bundle it answers 10 and hands out none; behind the last frame it answers that there is none."
 unfoldable pub frameOf : List ℕ → ℕ → Frame
 frameOf s k = cond (good s) (cond (ltb k (countOf s)) (At (placeOf s k)) Behind) BadBundle
 

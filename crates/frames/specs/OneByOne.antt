@@ -33,7 +33,7 @@ OneByOne =
     (bundle : List ℕ) → good bundle ≡ true → (more : ℕ)
     → handedOut bundle 0 (countOf bundle + more) ≡ tabulate 0 (countOf bundle) (λ k. At (placeOf bundle k)) ++ replicate more Behind
 
--- a bad bundle: 10 each time and no frame, ever
+-- a bad bundle: `BadBundle` each time, whose `frameNumber` is 10, and no frame, ever
 abbrev pub BadEachTime : Type 0
 BadEachTime = (bundle : List ℕ) → good bundle ≡ false → (position often : ℕ) → handedOut bundle position often ≡ replicate often BadBundle
 

@@ -5,7 +5,7 @@ use bundle::Frame;
 
 pub struct Reader<'a> {
     pub bundle: &'a [u8],
-    // How many frames it has handed out.
+    // The index of the frame that it hands out next.
     pub position: usize,
 }
 
@@ -47,25 +47,25 @@ pub fn over<'a>(bundle: &'a [u8]) -> Reader<'a>
 }
 
 // Hands out the next frame.
-pub fn next<'s, 'a>(r: &'s mut Reader<'a>) -> Frame
-    ensures { λ frame. ⌜ NextAnswer (now (r .entry)) frame (now (r .exit)) ⌝ }
+pub fn next<'s, 'a>(reader: &'s mut Reader<'a>) -> Frame
+    ensures { λ frame. ⌜ NextAnswer (now (reader .entry)) frame (now (reader .exit)) ⌝ }
 {
-    let handed = handed_at(r.bundle, r.position);
-    r.position = handed.position;
+    let handed = handed_at(reader.bundle, reader.position);
+    reader.position = handed.position;
     handed.frame
 }
 
-// The same for a caller that holds no reader: the position is told, and answered as it is afterwards.
+// The same for a caller that holds no reader: the position goes in, and the one afterwards comes back.
 pub fn hand_out(bundle: &[u8], position: usize) -> Handed
     ensures { λ handed. ⌜ handed ≡ handedAt (now (bundle .entry)) position ⌝ }
 {
-    let mut r = Reader {
+    let mut reader = Reader {
         bundle: bundle,
         position: position,
     };
-    let frame = next(&mut r);
+    let frame = next(&mut reader);
     Handed {
         frame: frame,
-        position: r.position,
+        position: reader.position,
     }
 }

@@ -1,2 +1,2 @@
--- The definitions that the contracts of this crate cite.
+-- Document 01, "A Rattle caller lends the endpoint record, which is changed in place".
 pub mod Lent

@@ -1,4 +1,4 @@
-// The endpoint record that is lent and changed in place: the five sends and receive.
+// The endpoint record that is lent and changed in place: the five sends and receive. A refused send leaves record and output as they were.
 ghost use Rattle.sending.specs.Calls.{OPEN, READY, DATA, NOOP, CLOSE};
 ghost use Rattle.lent.specs.Lent.{SendAnswer, ReceiveAnswer};
 use endpoint::Endpoint;

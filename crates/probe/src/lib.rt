@@ -1,4 +1,4 @@
-// The parts that the entries of the C interface are made of, exported for the comparison with the second program.
+// Parts of the library, exported for the comparison.
 ghost use mathlib.Core.Path.{_≡_};
 ghost use mathlib.Core.Bool.{cond};
 ghost use Prim.Native.Nat.{_-_};

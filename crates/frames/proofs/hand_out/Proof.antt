@@ -48,7 +48,7 @@ use Rattle.frames.specs.Frames.{NextAnswer}
 use Rattle.frames.specs.declared.Handed.{Handed}
 use Rattle.frames.specs.declared.Reader.{Reader}
 use Rattle.frames.proofs.Readers.{row, slice, Bundle, Own, Cell, position-fits, made, lies-in, lies-out}
-use Rattle.frames.proofs.Lent.{Tokens, Reference, Kept, lends, comes-back}
+use Rattle.frames.proofs.Loan.{Tokens, Reference, Kept, lends, comes-back}
 use Rattle.frames.proofs.Reader.Laws as reader-laws
 use Rattle.frames.proofs.Handed as handed
 use Rattle.frames.proofs.Handed.Laws as handed-laws
