@@ -1,0 +1,2 @@
+-- `Programs` has that the tables meet the contracts and that no other program does.
+pub mod Programs

@@ -1,0 +1,1 @@
+// Programs of the tables' type that do not meet the contracts. Definitions and proofs only.
