@@ -1,2 +1,5 @@
--- `Programs` has that the tables meet the contracts and that no other program does.
+-- `Programs` has that the tables meet the contracts and that no other program does; `Witnesses` has one opening, computed on its bytes by the
+-- tables, and `Idle` that each idle program is seen to differ there.
 pub mod Programs
+pub mod Witnesses
+pub mod Idle

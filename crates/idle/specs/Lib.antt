@@ -1,2 +1,4 @@
--- `Programs` has what a program is and what the contracts ask of it.
+-- Document 01, "Four idle programs are to be tried and rejected": `Programs` has what a program is and what the contracts ask of it, `Idle` the
+-- programs that do not meet them.
 pub mod Programs
+pub mod Idle

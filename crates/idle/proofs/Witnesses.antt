@@ -1,0 +1,124 @@
+-- One opening on its bytes: each step is taken by any program, from where the tables came to in the steps before; and what the tables give there, by
+-- computing it. Assumes nothing.
+use mathlib.Core.Path.{_≡_, refl}
+use mathlib.Core.List.{List, [], _∷_, flatMap, flatten}
+use Prim.Native.Nat.{ℕ, _+_, _≤_}
+use native.Mathlib.Omega.{arith}
+use mathlib.Core.Bool.{Bool, true, false}
+use lib.ListN.{getD, length, replicate, take}
+use Rattle.bytes_be.specs.Number.{fromBytesBehind, fromBytes, toBytes, numberAt}
+use Rattle.bytes_be.specs.Part.{part, same, putAt}
+use Rattle.bundle.specs.Reading.{countOf, lengthOf, lengthsBefore, startOf, good, sizeOf, contentsOf, frameOf}
+use Rattle.bundle.specs.Writing.{bundleOf}
+use Rattle.control.specs.declared.MessageType.the-variants.{Open}
+use Rattle.control.specs.Frame.{ackReply, ackRequest, typeOf, signedOf, versionOf, knownTypeOf, bytesOf}
+use Rattle.utf8.specs.Text.{table, dueBehind, rest, wellFormed}
+use Rattle.wire.specs.Fields.{payloadAt, fieldAt, fieldsWithin, fieldsOf}
+use Rattle.wire.specs.Varint.{saidAt, varintAt, shortestWithin, shortestOf}
+use Rattle.wire.specs.Written.{tagOf, varintField, bytesField}
+use Rattle.double.specs.Limit.{mostLimit}
+use Rattle.params.specs.Keys.{findIn}
+use Rattle.params.specs.Message.{walk, firstOf}
+use Rattle.terms.specs.Announced.{limitIn}
+use Rattle.open.specs.Frame.{oversized, frameWire, isThere, frameText, frameRule, frameField, placeIf, socketIf, keep, kept, frameCheck, partsOf}
+use Rattle.open.specs.Open.{openingOf, readable, outOfRange, inRange, knownSocket, offeredPipe, offeredFormat, openOf, offered}
+use Rattle.open_write.specs.Frame.{goodName, goodFormat, isGood, formatField, parametersField, frameFor}
+use Rattle.message.specs.Reading.{strangeFlags, bodyOf, readAs, readingOf}
+use Rattle.endpoint.specs.Record.{fresh, opening, offer, producer, consumer, freshClient, freshServer, givenOf, entryBytes, entryAt, inRanges, countFits, waitFits, isNone, entryFits, entriesFit, good as Record·good, freshOf, atPhase, asked, limited}
+use Rattle.endpoint.specs.Block.{headBytes, bytesOf as Block·bytesOf, recordIn, spareIsZero, loadOf}
+use Rattle.table.specs.Table.{begun, openRow, readyRow, noopRow, atRow}
+use Rattle.receiving.specs.Hearing.{movesAs, hearRow, tooLarge, openAt, carriedBy, unmatched, confirmedBy, replyTo, accepted, hearContent, hearMessage, hearOf}
+use Rattle.receiving.specs.Receiving.{replied, receivedOf}
+use Rattle.sending.specs.Calls.{OPEN, READY, NOOP, bundleWith}
+use Rattle.sending.specs.Sending.{sendRow, isFull, numberFor, askedBy, sentBy, leftBy}
+use Rattle.fbdp.specs.Blocks.{MakeAnswer, makeNumber, stored, keptAfter, leaves, keptBy, heardSlots}
+use Rattle.idle.specs.Programs.{SendResult, ReceiveResult, Program, byTables}
+
+-- a client that produces and a server that consumes, each just made
+abbrev madeClient : List ℕ
+madeClient = stored (freshClient producer mostLimit) (replicate 64 0)
+
+abbrev madeServer : List ℕ
+madeServer = stored (freshServer consumer) (replicate 64 0)
+
+pub client-made : MakeAnswer (freshClient producer mostLimit) (replicate 64 0) 0 madeClient
+unfolding freshOf makeNumber givenOf
+client-made = record { numbered = refl; kept = refl }
+
+pub server-made : MakeAnswer (freshServer consumer) (replicate 64 0) 0 madeServer
+unfolding freshOf makeNumber givenOf
+server-made = record { numbered = refl; kept = refl }
+
+-- the pipe `a`
+abbrev pipe : List ℕ
+pipe = 97 ∷ []
+
+-- an output with room for the longest message, which is the OPEN
+abbrev output : List ℕ
+output = replicate 23 0
+
+-- the message that a send wrote
+abbrev message : SendResult → List ℕ
+message result = take (result .count) (result .out)
+
+-- the client opens, the server hears that and makes an offer, the client hears the offer; then the server sends a NOOP, with an ask or without,
+-- and the client hears the one with an ask
+
+abbrev pub opens : Program → SendResult
+opens p = p .sends (OPEN pipe []) madeClient output
+
+abbrev pub hearsOpen : Program → ReceiveResult
+hearsOpen p = p .receives (message (opens byTables)) pipe [] madeServer output
+
+abbrev offers : ℕ → Program → SendResult
+offers count p = p .sends (READY count) (hearsOpen byTables .block) output
+
+abbrev hearsOffer : Program → ReceiveResult
+hearsOffer p = p .receives (message (offers 1 byTables)) [] [] (opens byTables .block) output
+
+abbrev sendsNoop : Bool → Program → SendResult
+sendsNoop ask p = p .sends (NOOP 0 ask) (offers 1 byTables .block) output
+
+abbrev pub hearsNoop : Program → ReceiveResult
+hearsNoop p = p .receives (message (sendsNoop true byTables)) [] [] (hearsOffer byTables .block) output
+
+-- a call was accepted, and these bytes stand at this place of its block
+pub record BytesLeft (result : SendResult) (at : ℕ) (bytes : List ℕ) : Type 0 where
+  pub accepts : result .number ≡ 0
+  pub holds : at + length bytes ≤ length (result .block)
+  pub there : part (result .block) at (length bytes) ≡ bytes
+
+-- what is looked at along the way
+pub record TablesGive : Type 0 where
+  pub opened : opens byTables .number ≡ 0
+  -- "2 phase": of the client, before and after its OPEN
+  pub phase-before : getD madeClient 2 0 ≡ fresh
+  pub phase-after : getD (opens byTables .block) 2 0 ≡ opening
+  pub open-heard : getD (hearsOpen byTables .slots) 0 0 ≡ typeOf Open
+  -- "4-5 n", after an offer of one and of two
+  pub one-offered : BytesLeft (offers 1 byTables) 4 (0 ∷ 1 ∷ [])
+  pub two-offered : BytesLeft (offers 2 byTables) 4 (0 ∷ 2 ∷ [])
+  pub offer-heard : loadOf (hearsOffer byTables .block) .phase ≡ offer
+  -- "3 W", after a NOOP that does not ask and after one that does
+  pub none-awaited : BytesLeft (sendsNoop false byTables) 3 (0 ∷ [])
+  pub one-awaited : BytesLeft (sendsNoop true byTables) 3 (1 ∷ [])
+  -- "the reply is the control frame with flags 2 for 1": byte 11 of the message and of the reply
+  pub flags-sent : getD (putAt output 0 (message (sendsNoop true byTables))) 11 0 ≡ ackRequest
+  pub flags-replied : getD (hearsNoop byTables .out) 11 0 ≡ ackReply
+
+pub tables-give : TablesGive
+unfolding flatMap flatten fromBytesBehind fromBytes toBytes numberAt same putAt countOf lengthOf lengthsBefore startOf good sizeOf contentsOf frameOf bundleOf signedOf versionOf knownTypeOf bytesOf table dueBehind rest wellFormed payloadAt fieldAt fieldsWithin fieldsOf saidAt varintAt shortestWithin shortestOf tagOf varintField bytesField findIn walk firstOf limitIn oversized frameWire isThere frameText frameRule frameField placeIf socketIf keep kept frameCheck partsOf openingOf readable outOfRange inRange knownSocket offeredPipe offeredFormat openOf offered goodName goodFormat isGood formatField parametersField frameFor strangeFlags bodyOf readAs readingOf entryBytes entryAt inRanges countFits waitFits isNone entryFits entriesFit Record·good freshOf atPhase asked limited begun openRow readyRow noopRow atRow movesAs hearRow tooLarge openAt carriedBy unmatched confirmedBy replyTo accepted hearContent hearMessage hearOf replied receivedOf bundleWith sendRow isFull numberFor askedBy sentBy headBytes Block·bytesOf recordIn spareIsZero loadOf leftBy stored keptAfter leaves keptBy heardSlots byTables
+tables-give =
+    record {
+      opened = refl;
+      phase-before = refl;
+      phase-after = refl;
+      open-heard = refl;
+      one-offered = record { accepts = refl; holds = omega arith; there = refl };
+      two-offered = record { accepts = refl; holds = omega arith; there = refl };
+      offer-heard = refl;
+      none-awaited = record { accepts = refl; holds = omega arith; there = refl };
+      one-awaited = record { accepts = refl; holds = omega arith; there = refl };
+      flags-sent = refl;
+      flags-replied = refl;
+    }
