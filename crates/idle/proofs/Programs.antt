@@ -1,8 +1,9 @@
--- The tables meet the contracts, and a program that meets them is the tables. Assumes nothing.
+-- The tables meet the contracts, and a program that meets them gives what the tables give. Assumes nothing.
 use mathlib.Core.Path.{_≡_, refl}
 use mathlib.Core.List.{List}
 use Prim.Native.Nat.{ℕ}
 use Rattle.sending.specs.Calls.{Call}
+use Rattle.machine.specs.Good.{Fits}
 use Rattle.fbdp.proofs.Determined.{send-determined, receive-determined}
 use Rattle.idle.specs.Programs.{Program, Meets, byTables, TablesMeet, OnlyTables}
 
@@ -10,14 +11,14 @@ pub tables-meet : TablesMeet
 unfolding byTables
 tables-meet =
     record {
-      sent = λ call block out. record { finished = record { numbered = refl; counted = refl; kept = refl }; left = refl };
+      sent = λ call fits block out. record { finished = record { numbered = refl; counted = refl; kept = refl }; left = refl };
       received = λ s name format block out. record { numbered = refl; told = refl; kept = refl; left = refl };
     }
 
 module _ (p : Program) (meets : Meets p) where
-  sends-as-tables : (call : Call) (block out : List ℕ) → p .sends call block out ≡ byTables .sends call block out
-  sends-as-tables call block out =
-      let same = send-determined (meets .sent call block out) (tables-meet .sent call block out) in
+  sends-as-tables : (call : Call) → Fits call → (block out : List ℕ) → p .sends call block out ≡ byTables .sends call block out
+  sends-as-tables call fits block out =
+      let same = send-determined (meets .sent call fits block out) (tables-meet .sent call fits block out) in
       λ i. record { number = same .0 i; count = same .1 i; block = same .2 i; out = same .3 i }
 
   receives-as-tables : (s name format block out : List ℕ) → p .receives s name format block out ≡ byTables .receives s name format block out
@@ -26,8 +27,4 @@ module _ (p : Program) (meets : Meets p) where
       λ i. record { number = same .0 i; slots = same .1 i; block = same .2 i; out = same .3 i }
 
 pub only-tables : OnlyTables
-only-tables p meets =
-    λ i. record {
-      sends = λ call block out. sends-as-tables p meets call block out i;
-      receives = λ s name format block out. receives-as-tables p meets s name format block out i;
-    }
+only-tables p meets = record { sent = sends-as-tables p meets; received = receives-as-tables p meets }

@@ -24,7 +24,7 @@ use Rattle.open.specs.Frame.{oversized, frameWire, isThere, frameText, frameRul
 use Rattle.open.specs.Open.{openingOf, readable, outOfRange, inRange, knownSocket, offeredPipe, offeredFormat, openOf, offered}
 use Rattle.open_write.specs.Frame.{goodName, goodFormat, isGood, formatField, parametersField, frameFor}
 use Rattle.message.specs.Reading.{strangeFlags, bodyOf, readAs, readingOf}
-use Rattle.endpoint.specs.Record.{fresh, opening, offer, producer, consumer, freshClient, freshServer, givenOf, entryBytes, entryAt, inRanges, countFits, waitFits, isNone, entryFits, entriesFit, good as Record·good, freshOf, atPhase, asked, limited}
+use Rattle.endpoint.specs.Record.{fresh, opening, offer, batch, producer, consumer, freshClient, freshServer, givenOf, entryBytes, entryAt, inRanges, countFits, waitFits, isNone, entryFits, entriesFit, good as Record·good, freshOf, atPhase, asked, limited}
 use Rattle.endpoint.specs.Block.{headBytes, bytesOf as Block·bytesOf, recordIn, spareIsZero, loadOf}
 use Rattle.table.specs.Table.{begun, openRow, readyRow, noopRow, atRow}
 use Rattle.receiving.specs.Hearing.{movesAs, hearRow, tooLarge, openAt, carriedBy, unmatched, confirmedBy, replyTo, accepted, hearContent, hearMessage, hearOf}
@@ -35,10 +35,10 @@ use Rattle.fbdp.specs.Blocks.{MakeAnswer, makeNumber, stored, keptAfter, leaves
 use Rattle.idle.specs.Programs.{SendResult, ReceiveResult, Program, byTables}
 
 -- a client that produces and a server that consumes, each just made
-abbrev madeClient : List ℕ
+abbrev pub madeClient : List ℕ
 madeClient = stored (freshClient producer mostLimit) (replicate 64 0)
 
-abbrev madeServer : List ℕ
+abbrev pub madeServer : List ℕ
 madeServer = stored (freshServer consumer) (replicate 64 0)
 
 pub client-made : MakeAnswer (freshClient producer mostLimit) (replicate 64 0) 0 madeClient
@@ -54,15 +54,15 @@ abbrev pipe : List ℕ
 pipe = 97 ∷ []
 
 -- an output with room for the longest message, which is the OPEN
-abbrev output : List ℕ
+abbrev pub output : List ℕ
 output = replicate 23 0
 
 -- the message that a send wrote
-abbrev message : SendResult → List ℕ
+abbrev pub message : SendResult → List ℕ
 message result = take (result .count) (result .out)
 
--- the client opens, the server hears that and makes an offer, the client hears the offer; then the server sends a NOOP, with an ask or without,
--- and the client hears the one with an ask
+-- the client opens, the server hears that and makes an offer, the client hears the offer and agrees, and the server hears that; or instead the
+-- server sends a NOOP, with an ask or without, and the client hears the one with an ask
 
 abbrev pub opens : Program → SendResult
 opens p = p .sends (OPEN pipe []) madeClient output
@@ -70,13 +70,19 @@ opens p = p .sends (OPEN pipe []) madeClient output
 abbrev pub hearsOpen : Program → ReceiveResult
 hearsOpen p = p .receives (message (opens byTables)) pipe [] madeServer output
 
-abbrev offers : ℕ → Program → SendResult
+abbrev pub offers : ℕ → Program → SendResult
 offers count p = p .sends (READY count) (hearsOpen byTables .block) output
 
 abbrev hearsOffer : Program → ReceiveResult
 hearsOffer p = p .receives (message (offers 1 byTables)) [] [] (opens byTables .block) output
 
-abbrev sendsNoop : Bool → Program → SendResult
+abbrev agrees : Program → SendResult
+agrees p = p .sends (READY 1) (hearsOffer byTables .block) output
+
+abbrev pub hearsAgreed : Program → ReceiveResult
+hearsAgreed p = p .receives (message (agrees byTables)) pipe [] (offers 1 byTables .block) output
+
+abbrev pub sendsNoop : Bool → Program → SendResult
 sendsNoop ask p = p .sends (NOOP 0 ask) (offers 1 byTables .block) output
 
 abbrev pub hearsNoop : Program → ReceiveResult
@@ -98,7 +104,11 @@ pub record TablesGive : Type 0 where
   -- "4-5 n", after an offer of one and of two
   pub one-offered : BytesLeft (offers 1 byTables) 4 (0 ∷ 1 ∷ [])
   pub two-offered : BytesLeft (offers 2 byTables) 4 (0 ∷ 2 ∷ [])
+  -- the offer stands at the server and at the client, and the server hears that it is agreed to
+  pub offering : loadOf (offers 1 byTables .block) .phase ≡ offer
   pub offer-heard : loadOf (hearsOffer byTables .block) .phase ≡ offer
+  pub phase-offering : getD (offers 1 byTables .block) 2 0 ≡ offer
+  pub phase-agreed : getD (hearsAgreed byTables .block) 2 0 ≡ batch
   -- "3 W", after a NOOP that does not ask and after one that does
   pub none-awaited : BytesLeft (sendsNoop false byTables) 3 (0 ∷ [])
   pub one-awaited : BytesLeft (sendsNoop true byTables) 3 (1 ∷ [])
@@ -116,7 +126,10 @@ tables-give =
       open-heard = refl;
       one-offered = record { accepts = refl; holds = omega arith; there = refl };
       two-offered = record { accepts = refl; holds = omega arith; there = refl };
+      offering = refl;
       offer-heard = refl;
+      phase-offering = refl;
+      phase-agreed = refl;
       none-awaited = record { accepts = refl; holds = omega arith; there = refl };
       one-awaited = record { accepts = refl; holds = omega arith; there = refl };
       flags-sent = refl;

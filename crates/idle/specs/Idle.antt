@@ -1,52 +1,67 @@
 -- "Four idle programs are to be tried and rejected: one that refuses everything, one that always hears NOOP, one that leaves the block untouched,
 -- one that opens properly and afterwards only echoes. .. A made-up n or W fails too, since both are bytes of the block fixed by the tables."
--- Each follows the tables in all but its vice.
-use Prim.Native.Nat.{ℕ}
+-- Each is rejected for its vice alone, whatever else it does; and for each there is a program that has it.
+use Prim.Native.Nat.{ℕ, _≤_, _<_}
 use mathlib.Core.Path.{_≡_}
 use mathlib.Core.List.{List, _∷_}
 use mathlib.Core.Bool.{cond}
-use lib.ListN.{replicate}
+use lib.ListN.{getD, length, replicate}
 use lib.Dec.{leb, eqb}
 use Rattle.bytes_be.specs.Number.{toBytes}
-use Rattle.bytes_be.specs.Part.{putAt}
+use Rattle.bytes_be.specs.Part.{part, putAt}
 use Rattle.control.specs.declared.MessageType.the-variants.{Noop}
 use Rattle.control.specs.Frame.{typeOf}
 use Rattle.endpoint.specs.Record.{opening}
 use Rattle.endpoint.specs.Block.{loadOf}
-use Rattle.idle.specs.Programs.{Program, ReceiveResult, Meets, byTables}
+use Rattle.sending.specs.Calls.{Call}
+use Rattle.table.specs.declared.Row.the-variants.{NotAllowed}
+use Rattle.table.specs.Table.{sendNumber}
+use Rattle.machine.specs.Good.{Fits}
+use Rattle.idle.specs.Programs.{Program, SendResult, ReceiveResult, Meets, byTables}
 
--- it does not meet the contracts
 abbrev pub Rejected : Program → Type 0
 Rejected p = Meets p → ⊥
 
--- "one that refuses everything", with this number, and changes no byte
-unfoldable pub refusing : ℕ → Program
+-- "one that refuses everything", by whatever numbers
+pub record RefusesEverything (p : Program) : Type 0 where
+  pub refuses-calls : (call : Call) (block out : List ℕ) → p .sends call block out .number ≡ 0 → ⊥
+  pub refuses-messages : (s name format block out : List ℕ) → p .receives s name format block out .number ≡ 0 → ⊥
+
+abbrev pub RefusingRejected : Type 0
+RefusingRejected = (p : Program) → RefusesEverything p → Rejected p
+
+-- no byte changes
+abbrev pub refusedCall : ℕ → List ℕ → List ℕ → SendResult
+refusedCall number block out = record { number = number; count = 0; block = block; out = out }
+
+abbrev pub refusing : ℕ → Program
 refusing number =
     record {
-      sends = λ call block out. record { number = number; count = 0; block = block; out = out };
+      sends = λ call block out. refusedCall number block out;
       receives = λ s name format block out. record { number = number; slots = replicate 16 0; block = block; out = out };
     }
 
--- every number but 0 refuses
-abbrev pub RefusingRejected : Type 0
-RefusingRejected = (number : ℕ) → (number ≡ 0 → ⊥) → Rejected (refusing number)
+-- "one that always hears NOOP"
+abbrev pub HearsNoop : Program → Type 0
+HearsNoop p = (s name format block out : List ℕ) → getD (p .receives s name format block out .slots) 0 0 ≡ typeOf Noop
 
--- "one that always hears NOOP", with no ask, type-data 0 and no reply
-unfoldable pub hearingNoop : Program
+abbrev pub HearingNoopRejected : Type 0
+HearingNoopRejected = (p : Program) → HearsNoop p → Rejected p
+
+abbrev pub hearingNoop : Program
 hearingNoop =
     record {
       sends = byTables .sends;
-      receives = λ s name format block out.
-          record {
-            number = 0;
-            slots = typeOf Noop ∷ replicate 15 0;
-            block = byTables .receives s name format block out .block;
-            out = byTables .receives s name format block out .out;
-          };
+      receives = λ s name format block out. record { number = 0; slots = typeOf Noop ∷ replicate 15 0; block = block; out = out };
     }
 
-abbrev pub HearingNoopRejected : Type 0
-HearingNoopRejected = Rejected hearingNoop
+-- "one that leaves the block untouched"
+pub record LeavesBlock (p : Program) : Type 0 where
+  pub after-calls : (call : Call) (block out : List ℕ) → p .sends call block out .block ≡ block
+  pub after-messages : (s name format block out : List ℕ) → p .receives s name format block out .block ≡ block
+
+abbrev pub UntouchingRejected : Type 0
+UntouchingRejected = (p : Program) → LeavesBlock p → Rejected p
 
 -- the tables, but for the block: it is made of the number, of the block before and of the one that the tables leave
 abbrev pub leaving : (ℕ → List ℕ → List ℕ → List ℕ) → Program
@@ -68,46 +83,73 @@ leaving left =
           };
     }
 
--- "one that leaves the block untouched"
-unfoldable pub untouching : Program
+abbrev pub untouching : Program
 untouching = leaving (λ number before after. before)
 
-abbrev pub UntouchingRejected : Type 0
-UntouchingRejected = Rejected untouching
-
--- a message is accepted, told as the tables tell it, and written to the output as it came; the block stays
-abbrev pub echo : ReceiveResult → List ℕ → List ℕ → List ℕ → ReceiveResult
-echo result s block out = record { number = 0; slots = result .slots; block = block; out = putAt out 0 s }
-
--- "one that opens properly and afterwards only echoes": it receives by the tables in phases 0 and 1, and sends by them in all
-unfoldable pub echoing : Program
-echoing =
-    record {
-      sends = byTables .sends;
-      receives = λ s name format block out.
-          cond (leb (loadOf block .phase) opening)
-          (byTables .receives s name format block out)
-          (echo (byTables .receives s name format block out) s block out);
-    }
+-- "one that opens properly and afterwards only echoes": it does as the tables in phases 0 and 1, and nothing comes of a message afterwards but
+-- what is written back, be that the message itself or a confirmation
+pub record OpensThenEchoes (p : Program) : Type 0 where
+  pub sends-open : (call : Call) (block out : List ℕ) → loadOf block .phase ≤ opening → p .sends call block out ≡ byTables .sends call block out
+  pub hears-open : (s name format block out : List ℕ) → loadOf block .phase ≤ opening
+      → p .receives s name format block out ≡ byTables .receives s name format block out
+  pub stays : (s name format block out : List ℕ) → opening < loadOf block .phase → p .receives s name format block out .block ≡ block
 
 abbrev pub EchoingRejected : Type 0
-EchoingRejected = Rejected echoing
+EchoingRejected = (p : Program) → OpensThenEchoes p → Rejected p
 
--- after each call that is accepted, the block has these bytes at this place
-abbrev pub madeUp : ℕ → List ℕ → Program
-madeUp at bytes = leaving (λ number before after. cond (eqb number 0) (putAt after at bytes) after)
+-- and one that writes the message itself back is rejected for that alone
+abbrev pub WritesBack : Program → Type 0
+WritesBack p = (s name format block out : List ℕ) → opening < loadOf block .phase → p .receives s name format block out .out ≡ putAt out 0 s
 
--- "A made-up n": "4-5 n, big-endian"
-unfoldable pub countingAs : ℕ → Program
-countingAs n = madeUp 4 (toBytes 2 n)
+abbrev pub WritingBackRejected : Type 0
+WritingBackRejected = (p : Program) → WritesBack p → Rejected p
 
--- whichever number is made up
+-- told is how long the echo is
+abbrev pub echo : List ℕ → List ℕ → List ℕ → ReceiveResult
+echo s block out = record { number = 0; slots = 0 ∷ 0 ∷ 0 ∷ length s ∷ replicate 12 0; block = block; out = putAt out 0 s }
+
+abbrev pub echoing : Program
+echoing =
+    record {
+      sends = λ call block out.
+          cond (leb (loadOf block .phase) opening) (byTables .sends call block out) (refusedCall (sendNumber NotAllowed) block out);
+      receives = λ s name format block out.
+          cond (leb (loadOf block .phase) opening) (byTables .receives s name format block out) (echo s block out);
+    }
+
+-- "A made-up n or W": after some call or message these bytes of the block are not those of the tables
+pub data MadeUp (at count : ℕ) (p : Program) : Type 0 where
+  by-call : (call : Call) → Fits call → (block out : List ℕ)
+      → (part (p .sends call block out .block) at count ≡ part (byTables .sends call block out .block) at count → ⊥) → MadeUp at count p
+  by-message : (s name format block out : List ℕ)
+      → (part (p .receives s name format block out .block) at count ≡ part (byTables .receives s name format block out .block) at count → ⊥)
+      → MadeUp at count p
+
+-- "4-5 n, big-endian" and "3 W"
+abbrev pub MadeUpRejected : Type 0
+MadeUpRejected = (p : Program) → (MadeUp 4 2 p → Rejected p) × (MadeUp 3 1 p → Rejected p)
+
+-- the block after each call that is accepted has these bytes at this place
+abbrev pub makingUp : ℕ → List ℕ → Program
+makingUp at bytes = leaving (λ number before after. cond (eqb number 0) (putAt after at bytes) after)
+
+-- no n and no W will do for all calls
+abbrev pub countingAs : ℕ → Program
+countingAs n = makingUp 4 (toBytes 2 n)
+
 abbrev pub CountingRejected : Type 0
 CountingRejected = (n : ℕ) → Rejected (countingAs n)
 
--- "or W": "3 W"
-unfoldable pub awaitingAs : ℕ → Program
-awaitingAs w = madeUp 3 (toBytes 1 w)
+abbrev pub awaitingAs : ℕ → Program
+awaitingAs w = makingUp 3 (toBytes 1 w)
 
 abbrev pub AwaitingRejected : Type 0
 AwaitingRejected = (w : ℕ) → Rejected (awaitingAs w)
+
+-- each vice is one that a program has
+pub record VicesExist : Type 0 where
+  pub refuses : (number : ℕ) → (number ≡ 0 → ⊥) → RefusesEverything (refusing number)
+  pub hears-noop : HearsNoop hearingNoop
+  pub leaves-block : LeavesBlock untouching
+  pub opens-then-echoes : OpensThenEchoes echoing
+  pub writes-back : WritesBack echoing

@@ -6,14 +6,15 @@ use mathlib.Core.List.{List, [], _∷_}
 use mathlib.Core.Bool.{true}
 use lib.ListN.{length}
 use Rattle.endpoint.specs.Record.{freshClient, freshServer}
-use Rattle.sending.specs.Calls.{Call}
+use Rattle.endpoint.specs.Block.{loadOf}
+use Rattle.sending.specs.Calls.{Call, written}
 use Rattle.fbdp.specs.Blocks.{MakeAnswer}
 use Rattle.machine.specs.Good.{Fits}
 use Rattle.session.specs.World.{End, across, Going, World, side, joined, made}
 use Rattle.session.specs.Demand.{movesOn}
 use Rattle.session.specs.Blocks.{afterEntry, afterReceived}
-use Rattle.idle.specs.Programs.{Program, SendResult, ReceiveResult, Meets, byTables}
-use Rattle.idle.specs.Idle.{refusing}
+use Rattle.idle.specs.Programs.{Program, SendResult, ReceiveResult, Meets}
+use Rattle.idle.specs.Idle.{RefusesEverything}
 
 -- the two ends after a call and after a message, by what the program gave
 abbrev pub afterSending : End → World (List ℕ) → Call → SendResult → World (List ℕ)
@@ -37,14 +38,13 @@ module _ (p : Program) where
     none : {w : World (List ℕ)} → RunsBy w w
     more : {w between after : World (List ℕ)} → CallsBy w between → RunsBy between after → RunsBy w after
 
-  -- "one end may still send something other than NOOP and CLOSE": it is accepted in every output with so much room
+  -- "one end may still send something other than NOOP and CLOSE": it is accepted in every output with room for it
   pub record MayStillSend (w : World (List ℕ)) : Type 0 where
     pub end : End
     pub call : Call
     pub fits : Fits call
     pub moves-on : movesOn call ≡ true
-    pub room : ℕ
-    pub accepted : (out : List ℕ) → room ≤ length out → p .sends call (side w end .self) out .number ≡ 0
+    pub accepted : (out : List ℕ) → length (written (loadOf (side w end .self)) call) ≤ length out → p .sends call (side w end .self) out .number ≡ 0
 
   -- for every client and server that was made, and any calls: "while neither has closed and nothing is in transit"
   abbrev pub GoesOn : Type 0
@@ -55,13 +55,10 @@ module _ (p : Program) where
       → after .client .past .ending ≡ Going → after .server .past .ending ≡ Going → after .client .queue ≡ [] → after .server .queue ≡ []
       → MayStillSend after
 
--- every program that meets the contracts goes on, and so do the tables
+-- every program that meets the contracts goes on
 abbrev pub MeetingGoesOn : Type 0
 MeetingGoesOn = (p : Program) → Meets p → GoesOn p
 
-abbrev pub TablesGoOn : Type 0
-TablesGoOn = GoesOn byTables
-
 -- one that refuses everything does not
 abbrev pub RefusingStops : Type 0
-RefusingStops = (number : ℕ) → (number ≡ 0 → ⊥) → GoesOn (refusing number) → ⊥
+RefusingStops = (p : Program) → RefusesEverything p → GoesOn p → ⊥

@@ -1,5 +1,5 @@
 -- A program: a total function of the tables' type, which gives a result for every send and every receive on a block. The tables are one that
--- meets the contracts, and there is no other.
+-- meets the contracts, and no other gives anything else.
 use Prim.Native.Nat.{ℕ}
 use mathlib.Core.Path.{_≡_}
 use mathlib.Core.List.{List}
@@ -10,6 +10,7 @@ use Rattle.receiving.specs.Receiving.{answerNumber, replied}
 use Rattle.sending.specs.declared.Sent.{Sent}
 use Rattle.sending.specs.Calls.{Call, written}
 use Rattle.sending.specs.Sending.{leftBy}
+use Rattle.machine.specs.Good.{Fits}
 use Rattle.fbdp.specs.Blocks.{SendAnswer, ReceiveAnswer, answerSlots, keptAfter, keptBy, receivedOn, replyLength, sentOn}
 
 -- the number, how many bytes were written, and the block and the output afterwards
@@ -31,9 +32,9 @@ pub record Program : Type 0 where
   pub sends : Call → List ℕ → List ℕ → SendResult
   pub receives : List ℕ → List ℕ → List ℕ → List ℕ → List ℕ → ReceiveResult
 
--- whatever is called, the result meets the contract of the entry
+-- whatever is called, with arguments of their types, the result meets the contract of the entry
 pub record Meets (p : Program) : Type 0 where
-  pub sent : (call : Call) (block out : List ℕ)
+  pub sent : (call : Call) → Fits call → (block out : List ℕ)
       → SendAnswer call block out (p .sends call block out .number) (p .sends call block out .count) (p .sends call block out .block) (p .sends call block out .out)
   pub received : (s name format block out : List ℕ)
       → ReceiveAnswer s name format block out (p .receives s name format block out .number) (p .receives s name format block out .slots)
@@ -70,6 +71,10 @@ byTables =
 abbrev pub TablesMeet : Type 0
 TablesMeet = Meets byTables
 
--- "any two results allowed by it coincide": and whatever meets them gives the same, at all arguments
+-- "any two results allowed by it coincide": what a program that meets the contracts gives is what the tables give
+pub record AsTables (p : Program) : Type 0 where
+  pub sent : (call : Call) → Fits call → (block out : List ℕ) → p .sends call block out ≡ byTables .sends call block out
+  pub received : (s name format block out : List ℕ) → p .receives s name format block out ≡ byTables .receives s name format block out
+
 abbrev pub OnlyTables : Type 0
-OnlyTables = (p : Program) → Meets p → p ≡ byTables
+OnlyTables = (p : Program) → Meets p → AsTables p
