@@ -4,7 +4,7 @@ use mathlib.Core.Path.{_≡_, refl, sym, ap, ap₂, _∙_}
 use mathlib.Core.List.{List, [], _∷_, _++_, append-nil}
 use mathlib.Core.Bool.{Bool, true, false}
 use Prim.Native.Nat.{ℕ, zero, suc, _+_, _≤_, _<_}
-use native.Mathlib.Nat.{zero-add, suc-add}
+use native.Mathlib.Nat.{zero-add, add-zero, suc-add}
 use native.Mathlib.Numerals.{add-one}
 use native.Mathlib.Omega.{arith}
 use lib.ListN.{length, replicate}
@@ -21,7 +21,7 @@ use Rattle.bundle.proofs.Sums.{frame-there, frame-behind}
 use Rattle.bundle.proofs.Round.{count-back, good-back, frames-back}
 use Rattle.frames.specs.declared.Handed.{Handed}
 use Rattle.frames.specs.declared.Reader.{Reader}
-use Rattle.frames.specs.Frames.{handedAt}
+use Rattle.frames.specs.Frames.{movedBy, handedAt, handedBy, NextAnswer}
 use Rattle.frames.specs.OneByOne.{handedOut, framesIn, OneByOne, BadEachTime, ByIndex, HandsOutFrames, HandsOutWritten, Asked, AskedByCalls}
 
 -- a function that has one value from a number on
@@ -49,9 +49,12 @@ module _ (s : List ℕ) where
     unfolding frameOf
     frame-bad index = simp bad
 
-    bad-for-ever : (position often : ℕ) → handedOut s position often ≡ replicate often BadBundle
+    bad-stays : (position : ℕ) → handedAt s position ≡ record { frame = BadBundle; position = position }
     unfolding handedAt
-    bad-for-ever position often = same-for-ever position BadBundle (simp (frame-bad position)) often
+    bad-stays position = simp (frame-bad position)
+
+    bad-for-ever : (position often : ℕ) → handedOut s position often ≡ replicate often BadBundle
+    bad-for-ever position often = same-for-ever position BadBundle (bad-stays position) often
 
     bad-by-index : (often : ℕ) → handedOut s 0 often ≡ tabulate 0 often (frameOf s)
     bad-by-index often = bad-for-ever 0 often ∙ sym (same-from (frameOf s) BadBundle 0 often (λ i h. frame-bad i))
@@ -61,9 +64,12 @@ module _ (s : List ℕ) where
     unfolding handedAt
     handed-there position there = simp (frame-there s g position there, add-one)
 
-    behind-for-ever : (position : ℕ) → countOf s ≤ position → (often : ℕ) → handedOut s position often ≡ replicate often Behind
+    behind-stays : (position : ℕ) → countOf s ≤ position → handedAt s position ≡ record { frame = Behind; position = position }
     unfolding handedAt
-    behind-for-ever position behind often = same-for-ever position Behind (simp (frame-behind s g position behind)) often
+    behind-stays position behind = simp (frame-behind s g position behind)
+
+    behind-for-ever : (position : ℕ) → countOf s ≤ position → (often : ℕ) → handedOut s position often ≡ replicate often Behind
+    behind-for-ever position behind often = same-for-ever position Behind (behind-stays position behind) often
 
     -- from any position on, all frames that are left
     left-one-by-one : (position left : ℕ) → position + left ≡ countOf s → (more : ℕ) →
@@ -137,5 +143,32 @@ asked-from (frame ∷ rest) before after calls =
     ap₂ _∷_ (calls .1 .handed)
     (asked-from rest (calls .0) after (calls .2) ∙ ap (λ (r : Reader). handedOut (now (r .bundle)) (r .position) (length rest)) (calls .1 .left))
 
+-- a frame that is handed out is one more, and nothing else moves a reader
+counted-on : (s : List ℕ) (frame : Frame) (rest : List Frame) (position : ℕ) →
+    movedBy frame position + length (framesIn s rest) ≡ position + length (framesIn s (frame ∷ rest))
+unfolding framesIn
+counted-on s (At place) rest position = omega arith
+counted-on s Behind rest position = refl
+counted-on s BadBundle rest position = refl
+
+moved-on : (before : Reader) {frame : Frame} {next : Reader} → NextAnswer before frame next → handedBy before .position ≡ movedBy frame (before .position)
+unfolding handedAt
+moved-on before answer = ap (λ (handed : Frame). movedBy handed (before .position)) (sym (answer .handed))
+
+-- a reader over the same bundle at another position
+abbrev at : Reader → ℕ → Reader
+at reader position = record { bundle = reader .bundle; position = position }
+
+left-from : (frames : List Frame) (before after : Reader) → Asked before frames after →
+    after ≡ at before (before .position + length (framesIn (now (before .bundle)) frames))
+unfolding framesIn
+left-from [] before after calls = calls ∙ ap (at before) (sym (add-zero (before .position)))
+left-from (frame ∷ rest) before after calls =
+    left-from rest (calls .0) after (calls .2)
+    ∙ ap (λ (reader : Reader). at reader (reader .position + length (framesIn (now (reader .bundle)) rest))) (calls .1 .left)
+    ∙ ap (λ (position : ℕ). at before (position + length (framesIn (now (before .bundle)) rest))) (moved-on before (calls .1))
+    ∙ ap (at before) (counted-on (now (before .bundle)) frame rest (before .position))
+
 pub asked-by-calls : AskedByCalls
-asked-by-calls bundle frames after calls = asked-from frames _ after calls
+asked-by-calls bundle frames after calls =
+    (asked-from frames _ after calls, left-from frames _ after calls ∙ ap (λ (position : ℕ). record { bundle = bundle; position = position }) (zero-add (length (framesIn (now bundle) frames))))

@@ -57,8 +57,9 @@ abbrev pub Asked : Reader → List Frame → Reader → Type 0
 Asked before [] after = after ≡ before
 Asked before (frame ∷ rest) after = (next : Reader) × NextAnswer before frame next × Asked next rest after
 
--- every run of calls hands out just that
+-- every run of calls hands out just that, and leaves the reader over its bundle at as many frames as it handed out
 abbrev pub AskedByCalls : Type 0
 AskedByCalls =
     (bundle : RefT (List ℕ)) (frames : List Frame) (after : Reader) → Asked (begunOver bundle) frames after
-    → frames ≡ handedOut (now bundle) 0 (length frames)
+    → (frames ≡ handedOut (now bundle) 0 (length frames))
+    × (after ≡ record { bundle = bundle; position = length (framesIn (now bundle) frames) })

@@ -102,7 +102,7 @@ readingOf s =
     ifKnown (knownTypeOf said) (refused (knownTypeNumber Unknown) said) (λ message.
     readAs s said message flags type-data (count - 1) size))))
 
--- the number of each answer
+-- the number of a reading: 0, or 10 to 15
 abbrev pub readingNumber : Reading → ℕ
 readingNumber (Read m) = 0
 readingNumber (Refused refusal) = refusal .number

@@ -17,7 +17,7 @@ use Rattle.message.specs.declared.Body.the-variants.{Nothing as Body·Nothing, 
 use Rattle.message.specs.declared.Message.{Message}
 use Rattle.message.specs.declared.Reading.{Reading}
 use Rattle.message.specs.declared.Reading.the-variants.{Read, Refused as Reading·Refused}
-use Rattle.message.specs.Reading.{bodyPlace, readingOf}
+use Rattle.message.specs.Reading.{bodyPlace, readingOf, readingNumber, saidIn}
 use Rattle.endpoint.specs.declared.Endpoint.{Endpoint}
 use Rattle.endpoint.specs.Record.{shut, oldest, confirmed, limited}
 use Rattle.table.specs.declared.Row.{Row}
@@ -136,20 +136,20 @@ accepted e m row content =
       reply = replyTo m;
     }
 
--- what follows what is carried, or what is read, or its refusal
-
--- the number of each answer
+-- the number of what is carried: 0, or 18 to 22
 abbrev pub carriedNumber : Carried → ℕ
 carriedNumber (Carried·Content content) = 0
 carriedNumber (Refused number) = number
 
+-- what follows what is carried, or what is read, or its refusal
+
 abbrev pub ifCarried : Carried → (ℕ → Received) → (Content → Received) → Received
-ifCarried (Refused number) refusal next = refusal number
-ifCarried (Carried·Content content) refusal next = next content
+ifCarried (Carried·Content content) refuse next = next content
+ifCarried (Refused number) refuse next = refuse (carriedNumber (Refused number))
 
 abbrev pub ifRead : Reading → (ℕ → ℕ → Received) → (Message → Received) → Received
-ifRead (Reading·Refused refusal) refuse next = refuse (refusal .number) (refusal .said)
 ifRead (Read m) refuse next = next m
+ifRead (Reading·Refused refusal) refuse next = refuse (readingNumber (Reading·Refused refusal)) (saidIn (Reading·Refused refusal))
 
 -- 23, 24, and else the message is heard
 unfoldable pub hearContent : Endpoint → Message → Row → Content → Received
