@@ -1,5 +1,5 @@
--- What the walks of this crate share: the machine values of the record and of a slice, that what is answered is well formed where the whole result
--- is, and that what holds of a record by value holds of the record lent. Assumes nothing.
+-- The laws of a record that is lent: the machine values of the record and of a slice, that what is answered is well formed where the
+-- whole result is, and that what holds of a record by value holds of the record lent. Assumes nothing.
 use mathlib.Core.Path.{ap}
 use Prim.Native.Nat.{ℕ}
 use mathlib.Core.List.{List}
