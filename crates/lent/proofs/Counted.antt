@@ -14,7 +14,7 @@ use prog.Model.{Model}
 use prog.Routine.{Routine, Env}
 use prog.Wp.{Heap, Calls, Loops, WpFn, Closed}
 use ghost.Atoms.{Atoms}
-use contract.Monad.{fact}
+use contract.Monad.{fact, factI}
 use contract.Lifetimes.{AllOutlive}
 use contract.Running.{GhostRules, Running, givenOf, tables}
 use types.Kit.{Given, ‵, _⊛_, _$_, _∵_, !, qed, move, drop, use1, split, rewrite, fsplit, fsplit3}
@@ -127,7 +127,7 @@ module _ (call-of : ℕ → Call) (callee : Name) {M : Type 1} (𝓤 : URA M) (H
       -- [obs; the borrow; the token; what the result owns; the other tokens; the last list; _7 (6); …; _0 (20); …]
       returns ! (look ! 20 refl) $ forget ! 6 refl $ forget ! 8 refl $ forget ! 10 refl $ forget ! 12 refl $ forget ! 14 refl $ forget ! 16 refl $ forget ! 18 refl $ forget ! 20 refl $
       move ! (20 ∷ 21 ∷ []) $ free1 ! $ move ! (18 ∷ 19 ∷ []) $ free1 ! $ move ! (16 ∷ 17 ∷ []) $ free1 ! $ move ! (14 ∷ 15 ∷ []) $ free1 ! $ move ! (12 ∷ 13 ∷ []) $ free1 ! $ move ! (10 ∷ 11 ∷ []) $ free1 ! $ move ! (8 ∷ 9 ∷ []) $ free1 ! $ move ! (6 ∷ 7 ∷ []) $ free1 ! $ free0 ! $
-      leaves ! 1 (r .next) (send-said h (call-of number) (out .now) e)
+      leaves ! 1 (r .next) (factI 𝓤 _ (emp 𝓤) (send-said h (call-of number) (out .now) e))
       (ends-at 𝓤 H A ended stayed (answers call-of 𝓤) W entry _ (toldOf r) (r .next, (tt, (zs, tt))) (tt, (tt, (l, tt)))))))))))))))
 
 goes : {M : Type 1} (𝓤 : URA M) (H : Heap 𝓤) (A : Atoms 𝓤) (W : Given 𝓤 H A) → AllGo 𝓤 H A W 2 (ended .signature .params) (ended .kept) stayed

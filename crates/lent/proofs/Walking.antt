@@ -18,7 +18,7 @@ use ghost.Atoms.{Atoms, sem}
 use contract.Monad.{Fun, fact}
 use contract.Lifetimes.{Lfts, Shares, AllOutlive}
 use contract.Running.{GhostRules, Running, givenOf, tables, tablesOf}
-use types.Kit.{Given, Goal, Item, Step, Seq, Soaks, aim, mean, ‵, raw, _⊛_, some, later, step, _$_, _∵_, !, qed, by, move, use1, use3, split, join, pick, fsplit, fjoin, fjoin3, feqI, feqL, suffices, frame, await, done}
+use types.Kit.{Given, Goal, Item, Step, Seq, Soaks, aim, mean, ‵, raw, _⊛_, some, later, step, _$_, _∵_, !, qed, by, move, use0, use1, use3, split, join, pick, fsplit, fjoin, fjoin3, feqI, feqL, suffices, frame, await, done}
 use types.SemTy.{Body}
 use sound.WpLaws.{FmC, fmOf, WpFn-mono}
 use denote.RattleType.{RattleType, flat}
@@ -36,7 +36,7 @@ use denote.Triple.Entry.{Args, onEntry}
 use denote.Triple.Spec.{tripleOf}
 use denote.Triple.Table.{entered, cited}
 use denote.Triple.Clauses.{Ended, Clauses, closing}
-use denote.Triple.Walked.{says, Stays, AllGo, walkOf, walked, walk-meets}
+use denote.Triple.Walked.{Stays, AllGo, walkOf, walked, walk-meets}
 use Rattle.endpoint.specs.declared.Endpoint.{Endpoint}
 use Rattle.endpoint.proofs.Endpoint as T
 use Rattle.endpoint.proofs.Endpoint.Laws as T′
@@ -101,14 +101,15 @@ module _ {M : Type 1} {𝓤 : URA M} {H : Heap 𝓤} {A : Atoms 𝓤} {K : Type 
       move t (4 ∷ 0 ∷ 5 ∷ 6 ∷ 7 ∷ []) $ closes t soaks T.the-row next (vals next) b o $ rest)
 
   -- the end of a walk: nothing is had of the n parameters between the record and the output
-  pub leaves : K → (n : ℕ) (next : Endpoint) {φ : Type 0} → φ → {κ : Lft} {q : Share} {b o : ℕ} {γ : GName} {result tokens : Item 𝓤} {last : Fml}
-      → ent 𝓤 (sep 𝓤 (sep 𝓤 (sep 𝓤 (A .lft κ q) (mean 𝓤 H A tokens)) (sep 𝓤 (sem 𝓤 H A (fsep (MutRef (named 0) κ T.the-row .own (record { ptr = (b, o); name = γ; now = next }) (vptr b o ∷ [])) (among n last))) (mean 𝓤 H A result))) (fact 𝓤 φ)) (aim 𝓤 H G)
+  pub leaves : K → (n : ℕ) (next : Endpoint) {said : SProp 𝓤} → ent 𝓤 (emp 𝓤) said → {κ : Lft} {q : Share} {b o : ℕ} {γ : GName} {result tokens : Item 𝓤} {last : Fml}
+      → ent 𝓤 (sep 𝓤 (sep 𝓤 (sep 𝓤 (A .lft κ q) (mean 𝓤 H A tokens)) (sep 𝓤 (sem 𝓤 H A (fsep (MutRef (named 0) κ T.the-row .own (record { ptr = (b, o); name = γ; now = next }) (vptr b o ∷ [])) (among n last))) (mean 𝓤 H A result))) said) (aim 𝓤 H G)
       → Seq K W (‵ (fobs γ (T.the-row .coded .code next)) ∷ ‵ (fbor κ (Body (mem T.the-row) b o γ)) ∷ ‵ (flft κ q) ∷ result ∷ tokens ∷ ‵ last ∷ []) G
-  leaves t n next said {κ} {q} {b} {o} {γ} {result} {tokens} {last} ending =
+  leaves t n next {said} holds {κ} {q} {b} {o} {γ} {result} {tokens} {last} ending =
       by t (qed W (‵ (fobs γ (T.the-row .coded .code next)) ∷ ‵ (fbor κ (Body (mem T.the-row) b o γ)) ∷ ‵ (flft κ q) ∷ result ∷ tokens ∷ ‵ last ∷ []) ∵
-      suffices ! _ ending $ says ! said $ move ! (2 ∷ 4 ∷ []) $ join ! $ frame ! $
-      -- [obs; the borrow; the result; the last list]
-      feqI ! (List Val) (vptr b o ∷ []) (vptr b o ∷ []) refl $ fjoin3 ! $ move ! (2 ∷ []) $ use1 W (‵ (among n last)) (put-among 𝓤 H A n last) $ move ! (1 ∷ 0 ∷ []) $ fjoin ! $ frame ! $ done !)
+      suffices ! _ ending $ feqI ! (List Val) (vptr b o ∷ []) (vptr b o ∷ []) refl $ fjoin3 ! $
+      -- [the reference; the token; the result; the other tokens; the last list]
+      move ! (4 ∷ []) $ use1 W (‵ (among n last)) (put-among 𝓤 H A n last) $ move ! (1 ∷ 0 ∷ []) $ fjoin ! $
+      move ! (0 ∷ 2 ∷ []) $ join ! $ move ! (1 ∷ 2 ∷ []) $ join ! $ join ! $ use0 W (raw said) holds $ move ! (1 ∷ 0 ∷ []) $ frame ! $ done !)
 
 module _ {M : Type 1} (𝓤 : URA M) (H : Heap 𝓤) (𝓜 : Model 𝓤 H) (𝓖 : GhostRules 𝓤 H) (𝓡 : Running 𝓤 H 𝓜) (T : Ended) (hs : Stays (T .signature .params) (T .kept)) (c : Clauses 𝓤 T) where
   abbrev W : Given 𝓤 H (𝓖 .A)
