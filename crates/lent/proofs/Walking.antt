@@ -111,27 +111,27 @@ module _ {M : Type 1} {𝓤 : URA M} {H : Heap 𝓤} {A : Atoms 𝓤} {K : Type 
       move ! (4 ∷ []) $ use1 W (‵ (among n last)) (put-among 𝓤 H A n last) $ move ! (1 ∷ 0 ∷ []) $ fjoin ! $
       move ! (0 ∷ 2 ∷ []) $ join ! $ move ! (1 ∷ 2 ∷ []) $ join ! $ join ! $ use0 W (raw said) holds $ move ! (1 ∷ 0 ∷ []) $ frame ! $ done !)
 
-module _ {M : Type 1} (𝓤 : URA M) (H : Heap 𝓤) (𝓜 : Model 𝓤 H) (𝓖 : GhostRules 𝓤 H) (𝓡 : Running 𝓤 H 𝓜) (T : Ended) (hs : Stays (T .signature .params) (T .kept)) (c : Clauses 𝓤 T) where
+module _ {M : Type 1} (𝓤 : URA M) (H : Heap 𝓤) (𝓜 : Model 𝓤 H) (𝓖 : GhostRules 𝓤 H) (𝓡 : Running 𝓤 H 𝓜) (ended : Ended) (stays : Stays (ended .signature .params) (ended .kept)) (clauses : Clauses 𝓤 ended) where
   abbrev W : Given 𝓤 H (𝓖 .A)
   W = givenOf 𝓤 H 𝓜 𝓖
 
-  abbrev rows : Lfts (T .signature .lifetimes) → List RattleType
-  rows κs = typesAt (T .signature .params) κs
+  abbrev rows : Lfts (ended .signature .lifetimes) → List RattleType
+  rows κs = typesAt (ended .signature .params) κs
 
-  -- the routine of a function with one call meets its contract, by a walk that knows the callee's
-  pub lends : AllGo 𝓤 H (𝓖 .A) W (T .signature .lifetimes) (T .signature .params) (T .kept) hs → (sp : (κs : Lfts (T .signature .lifetimes)) → Spells (rows κs)) → ((κs : Lfts (T .signature .lifetimes)) → Tellss (rows κs) (Ises (rows κs)) (sp κs))
+  -- a function with one call meets its contract, by a walk that knows the callee's
+  pub lends : AllGo 𝓤 H (𝓖 .A) W (ended .signature .lifetimes) (ended .signature .params) (ended .kept) stays → (spelling : (κs : Lfts (ended .signature .lifetimes)) → Spells (rows κs)) → ((κs : Lfts (ended .signature .lifetimes)) → Tellss (rows κs) (Ises (rows κs)) (spelling κs))
       → (name : Name) (function : Fn) (env : Env) → Closed 𝓤 H (tables 𝓤 H 𝓜 𝓡 env .C) (tables 𝓤 H 𝓜 𝓡 env .Λ) name function
       → (callee : Name) (routine : Routine) → env callee ≡ routine → (asked : Contract 𝓤) → Triple 𝓤 (𝓡 .run routine) asked
       → ((C : Calls 𝓤 H) (Λ : Loops 𝓤 H) → FmC 𝓤 H (W .laws) C → Triple 𝓤 (C callee) asked
-      → (κs : Lfts (T .signature .lifetimes)) (qs : Shares (T .signature .lifetimes)) (bounds : AllOutlive (T .signature .lifetimes) (T .signature .outlives) κs) (a : Args (T .signature) κs) (g : c κs a .ghost)
-      → Are (rows κs) (Ises (rows κs)) a (valss (rows κs) (sp κs) a)
-      → ent 𝓤 (onEntry 𝓤 H (𝓖 .A) (T .signature) κs qs a (valss (rows κs) (sp κs) a)) (WpFn 𝓤 H C Λ function (flat (rows κs) (valss (rows κs) (sp κs) a)) (walkOf 𝓤 H (𝓖 .A) T hs c .post ((κs, qs, bounds, a, valss (rows κs) (sp κs) a), g))))
-      → Triple 𝓤 (𝓡 .run (env name)) (tripleOf 𝓤 H (𝓖 .A) (T .signature) (closing 𝓤 H (𝓖 .A) T c))
+      → (κs : Lfts (ended .signature .lifetimes)) (qs : Shares (ended .signature .lifetimes)) (bounds : AllOutlive (ended .signature .lifetimes) (ended .signature .outlives) κs) (a : Args (ended .signature) κs) (g : clauses κs a .ghost)
+      → Are (rows κs) (Ises (rows κs)) a (valss (rows κs) (spelling κs) a)
+      → ent 𝓤 (onEntry 𝓤 H (𝓖 .A) (ended .signature) κs qs a (valss (rows κs) (spelling κs) a)) (WpFn 𝓤 H C Λ function (flat (rows κs) (valss (rows κs) (spelling κs) a)) (walkOf 𝓤 H (𝓖 .A) ended stays clauses .post ((κs, qs, bounds, a, valss (rows κs) (spelling κs) a), g))))
+      → Triple 𝓤 (𝓡 .run (env name)) (tripleOf 𝓤 H (𝓖 .A) (ended .signature) (closing 𝓤 H (𝓖 .A) ended clauses))
   unfolding tablesOf
-  lends goes sp tells name function env unfolded callee routine calls asked met walk =
+  lends goes spelling tells name function env unfolded callee routine calls asked met walk =
       let 𝓣 : Tables 𝓤 H = tablesOf 𝓤 H 𝓜 (tables 𝓤 H 𝓜 𝓡 env) in
-      let wp : Fun 𝓤 = WpFn 𝓤 H (𝓣 .C) (𝓣 .Λ) function in
+      let run : Fun 𝓤 = WpFn 𝓤 H (𝓣 .C) (𝓣 .Λ) function in
       entered 𝓤 H _ (tables 𝓤 H 𝓜 𝓡 env .C) (tables 𝓤 H 𝓜 𝓡 env .Λ) name function unfolded
-      (walk-meets 𝓤 H (𝓖 .A) T hs W goes c wp (WpFn-mono 𝓤 H (W .laws) 𝓣 function)
-      (walked 𝓤 H (𝓖 .A) T hs c wp sp tells (λ κs qs bounds a g are. via 𝓤 _ (fst∗ 𝓤 _ (c κs a .requires g))
+      (walk-meets 𝓤 H (𝓖 .A) ended stays W goes clauses run (WpFn-mono 𝓤 H (W .laws) 𝓣 function)
+      (walked 𝓤 H (𝓖 .A) ended stays clauses run spelling tells (λ κs qs bounds a g are. via 𝓤 _ (fst∗ 𝓤 _ (clauses κs a .requires g))
       (walk (𝓣 .C) (𝓣 .Λ) (fmOf 𝓤 H (W .laws) 𝓣) (cited 𝓤 H asked 𝓜 𝓡 env callee routine calls met) κs qs bounds a g are))))

@@ -48,7 +48,6 @@ use Rattle.sending.proofs.Sent as S
 use Rattle.sending.proofs.Sent.Laws as S′
 use Rattle.sending.proofs.send_data as callee
 use Rattle.sending.proofs.send_data.Symbol as callee-def
-use Rattle.sending.proofs.send_data.Symbol.{name as #sending·send-data}
 use Rattle.sending.proofs.send_data.Met as callee-thm
 use Rattle.lent.specs.Lent.{toldOf}
 use Rattle.lent.proofs.Told as R
@@ -81,11 +80,11 @@ module _ {M : Type 1} (𝓤 : URA M) (H : Heap 𝓤) (A : Atoms 𝓤) (W : Given
   abbrev to-callee : Callee 𝓤 H A at-mem run .Ghost
   to-callee = (((κ₁, (κ₂, tt)), (q₁, (q₂, tt)), tt, (h, (type-data, (ask, (body, (out, tt))))), (vals h, (vint w16 type-data ∷ [], (vbool ask ∷ [], (slice-of body ∷ [], (slice-of out ∷ [], tt)))))), tt)
 
-  -- what is ensured, of what the callee ensures
+  -- what is said at exit follows from what the callee ensures
   exits : (r : Sent) (zs : List ℕ) → SendAnswer h (DATA type-data ask (body .now)) (out .now) r zs → ent 𝓤 (emp 𝓤) (own.clauses 𝓤 H A at-mem run (entry .0 .0) x .ensures tt (toldOf r) (atExit own.ended (entry .0 .0) x (r .next, (tt, (tt, (tt, (zs, tt)))))))
   exits r zs e = factI 𝓤 _ (emp 𝓤) (send-said h (DATA type-data ask (body .now)) (out .now) e)
 
-  walk : (C : Calls 𝓤 H) (Λ : Loops 𝓤 H) → FmC 𝓤 H (W .laws) C → Triple 𝓤 (C #sending·send-data) (Callee 𝓤 H A at-mem run) → Room u8 (length (body .now)) → Room u8 (length (out .now))
+  walk : (C : Calls 𝓤 H) (Λ : Loops 𝓤 H) → FmC 𝓤 H (W .laws) C → Triple 𝓤 (C callee-def.name) (Callee 𝓤 H A at-mem run) → Room u8 (length (body .now)) → Room u8 (length (out .now))
       → ent 𝓤 (onEntry 𝓤 H A own.signature (κ, (κ₁, (κ₂, tt))) (q, (q₁, (q₂, tt))) x at) (WpFn 𝓤 H C Λ code.function (vptr b o ∷ vint w16 type-data ∷ vbool ask ∷ slice-of body ∷ slice-of out ∷ []) (walkOf 𝓤 H A own.ended stayed (own.clauses 𝓤 H A at-mem run) .post entry))
   walk C Λ fm known body-room out-room =
       qed W ((‵ (flft κ q) ⊛ ‵ (flft κ₁ q₁) ⊛ ‵ (flft κ₂ q₂) ⊛ ‵ ftrue) ∷ ‵ (owns (MutRef (named 0) κ T.the-row ∷ u16 ∷ bool ∷ ShrSlice (named 1) κ₁ u8 ∷ MutSlice (named 2) κ₂ u8 ∷ []) x at) ∷ []) ∵
@@ -125,5 +124,5 @@ unfolding code.routine
 send-data-spec 𝓤 H 𝓜 𝓖 𝓡 =
     lends 𝓤 H 𝓜 𝓖 𝓡 own.ended stayed (own.clauses 𝓤 H (𝓖 .A) (𝓜 .mem) (𝓡 .run)) (goes 𝓤 H (𝓖 .A) (givenOf 𝓤 H 𝓜 𝓖))
     (λ κs. (ptr-vals, (uint-vals w16, (bool-vals, (slice-vals, (slice-vals, tt)))))) (λ κs. (mut-tells (named 0) (κs .0) T.the-row, (uint-tells w16, (bool-tells, (shr-slice-tells (named 1) (κs .1 .0) u8, (mut-slice-tells (named 2) (κs .1 .1 .0) u8, tt))))))
-    #lent·send-data code.function code.env (code.unfolded 𝓤 H 𝓜 𝓡) #sending·send-data callee-def.routine code.calls-sending·send-data (Callee 𝓤 H (𝓖 .A) (𝓜 .mem) (𝓡 .run)) (callee-thm.met 𝓤 H 𝓜 𝓖 𝓡)
+    #lent·send-data code.function code.env (code.unfolded 𝓤 H 𝓜 𝓡) callee-def.name callee-def.routine code.calls-sending·send-data (Callee 𝓤 H (𝓖 .A) (𝓜 .mem) (𝓡 .run)) (callee-thm.met 𝓤 H 𝓜 𝓖 𝓡)
     (λ C Λ fm known κs qs bounds a _ are. walk 𝓤 H (𝓖 .A) (givenOf 𝓤 H 𝓜 𝓖) (𝓜 .mem) (𝓡 .run) (κs .0) (κs .1 .0) (κs .1 .1 .0) bounds (qs .0) (qs .1 .0) (qs .1 .1 .0) (a .0 .ptr .0) (a .0 .ptr .1) (a .0 .name) (a .0 .now) (a .1 .0) (a .1 .1 .0) (a .1 .1 .1 .0) (a .1 .1 .1 .1 .0) (are .1 .0 .1) C Λ fm known (are .1 .1 .1 .0 .0 .1) (are .1 .1 .1 .1 .0 .0 .1))

@@ -46,7 +46,6 @@ use Rattle.sending.proofs.Sent as S
 use Rattle.sending.proofs.Sent.Laws as S′
 use Rattle.sending.proofs.send_open as callee
 use Rattle.sending.proofs.send_open.Symbol as callee-def
-use Rattle.sending.proofs.send_open.Symbol.{name as #sending·send-open}
 use Rattle.sending.proofs.send_open.Met as callee-thm
 use Rattle.lent.specs.Lent.{toldOf}
 use Rattle.lent.proofs.Told as R
@@ -79,11 +78,11 @@ module _ {M : Type 1} (𝓤 : URA M) (H : Heap 𝓤) (A : Atoms 𝓤) (W : Given
   abbrev to-callee : Callee 𝓤 H A at-mem run .Ghost
   to-callee = (((κ₁, (κ₂, (κ₃, tt))), (q₁, (q₂, (q₃, tt))), tt, (h, (name, (format, (out, tt)))), (vals h, (slice-of name ∷ [], (slice-of format ∷ [], (slice-of out ∷ [], tt))))), tt)
 
-  -- what is ensured, of what the callee ensures
+  -- what is said at exit follows from what the callee ensures
   exits : (r : Sent) (zs : List ℕ) → SendAnswer h (OPEN (name .now) (format .now)) (out .now) r zs → ent 𝓤 (emp 𝓤) (own.clauses 𝓤 H A at-mem run (entry .0 .0) x .ensures tt (toldOf r) (atExit own.ended (entry .0 .0) x (r .next, (tt, (tt, (zs, tt))))))
   exits r zs e = factI 𝓤 _ (emp 𝓤) (send-said h (OPEN (name .now) (format .now)) (out .now) e)
 
-  walk : (C : Calls 𝓤 H) (Λ : Loops 𝓤 H) → FmC 𝓤 H (W .laws) C → Triple 𝓤 (C #sending·send-open) (Callee 𝓤 H A at-mem run) → Room u8 (length (name .now)) → Room u8 (length (format .now)) → Room u8 (length (out .now))
+  walk : (C : Calls 𝓤 H) (Λ : Loops 𝓤 H) → FmC 𝓤 H (W .laws) C → Triple 𝓤 (C callee-def.name) (Callee 𝓤 H A at-mem run) → Room u8 (length (name .now)) → Room u8 (length (format .now)) → Room u8 (length (out .now))
       → ent 𝓤 (onEntry 𝓤 H A own.signature (κ, (κ₁, (κ₂, (κ₃, tt)))) (q, (q₁, (q₂, (q₃, tt)))) x at) (WpFn 𝓤 H C Λ code.function (vptr b o ∷ slice-of name ∷ slice-of format ∷ slice-of out ∷ []) (walkOf 𝓤 H A own.ended stayed (own.clauses 𝓤 H A at-mem run) .post entry))
   walk C Λ fm known name-room format-room out-room =
       qed W ((‵ (flft κ q) ⊛ ‵ (flft κ₁ q₁) ⊛ ‵ (flft κ₂ q₂) ⊛ ‵ (flft κ₃ q₃) ⊛ ‵ ftrue) ∷ ‵ (owns (MutRef (named 0) κ T.the-row ∷ ShrSlice (named 1) κ₁ u8 ∷ ShrSlice (named 2) κ₂ u8 ∷ MutSlice (named 3) κ₃ u8 ∷ []) x at) ∷ []) ∵
@@ -123,5 +122,5 @@ unfolding code.routine
 send-open-spec 𝓤 H 𝓜 𝓖 𝓡 =
     lends 𝓤 H 𝓜 𝓖 𝓡 own.ended stayed (own.clauses 𝓤 H (𝓖 .A) (𝓜 .mem) (𝓡 .run)) (goes 𝓤 H (𝓖 .A) (givenOf 𝓤 H 𝓜 𝓖))
     (λ κs. (ptr-vals, (slice-vals, (slice-vals, (slice-vals, tt))))) (λ κs. (mut-tells (named 0) (κs .0) T.the-row, (shr-slice-tells (named 1) (κs .1 .0) u8, (shr-slice-tells (named 2) (κs .1 .1 .0) u8, (mut-slice-tells (named 3) (κs .1 .1 .1 .0) u8, tt)))))
-    #lent·send-open code.function code.env (code.unfolded 𝓤 H 𝓜 𝓡) #sending·send-open callee-def.routine code.calls-sending·send-open (Callee 𝓤 H (𝓖 .A) (𝓜 .mem) (𝓡 .run)) (callee-thm.met 𝓤 H 𝓜 𝓖 𝓡)
+    #lent·send-open code.function code.env (code.unfolded 𝓤 H 𝓜 𝓡) callee-def.name callee-def.routine code.calls-sending·send-open (Callee 𝓤 H (𝓖 .A) (𝓜 .mem) (𝓡 .run)) (callee-thm.met 𝓤 H 𝓜 𝓖 𝓡)
     (λ C Λ fm known κs qs bounds a _ are. walk 𝓤 H (𝓖 .A) (givenOf 𝓤 H 𝓜 𝓖) (𝓜 .mem) (𝓡 .run) (κs .0) (κs .1 .0) (κs .1 .1 .0) (κs .1 .1 .1 .0) bounds (qs .0) (qs .1 .0) (qs .1 .1 .0) (qs .1 .1 .1 .0) (a .0 .ptr .0) (a .0 .ptr .1) (a .0 .name) (a .0 .now) (a .1 .0) (a .1 .1 .0) (a .1 .1 .1 .0) C Λ fm known (are .1 .0 .0 .1) (are .1 .1 .0 .0 .1) (are .1 .1 .1 .0 .0 .1))
