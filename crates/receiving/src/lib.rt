@@ -370,11 +370,9 @@ pub fn hear(e: Endpoint, s: &[u8], name: &[u8], format: &[u8]) -> Received
     }
     let reading = message::read(s);
     let Reading::Read(m) = reading else {
-        return refuse(
-            e,
-            message::reading_number(reading),
-            message::said_in(reading),
-        );
+        let number = message::reading_number(reading);
+        let said = message::said_in(reading);
+        return refuse(e, number, said);
     };
     hear_message(e, s, name, format, m)
 }
