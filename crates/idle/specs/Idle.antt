@@ -30,7 +30,7 @@ pub record RefusesEverything (p : Program) : Type 0 where
 abbrev pub RefusingRejected : Type 0
 RefusingRejected = (p : Program) → RefusesEverything p → Rejected p
 
--- no byte changes
+-- one that does: each time with this number, and no byte changes
 abbrev pub refusedCall : ℕ → List ℕ → List ℕ → SendResult
 refusedCall number block out = record { number = number; count = 0; block = block; out = out }
 
@@ -48,6 +48,7 @@ HearsNoop p = (s name format block out : List ℕ) → getD (p .receives s name 
 abbrev pub HearingNoopRejected : Type 0
 HearingNoopRejected = (p : Program) → HearsNoop p → Rejected p
 
+-- one that does: type-data 0, no ask, and block and output as they were
 abbrev pub hearingNoop : Program
 hearingNoop =
     record {
@@ -83,6 +84,7 @@ leaving left =
           };
     }
 
+-- one that does, and is the tables in all else
 abbrev pub untouching : Program
 untouching = leaving (λ number before after. before)
 
@@ -104,7 +106,7 @@ WritesBack p = (s name format block out : List ℕ) → opening < loadOf block .
 abbrev pub WritingBackRejected : Type 0
 WritingBackRejected = (p : Program) → WritesBack p → Rejected p
 
--- told is how long the echo is
+-- one that does both: what it tells is how long the echo is
 abbrev pub echo : List ℕ → List ℕ → List ℕ → ReceiveResult
 echo s block out = record { number = 0; slots = 0 ∷ 0 ∷ 0 ∷ length s ∷ replicate 12 0; block = block; out = putAt out 0 s }
 
