@@ -30,7 +30,7 @@ use denote.Ref.{RefT, MutRef, ptr-vals, mut-tells}
 use denote.Slice.{MutSlice, Room, sliceTy, slice-vals, mut-slice-tells}
 use denote.Signature.{plain}
 use denote.Steps.{only, owned}
-use denote.Struct.Laws as LL
+use denote.Struct.Laws as Struct
 use denote.Triple.Statement.{Contract, Triple}
 use denote.Triple.Call.{calls-at}
 use denote.Triple.Entry.{alive, onEntry}
@@ -39,16 +39,16 @@ use denote.Triple.Clauses.{Clauses, closing}
 use denote.Triple.Walked.{Stays, stay-ref, stay-dropped, gave-slice, walkOf, AllGo, goes-dropped, goes-ref, goes-gave-slice, ends-at}
 use denote.Exit.{yes}
 use Rattle.endpoint.specs.declared.Endpoint.{Endpoint}
-use Rattle.endpoint.proofs.Endpoint as T
-use Rattle.endpoint.proofs.Endpoint.Laws as T′
+use Rattle.endpoint.proofs.Endpoint as Endpoint-row
+use Rattle.endpoint.proofs.Endpoint.Laws as Endpoint-laws
 use Rattle.sending.specs.Calls.{Call}
 use Rattle.sending.specs.Sending.{SendAnswer}
-use Rattle.sending.proofs.Sent as S
-use Rattle.sending.proofs.Sent.Laws as S′
+use Rattle.sending.proofs.Sent as Sent-row
+use Rattle.sending.proofs.Sent.Laws as Sent-laws
 use Rattle.sending.proofs.send_ready as by-value
 use Rattle.lent.specs.Lent.{toldOf, SendAnswer as Lent·SendAnswer}
-use Rattle.lent.proofs.Told as R
-use Rattle.lent.proofs.Told.Laws as R′
+use Rattle.lent.proofs.Told as Told-row
+use Rattle.lent.proofs.Told.Laws as Told-laws
 use Rattle.lent.proofs.Lending.{vals, val, slice-of, told-is, send-said}
 use Rattle.lent.proofs.Walking.{borrowed, passes, answered, closed, leaves, lends}
 use Rattle.lent.proofs.send_ready.{ended}
@@ -60,19 +60,19 @@ function callee = record {
   outlives = [];
   params = 3;
   locals =
-      local R′.mir valueLocal ∷ local (tyRef (named 0) mut (pointee (T.the-row .written))) valueLocal ∷ local (tyInt w16) valueLocal ∷ local (sliceTy (tyRef (named 1) mut (tyInt w8))) valueLocal ∷
-      local S′.mir valueLocal ∷ local T′.mir valueLocal ∷ local (tyRef erased mut (tyInt w8)) valueLocal ∷ local (sliceTy (tyRef erased mut (tyInt w8))) valueLocal ∷ [];
+      local Told-laws.mir valueLocal ∷ local (tyRef (named 0) mut (pointee (Endpoint-row.the-row .written))) valueLocal ∷ local (tyInt w16) valueLocal ∷ local (sliceTy (tyRef (named 1) mut (tyInt w8))) valueLocal ∷
+      local Sent-laws.mir valueLocal ∷ local Endpoint-laws.mir valueLocal ∷ local (tyRef erased mut (tyInt w8)) valueLocal ∷ local (sliceTy (tyRef erased mut (tyInt w8))) valueLocal ∷ [];
   body =
-      seq (assign (place 5 []) (rvOpd (copy (place 1 (deref T′.mir ∷ []))))) (
+      seq (assign (place 5 []) (rvOpd (copy (place 1 (deref Endpoint-laws.mir ∷ []))))) (
       seq (assign (place 6 []) (addrOf (place 3 (field 0 ∷ deref (tyInt w8) ∷ [])))) (
       seq (assign (place 7 []) (aggregate (copy (place 6 []) ∷ copy (place 3 (field 1 ∷ [])) ∷ []))) (
       seq (call callee (copy (place 5 []) ∷ copy (place 2 []) ∷ copy (place 7 []) ∷ []) (place 4 [])) (
-      seq (assign (place 1 (deref T′.mir ∷ [])) (rvOpd (copy (place 4 (field 1 ∷ []))))) (
+      seq (assign (place 1 (deref Endpoint-laws.mir ∷ [])) (rvOpd (copy (place 4 (field 1 ∷ []))))) (
       seq (assign (place 0 []) (aggregate (copy (place 4 (field 0 ∷ [])) ∷ copy (place 4 (field 2 ∷ [])) ∷ []))) return)))));
 }
 
 abbrev stayed : Stays (ended .signature .params) (ended .kept)
-stayed = (stay-ref (0 ∷ []) tt (plain (λ _. T.the-row)), (stay-dropped (plain (λ _. u16)) yes, (gave-slice (1 ∷ []) tt (plain (λ _. u8)), tt)))
+stayed = (stay-ref (0 ∷ []) tt (plain (λ _. Endpoint-row.the-row)), (stay-dropped (plain (λ _. u16)) yes, (gave-slice (1 ∷ []) tt (plain (λ _. u8)), tt)))
 
 -- the contract by value, and the one of the record lent
 abbrev asks : (ℕ → Call) → {M : Type 1} (𝓤 : URA M) → Clauses 𝓤 by-value.ended
@@ -101,7 +101,7 @@ module _ (call-of : ℕ → Call) (callee : Name) {M : Type 1} (𝓤 : URA M) (H
   walk : (C : Calls 𝓤 H) (Λ : Loops 𝓤 H) → FmC 𝓤 H (W .laws) C → Triple 𝓤 (C callee) (asked call-of 𝓤 H A) → Room u8 (length (out .now))
       → ent 𝓤 (onEntry 𝓤 H A (ended .signature) (κ, (κ₁, tt)) (q, (q₁, tt)) x at) (WpFn 𝓤 H C Λ (function callee) (vptr b o ∷ vint w16 number ∷ slice-of out ∷ []) (walkOf 𝓤 H A ended stayed (answers call-of 𝓤) .post entry))
   walk C Λ fm known out-room =
-      qed W ((‵ (flft κ q) ⊛ ‵ (flft κ₁ q₁) ⊛ ‵ ftrue) ∷ ‵ (owns (MutRef (named 0) κ T.the-row ∷ u16 ∷ MutSlice (named 1) κ₁ u8 ∷ []) x at) ∷ []) ∵
+      qed W ((‵ (flft κ q) ⊛ ‵ (flft κ₁ q₁) ⊛ ‵ ftrue) ∷ ‵ (owns (MutRef (named 0) κ Endpoint-row.the-row ∷ u16 ∷ MutSlice (named 1) κ₁ u8 ∷ []) x at) ∷ []) ∵
       enter ! C Λ (function callee) (vptr b o ∷ vint w16 number ∷ slice-of out ∷ []) _ $
       alloc1 ! (λ l₀. alloc1 ! (λ l₁. alloc1 ! (λ l₂. alloc1 ! (λ l₃. alloc1 ! (λ l₄. alloc1 ! (λ l₅. alloc1 ! (λ l₆. alloc1 ! (λ l₇. alloc0 ! $ params1 ! $
       pass1 ! (init ! 12 refl (tt, tt)) $ pass1 ! (init ! 10 refl (tt, record { fits = number-fits })) $ pass1 ! (init ! 8 refl (tt, (tt, (record { fits = out-room .0 }, tt)))) $ pass0 ! $
@@ -109,21 +109,21 @@ module _ (call-of : ℕ → Call) (callee : Name) {M : Type 1} (𝓤 : URA M) (H
       move ! (17 ∷ []) $ fsplit ! $ fsplit3 ! $ drop ! $ move ! (19 ∷ []) $ split ! $ move ! (2 ∷ 3 ∷ 0 ∷ []) $
       borrowed ! tt h b o (λ was.
       -- [the record's cell; what it owns; the open borrow; obs; auth; the other tokens (5); what the other parameters own (6); _7 (7); …; _0 (21); …]
-      assigns ! (of-opd ! (load ! (from ! (hop ! (look ! 19 refl) (stop !))) (look ! 0 refl))) (from ! (stop !)) (init ! 11 refl (LL.lawful T.the-type T′.the-laws 𝓤 H A W .typed h _ was .0)) $
-      use1 W (‵ (cellAt fullShare (T.the-row .mir) (vals h) b o)) (W .laws .at-raw fullShare T′.mir b o (val h)) $
+      assigns ! (of-opd ! (load ! (from ! (hop ! (look ! 19 refl) (stop !))) (look ! 0 refl))) (from ! (stop !)) (init ! 11 refl (Struct.lawful Endpoint-row.the-type Endpoint-laws.the-laws 𝓤 H A W .typed h _ was .0)) $
+      use1 W (‵ (cellAt fullShare (Endpoint-row.the-row .mir) (vals h) b o)) (W .laws .at-raw fullShare Endpoint-laws.mir b o (val h)) $
       assigns ! (addr ! (from ! (fld ! refl (hop ! (look-in ! 15 (sub ! 0 refl (whole !))) (stop !))))) (from ! (stop !)) (init ! 9 refl (tt, tt)) $
       assigns ! (agg ! (and-then ! (load ! (from ! (stop !)) (look ! 9 refl)) (and-then ! (load ! (from ! (fld ! refl (stop !))) (look-in ! 15 (sub ! 1 refl (whole !)))) (no-more !)))) (from ! (stop !)) (init ! 7 refl (tt, (tt, (record { fits = out-room .0 }, tt)))) $
       move ! (1 ∷ 5 ∷ 6 ∷ []) $ passes ! $
       -- [what the callee asks; the record's cell; the open borrow; obs; auth; _7 (5); …]
       calls-at ! fm (asked call-of 𝓤 H A) known to-callee (and-then ! (load ! (from ! (stop !)) (look ! 9 refl)) (and-then ! (load ! (from ! (stop !)) (look ! 15 refl)) (and-then ! (load ! (from ! (stop !)) (look ! 5 refl)) (no-more !)))) (λ v.
-      answered ! tt 1 S.the-row (alive 𝓤 H A by-value.signature (κ₁, tt) (q₁, tt)) out (SendAnswer h (call-of number) (out .now)) v (λ r zs e l is.
+      answered ! tt 1 Sent-row.the-row (alive 𝓤 H A by-value.signature (κ₁, tt) (q₁, tt)) out (SendAnswer h (call-of number) (out .now)) v (λ r zs e l is.
       -- [what r owns; the other tokens; the last list; the record's cell (3); the open borrow; obs; auth (6); _7 (7); …]
-      land ! (from ! (stop !)) (init ! 13 refl (LL.lawful S.the-type S′.the-laws 𝓤 H A W .typed r _ is .0)) $
-      rewrite ! 13 (λ (u : Val). ‵ (fat fullShare S′.mir l₄ 0 u)) (ap only (LL.tells S.the-type S′.the-laws r _ is)) refl $
-      assigns ! (of-opd ! (load ! (from ! (fld ! refl (stop !))) (look-in ! 13 (sub ! 1 refl (whole !))))) (from ! (hop ! (look ! 19 refl) (stop !))) (store-raw ! 3 refl (LL.lawful T.the-type T′.the-laws 𝓤 H A W .typed (r .next) _ (LL.owed S.the-type S′.the-laws r _ is .1 .0) .0)) $
-      assigns ! (agg ! (and-then ! (load ! (from ! (fld ! refl (stop !))) (look-in ! 13 (sub ! 0 refl (whole !)))) (and-then ! (load ! (from ! (fld ! refl (stop !))) (look-in ! 13 (sub ! 2 refl (whole !)))) (no-more !)))) (from ! (stop !)) (init ! 21 refl (LL.lawful R.the-type R′.the-laws 𝓤 H A W .typed (toldOf r) _ (told-is r _ is) .0)) $
-      drop ! $ owned ! R.the-row (Is R.the-row) (LL.makes R.the-type R′.the-plain 𝓤 H A) (toldOf r) _ (told-is r _ is) $
-      closed ! tt (r .next) b o (LL.owed S.the-type S′.the-laws r _ is .1 .0) $
+      land ! (from ! (stop !)) (init ! 13 refl (Struct.lawful Sent-row.the-type Sent-laws.the-laws 𝓤 H A W .typed r _ is .0)) $
+      rewrite ! 13 (λ (u : Val). ‵ (fat fullShare Sent-laws.mir l₄ 0 u)) (ap only (Struct.tells Sent-row.the-type Sent-laws.the-laws r _ is)) refl $
+      assigns ! (of-opd ! (load ! (from ! (fld ! refl (stop !))) (look-in ! 13 (sub ! 1 refl (whole !))))) (from ! (hop ! (look ! 19 refl) (stop !))) (store-raw ! 3 refl (Struct.lawful Endpoint-row.the-type Endpoint-laws.the-laws 𝓤 H A W .typed (r .next) _ (Struct.owed Sent-row.the-type Sent-laws.the-laws r _ is .1 .0) .0)) $
+      assigns ! (agg ! (and-then ! (load ! (from ! (fld ! refl (stop !))) (look-in ! 13 (sub ! 0 refl (whole !)))) (and-then ! (load ! (from ! (fld ! refl (stop !))) (look-in ! 13 (sub ! 2 refl (whole !)))) (no-more !)))) (from ! (stop !)) (init ! 21 refl (Struct.lawful Told-row.the-type Told-laws.the-laws 𝓤 H A W .typed (toldOf r) _ (told-is r _ is) .0)) $
+      drop ! $ owned ! Told-row.the-row (Is Told-row.the-row) (Struct.makes Told-row.the-type Told-laws.the-plain 𝓤 H A) (toldOf r) _ (told-is r _ is) $
+      closed ! tt (r .next) b o (Struct.owed Sent-row.the-type Sent-laws.the-laws r _ is .1 .0) $
       -- [obs; the borrow; the token; what the result owns; the other tokens; the last list; _7 (6); …; _0 (20); …]
       returns ! (look ! 20 refl) $ forget ! 6 refl $ forget ! 8 refl $ forget ! 10 refl $ forget ! 12 refl $ forget ! 14 refl $ forget ! 16 refl $ forget ! 18 refl $ forget ! 20 refl $
       move ! (20 ∷ 21 ∷ []) $ free1 ! $ move ! (18 ∷ 19 ∷ []) $ free1 ! $ move ! (16 ∷ 17 ∷ []) $ free1 ! $ move ! (14 ∷ 15 ∷ []) $ free1 ! $ move ! (12 ∷ 13 ∷ []) $ free1 ! $ move ! (10 ∷ 11 ∷ []) $ free1 ! $ move ! (8 ∷ 9 ∷ []) $ free1 ! $ move ! (6 ∷ 7 ∷ []) $ free1 ! $ free0 ! $
@@ -131,7 +131,7 @@ module _ (call-of : ℕ → Call) (callee : Name) {M : Type 1} (𝓤 : URA M) (H
       (ends-at 𝓤 H A ended stayed (answers call-of 𝓤) W entry _ (toldOf r) (r .next, (tt, (zs, tt))) (tt, (tt, (l, tt)))))))))))))))
 
 goes : {M : Type 1} (𝓤 : URA M) (H : Heap 𝓤) (A : Atoms 𝓤) (W : Given 𝓤 H A) → AllGo 𝓤 H A W 2 (ended .signature .params) (ended .kept) stayed
-goes 𝓤 H A W = (goes-ref 𝓤 H A W 2 0 tt (plain (λ _. T.the-row)), (goes-dropped 𝓤 H A W 2 (plain (λ _. u16)) yes (λ κs x f. refl), (goes-gave-slice 𝓤 H A W 2 1 tt (plain (λ _. u8)), tt)))
+goes 𝓤 H A W = (goes-ref 𝓤 H A W 2 0 tt (plain (λ _. Endpoint-row.the-row)), (goes-dropped 𝓤 H A W 2 (plain (λ _. u16)) yes (λ κs x f. refl), (goes-gave-slice 𝓤 H A W 2 1 tt (plain (λ _. u8)), tt)))
 
 -- a function with this MIR meets the contract, at each call of one number
 pub sends : (call-of : ℕ → Call) (callee : Name) {M : Type 1} (𝓤 : URA M) (H : Heap 𝓤) (𝓜 : Model 𝓤 H) (𝓖 : GhostRules 𝓤 H) (𝓡 : Running 𝓤 H 𝓜) (name : Name) (env : Env)
@@ -139,6 +139,6 @@ pub sends : (call-of : ℕ → Call) (callee : Name) {M : Type 1} (𝓤 : URA M)
     → Triple 𝓤 (𝓡 .run (env name)) (tripleOf 𝓤 H (𝓖 .A) (ended .signature) (closing 𝓤 H (𝓖 .A) ended (answers call-of 𝓤)))
 sends call-of callee 𝓤 H 𝓜 𝓖 𝓡 name env unfolded routine calls met =
     lends 𝓤 H 𝓜 𝓖 𝓡 ended stayed (answers call-of 𝓤) (goes 𝓤 H (𝓖 .A) (givenOf 𝓤 H 𝓜 𝓖))
-    (λ κs. (ptr-vals, (uint-vals w16, (slice-vals, tt)))) (λ κs. (mut-tells (named 0) (κs .0) T.the-row, (uint-tells w16, (mut-slice-tells (named 1) (κs .1 .0) u8, tt))))
+    (λ κs. (ptr-vals, (uint-vals w16, (slice-vals, tt)))) (λ κs. (mut-tells (named 0) (κs .0) Endpoint-row.the-row, (uint-tells w16, (mut-slice-tells (named 1) (κs .1 .0) u8, tt))))
     name (function callee) env unfolded callee routine calls (asked call-of 𝓤 H (𝓖 .A)) met
     (λ C Λ fm known κs qs bounds a _ are. walk call-of callee 𝓤 H (𝓖 .A) (givenOf 𝓤 H 𝓜 𝓖) (κs .0) (κs .1 .0) bounds (qs .0) (qs .1 .0) (a .0 .ptr .0) (a .0 .ptr .1) (a .0 .name) (a .0 .now) (a .1 .0) (a .1 .1 .0) (are .1 .0 .1) C Λ fm known (are .1 .1 .0 .0 .1))

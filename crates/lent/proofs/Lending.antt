@@ -8,10 +8,10 @@ use mir.Val.{Val}
 use denote.Laws.{Is}
 use denote.Ref.{RefT}
 use denote.Slice.{sliceVal}
-use denote.Struct.Laws as LL
+use denote.Struct.Laws as Struct
 use Rattle.endpoint.specs.declared.Endpoint.{Endpoint}
-use Rattle.endpoint.proofs.Endpoint as T
-use Rattle.endpoint.proofs.Endpoint.Laws as T′
+use Rattle.endpoint.proofs.Endpoint as Endpoint-row
+use Rattle.endpoint.proofs.Endpoint.Laws as Endpoint-laws
 use Rattle.receiving.specs.declared.Received.{Received}
 use Rattle.receiving.specs.Receiving.{ReceiveAnswer}
 use Rattle.receiving.proofs.Received as Received-row
@@ -28,24 +28,24 @@ use Rattle.lent.proofs.Outcome as Outcome-row
 use Rattle.lent.proofs.Outcome.Laws as Outcome-laws
 
 abbrev pub vals : Endpoint → List Val
-vals = LL.vals T.the-type T′.the-laws
+vals = Struct.vals Endpoint-row.the-type Endpoint-laws.the-laws
 
 abbrev pub val : Endpoint → Val
-val = LL.val T.the-type T′.the-laws
+val = Struct.val Endpoint-row.the-type Endpoint-laws.the-laws
 
 abbrev pub slice-of : RefT (List ℕ) → Val
 slice-of s = sliceVal (s .ptr) (length (s .now))
 
-pub told-is : (sent : Sent) (vs : List Val) → Is Sent-row.the-row sent vs → Is Told-row.the-row (toldOf sent) (LL.vals Told-row.the-type Told-laws.the-laws (toldOf sent))
+pub told-is : (sent : Sent) (vs : List Val) → Is Sent-row.the-row sent vs → Is Told-row.the-row (toldOf sent) (Struct.vals Told-row.the-type Told-laws.the-laws (toldOf sent))
 told-is sent vs is =
-    let owed = LL.owed Sent-row.the-type Sent-laws.the-laws sent vs is in
-    LL.owes Told-row.the-type Told-laws.the-laws (toldOf sent) (owed .0, (owed .1 .1 .0, tt))
+    let owed = Struct.owed Sent-row.the-type Sent-laws.the-laws sent vs is in
+    Struct.owes Told-row.the-type Told-laws.the-laws (toldOf sent) (owed .0, (owed .1 .1 .0, tt))
 
 pub outcome-is : (received : Received) (vs : List Val) → Is Received-row.the-row received vs →
-    Is Outcome-row.the-row (outcomeOf received) (LL.vals Outcome-row.the-type Outcome-laws.the-laws (outcomeOf received))
+    Is Outcome-row.the-row (outcomeOf received) (Struct.vals Outcome-row.the-type Outcome-laws.the-laws (outcomeOf received))
 outcome-is received vs is =
-    let owed = LL.owed Received-row.the-type Received-laws.the-laws received vs is in
-    LL.owes Outcome-row.the-type Outcome-laws.the-laws (outcomeOf received) (owed .0, (owed .1 .1 .0, tt))
+    let owed = Struct.owed Received-row.the-type Received-laws.the-laws received vs is in
+    Struct.owes Outcome-row.the-type Outcome-laws.the-laws (outcomeOf received) (owed .0, (owed .1 .1 .0, tt))
 
 pub send-said : (e : Endpoint) (call : Call) (before : List ℕ) {sent : Sent} {after : List ℕ} → SendAnswer e call before sent after →
     Lent·SendAnswer e call before (toldOf sent) (sent .next) after

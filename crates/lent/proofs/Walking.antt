@@ -30,7 +30,7 @@ use denote.Slice.{finally}
 use denote.Signature.{typesAt}
 use denote.Steps.{opens, closes, owned, peeks, heard, nothing}
 use denote.Struct.Steps.{spelt}
-use denote.Struct.Laws as LL
+use denote.Struct.Laws as Struct
 use denote.Triple.Statement.{Contract, Triple}
 use denote.Triple.Entry.{Args, onEntry}
 use denote.Triple.Spec.{tripleOf}
@@ -38,8 +38,8 @@ use denote.Triple.Table.{entered, cited}
 use denote.Triple.Clauses.{Ended, Clauses, closing}
 use denote.Triple.Walked.{Stays, AllGo, walkOf, walked, walk-meets}
 use Rattle.endpoint.specs.declared.Endpoint.{Endpoint}
-use Rattle.endpoint.proofs.Endpoint as T
-use Rattle.endpoint.proofs.Endpoint.Laws as T′
+use Rattle.endpoint.proofs.Endpoint as Endpoint-row
+use Rattle.endpoint.proofs.Endpoint.Laws as Endpoint-laws
 use Rattle.lent.proofs.Lending.{vals, val}
 
 -- P among the parameters, behind n of which nothing is said
@@ -71,12 +71,12 @@ ends out zs = fsep (finally u8 (out .name) zs) (feq ℕ (length zs) (length (out
 module _ {M : Type 1} {𝓤 : URA M} {H : Heap 𝓤} {A : Atoms 𝓤} {K : Type 0} {W : Given 𝓤 H A} {G : Goal 𝓤 H} where
   -- the record's borrow is opened
   pub borrowed : K → Soaks G → {Γ : List (Item 𝓤)} {κ : Lft} {q : Share} {γ : GName} (h : Endpoint) (b o : ℕ)
-      → (Is T.the-row h (vals h) → Seq K W (‵ (fat fullShare T′.mir b o (val h)) ∷ ‵ (T.the-row .own h (vals h)) ∷ ‵ (fobor κ q (Body (mem T.the-row) b o γ)) ∷ ‵ (fobs γ (T.the-row .coded .code h)) ∷ ‵ (fauth γ (T.the-row .coded .code h)) ∷ Γ) G)
-      → Seq K W (‵ (fobs γ (T.the-row .coded .code h)) ∷ ‵ (fbor κ (Body (mem T.the-row) b o γ)) ∷ ‵ (flft κ q) ∷ Γ) G
+      → (Is Endpoint-row.the-row h (vals h) → Seq K W (‵ (fat fullShare Endpoint-laws.mir b o (val h)) ∷ ‵ (Endpoint-row.the-row .own h (vals h)) ∷ ‵ (fobor κ q (Body (mem Endpoint-row.the-row) b o γ)) ∷ ‵ (fobs γ (Endpoint-row.the-row .coded .code h)) ∷ ‵ (fauth γ (Endpoint-row.the-row .coded .code h)) ∷ Γ) G)
+      → Seq K W (‵ (fobs γ (Endpoint-row.the-row .coded .code h)) ∷ ‵ (fbor κ (Body (mem Endpoint-row.the-row) b o γ)) ∷ ‵ (flft κ q) ∷ Γ) G
   borrowed t soaks h b o go =
-      opens t soaks T.the-row {h = h} b o (λ vs. spelt t T.the-row (Is T.the-row) (shows 𝓤 H A T.the-row) vals (LL.tells T.the-type T′.the-laws) fullShare h vs b o $
-      move t (1 ∷ []) $ peeks t T.the-row (Is T.the-row) (shows 𝓤 H A T.the-row) h (vals h) (λ is. move t (1 ∷ 0 ∷ []) $
-      use1 W (‵ (fat fullShare T′.mir b o (val h))) (W .laws .raw-at fullShare T′.mir b o (val h)) $ go is))
+      opens t soaks Endpoint-row.the-row {h = h} b o (λ vs. spelt t Endpoint-row.the-row (Is Endpoint-row.the-row) (shows 𝓤 H A Endpoint-row.the-row) vals (Struct.tells Endpoint-row.the-type Endpoint-laws.the-laws) fullShare h vs b o $
+      move t (1 ∷ []) $ peeks t Endpoint-row.the-row (Is Endpoint-row.the-row) (shows 𝓤 H A Endpoint-row.the-row) h (vals h) (λ is. move t (1 ∷ 0 ∷ []) $
+      use1 W (‵ (fat fullShare Endpoint-laws.mir b o (val h))) (W .laws .raw-at fullShare Endpoint-laws.mir b o (val h)) $ go is))
 
   -- what the callee asks, of what its first parameter owns, the tokens and what its other parameters own
   pub passes : K → {Γ : List (Item 𝓤)} {first tokens others : Item 𝓤}
@@ -94,18 +94,18 @@ module _ {M : Type 1} {𝓤 : URA M} {H : Heap 𝓤} {A : Atoms 𝓤} {K : Type 
       move t (1 ∷ []) $ split t $ move t (1 ∷ []) $ peeks t S (Is S) (shows 𝓤 H A S) r (v ∷ []) (λ is. go r (last-list (suc n) ws) e l is)))))
 
   -- the record's borrow is closed at the next record
-  pub closed : K → Soaks G → {Γ : List (Item 𝓤)} {κ : Lft} {q : Share} {γ : GName} {u w : Gv} {result tokens last : Item 𝓤} (next : Endpoint) (b o : ℕ) → Is T.the-row next (vals next)
-      → Step K W (‵ (fobs γ (T.the-row .coded .code next)) ∷ ‵ (fbor κ (Body (mem T.the-row) b o γ)) ∷ ‵ (flft κ q) ∷ result ∷ tokens ∷ last ∷ Γ) G
-      (result ∷ tokens ∷ last ∷ ‵ (cellAt fullShare (T.the-row .mir) (vals next) b o) ∷ ‵ (fobor κ q (Body (mem T.the-row) b o γ)) ∷ ‵ (fobs γ u) ∷ ‵ (fauth γ w) ∷ Γ) G
-  closed t soaks next b o is = step (λ rest. owned t T.the-row (Is T.the-row) (LL.makes T.the-type T′.the-plain 𝓤 H A) next (vals next) is $
-      move t (4 ∷ 0 ∷ 5 ∷ 6 ∷ 7 ∷ []) $ closes t soaks T.the-row next (vals next) b o $ rest)
+  pub closed : K → Soaks G → {Γ : List (Item 𝓤)} {κ : Lft} {q : Share} {γ : GName} {u w : Gv} {result tokens last : Item 𝓤} (next : Endpoint) (b o : ℕ) → Is Endpoint-row.the-row next (vals next)
+      → Step K W (‵ (fobs γ (Endpoint-row.the-row .coded .code next)) ∷ ‵ (fbor κ (Body (mem Endpoint-row.the-row) b o γ)) ∷ ‵ (flft κ q) ∷ result ∷ tokens ∷ last ∷ Γ) G
+      (result ∷ tokens ∷ last ∷ ‵ (cellAt fullShare (Endpoint-row.the-row .mir) (vals next) b o) ∷ ‵ (fobor κ q (Body (mem Endpoint-row.the-row) b o γ)) ∷ ‵ (fobs γ u) ∷ ‵ (fauth γ w) ∷ Γ) G
+  closed t soaks next b o is = step (λ rest. owned t Endpoint-row.the-row (Is Endpoint-row.the-row) (Struct.makes Endpoint-row.the-type Endpoint-laws.the-plain 𝓤 H A) next (vals next) is $
+      move t (4 ∷ 0 ∷ 5 ∷ 6 ∷ 7 ∷ []) $ closes t soaks Endpoint-row.the-row next (vals next) b o $ rest)
 
   -- the end of a walk: nothing is had of the n parameters between the record and the output
   pub leaves : K → (n : ℕ) (next : Endpoint) {said : SProp 𝓤} → ent 𝓤 (emp 𝓤) said → {κ : Lft} {q : Share} {b o : ℕ} {γ : GName} {result tokens : Item 𝓤} {last : Fml}
-      → ent 𝓤 (sep 𝓤 (sep 𝓤 (sep 𝓤 (A .lft κ q) (mean 𝓤 H A tokens)) (sep 𝓤 (sem 𝓤 H A (fsep (MutRef (named 0) κ T.the-row .own (record { ptr = (b, o); name = γ; now = next }) (vptr b o ∷ [])) (among n last))) (mean 𝓤 H A result))) said) (aim 𝓤 H G)
-      → Seq K W (‵ (fobs γ (T.the-row .coded .code next)) ∷ ‵ (fbor κ (Body (mem T.the-row) b o γ)) ∷ ‵ (flft κ q) ∷ result ∷ tokens ∷ ‵ last ∷ []) G
+      → ent 𝓤 (sep 𝓤 (sep 𝓤 (sep 𝓤 (A .lft κ q) (mean 𝓤 H A tokens)) (sep 𝓤 (sem 𝓤 H A (fsep (MutRef (named 0) κ Endpoint-row.the-row .own (record { ptr = (b, o); name = γ; now = next }) (vptr b o ∷ [])) (among n last))) (mean 𝓤 H A result))) said) (aim 𝓤 H G)
+      → Seq K W (‵ (fobs γ (Endpoint-row.the-row .coded .code next)) ∷ ‵ (fbor κ (Body (mem Endpoint-row.the-row) b o γ)) ∷ ‵ (flft κ q) ∷ result ∷ tokens ∷ ‵ last ∷ []) G
   leaves t n next {said} holds {κ} {q} {b} {o} {γ} {result} {tokens} {last} ending =
-      by t (qed W (‵ (fobs γ (T.the-row .coded .code next)) ∷ ‵ (fbor κ (Body (mem T.the-row) b o γ)) ∷ ‵ (flft κ q) ∷ result ∷ tokens ∷ ‵ last ∷ []) ∵
+      by t (qed W (‵ (fobs γ (Endpoint-row.the-row .coded .code next)) ∷ ‵ (fbor κ (Body (mem Endpoint-row.the-row) b o γ)) ∷ ‵ (flft κ q) ∷ result ∷ tokens ∷ ‵ last ∷ []) ∵
       suffices ! _ ending $ feqI ! (List Val) (vptr b o ∷ []) (vptr b o ∷ []) refl $ fjoin3 ! $
       -- [the reference; the token; the result; the other tokens; the last list]
       move ! (4 ∷ []) $ use1 W (‵ (among n last)) (put-among 𝓤 H A n last) $ move ! (1 ∷ 0 ∷ []) $ fjoin ! $
