@@ -15,7 +15,7 @@ use Rattle.endpoint.specs.Record.{opening, offer}
 use Rattle.endpoint.specs.Block.{loadOf}
 use Rattle.sending.specs.Calls.{Call}
 use Rattle.machine.specs.Good.{Fits}
-use Rattle.idle.specs.Programs.{Program, SendResult, ReceiveResult, Meets, byTables}
+use Rattle.session.specs.Blocks.{Entries as Program, SendResult, ReceiveResult, Meets, byTables}
 use Rattle.idle.specs.Idle.{RefusingRejected, HearingNoopRejected, UntouchingRejected, EchoingRejected, WritingBackRejected, MadeUp, by-call, by-message, MadeUpRejected, makingUp, CountingRejected, AwaitingRejected, VicesExist, Rejected}
 use Rattle.idle.proofs.Programs.{only-tables}
 use Rattle.idle.proofs.Witnesses.{BytesLeft, tables-give, madeClient, output, message, opens, hearsOpen, offers, hearsAgreed, sendsNoop, hearsNoop}

@@ -1,19 +1,13 @@
--- The tables meet the contracts, and a program that meets them gives what the tables give. Assumes nothing.
+-- A program that meets the contracts gives what the tables give. Assumes nothing.
 use mathlib.Core.Path.{_≡_, refl}
 use mathlib.Core.List.{List}
 use Prim.Native.Nat.{ℕ}
 use Rattle.sending.specs.Calls.{Call}
 use Rattle.machine.specs.Good.{Fits}
 use Rattle.fbdp.proofs.Determined.{send-determined, receive-determined}
-use Rattle.idle.specs.Programs.{Program, Meets, byTables, TablesMeet, OnlyTables}
-
-pub tables-meet : TablesMeet
-unfolding byTables
-tables-meet =
-    record {
-      sent = λ call fits block out. record { finished = record { numbered = refl; counted = refl; kept = refl }; left = refl };
-      received = λ s name format block out. record { numbered = refl; told = refl; kept = refl; left = refl };
-    }
+use Rattle.session.proofs.Entries.{tables-meet}
+use Rattle.session.specs.Blocks.{Entries as Program, Meets, byTables}
+use Rattle.idle.specs.Programs.{OnlyTables}
 
 module _ (p : Program) (meets : Meets p) where
   sends-as-tables : (call : Call) → Fits call → (block out : List ℕ) → p .sends call block out ≡ byTables .sends call block out

@@ -32,7 +32,7 @@ use Rattle.receiving.specs.Receiving.{replied, receivedOf}
 use Rattle.sending.specs.Calls.{OPEN, READY, NOOP, bundleWith}
 use Rattle.sending.specs.Sending.{sendRow, isFull, numberFor, askedBy, sentBy, leftBy}
 use Rattle.fbdp.specs.Blocks.{MakeAnswer, makeNumber, stored, keptAfter, leaves, keptBy, heardSlots}
-use Rattle.idle.specs.Programs.{SendResult, ReceiveResult, Program, byTables}
+use Rattle.session.specs.Blocks.{SendResult, ReceiveResult, Entries as Program, byTables}
 
 -- a client that produces and a server that consumes, each just made
 abbrev pub madeClient : List ℕ

@@ -17,7 +17,7 @@ use Rattle.sending.specs.Calls.{Call}
 use Rattle.table.specs.declared.Row.the-variants.{NotAllowed}
 use Rattle.table.specs.Table.{sendNumber}
 use Rattle.machine.specs.Good.{Fits}
-use Rattle.idle.specs.Programs.{Program, SendResult, ReceiveResult, Meets, byTables}
+use Rattle.session.specs.Blocks.{Entries as Program, SendResult, ReceiveResult, Meets, byTables}
 
 abbrev pub Rejected : Program → Type 0
 Rejected p = Meets p → ⊥

@@ -32,11 +32,11 @@ dataCount Data = 1
 dataCount Close = 0
 
 carried-count : (m : Packet) → length (dataIn m) ≡ dataCount (rowMessage m)
-carried-count (Called e (OPEN name format) room) = refl
-carried-count (Called e (READY count) room) = refl
-carried-count (Called e (DATA type-data ask body) room) = refl
-carried-count (Called e (NOOP type-data ask) room) = refl
-carried-count (Called e (CLOSE code) room) = refl
+carried-count (Called e (OPEN name format)) = refl
+carried-count (Called e (READY count)) = refl
+carried-count (Called e (DATA type-data ask body)) = refl
+carried-count (Called e (NOOP type-data ask)) = refl
+carried-count (Called e (CLOSE code)) = refl
 carried-count (Confirms message type-data) = refl
 carried-count (Closes code) = refl
 
@@ -123,7 +123,7 @@ module _ (end : End) (e : Endpoint) (sound : Sound e) (past : History) (counted 
   pub sent-counted : (flow : ℕ) (call : Call) → Moved (roleOf end) flow (e .phase) (e .n) (messageOf call) (typeDataOf call) phase n → Counted end (afterCall end past call) next
   sent-counted flow call moves =
       let after = row-within (agreed end past) (past .batch) (length (past .sent) + length (past .accepted)) end moves (batch-some e sound) counted in
-      let carries = carried-count (Called e call 0) in
+      let carries = carried-count (Called e call) in
       rw (called-agreed end past call, phased, numbered)
       (record {
         in-all = omega (arith, after .in-all, carries, length-append (past .sent) (dataSent call));

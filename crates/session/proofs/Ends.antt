@@ -2,24 +2,26 @@
 use mathlib.Core.Path.{_≡_, refl, sym, _∙_, ap}
 use Prim.Native.Nat.{ℕ, _≤_, _<_, _^_}
 use mathlib.Core.List.{List, [], _∷_, _++_, map, map-append}
-use mathlib.Core.Bool.{true, false}
+use mathlib.Core.Bool.{Bool, true, false, cond}
 use native.Mathlib.Omega.{arith}
 use Rattle.control.specs.declared.MessageType.{MessageType}
+use Rattle.control.specs.declared.MessageType.the-variants.{Noop, Data}
 use Rattle.endpoint.specs.declared.Endpoint.{Endpoint}
 use Rattle.endpoint.specs.Record.{opening, batch, shut, closed}
 use Rattle.table.specs.Table.{other}
-use Rattle.sending.specs.Calls.{Call, OPEN, READY, DATA, NOOP, CLOSE, messageOf, typeDataOf, written}
-use Rattle.sending.specs.Sending.{sendOf}
+use Rattle.sending.specs.Calls.{Call, OPEN, READY, DATA, NOOP, CLOSE, messageOf, typeDataOf}
 use Rattle.machine.specs.Good.{Fits}
 use Rattle.machine.proofs.Rows.{closed-sound}
-use Rattle.session.specs.World.{End, across, Ending, Side, endedBy, wrote, took, Client, Server, Going, HeardClose, WroteClose}
+use Rattle.session.specs.World.{End, across, Ending, SendOutcome, Side, endedBy, wrote, took, Client, Server, Going, HeardClose, WroteClose}
 use Rattle.session.specs.Packets.{Packet, bytesIn, rowMessage, typeDataIn, dataIn, readyIn, Called, Confirms, Closes}
 use Rattle.session.specs.Turns.{roleOf, producing}
+use Rattle.session.specs.Confirmations.{Confirming, Ledger}
 use Rattle.session.specs.Demand.{PhaseFits}
 use Rattle.session.specs.Invariant.{Knows, source, Settled, Proper, AllProper, OneEnd}
 use Rattle.session.proofs.Table.{Moved, opens, offers, takes, gives, rests, closes, row-moved, moved-low, Landed, goes-on, closes-both, moved-lands}
 use Rattle.session.proofs.Counts.{sent-counted, heard-counted, closed-counted}
-use Rattle.session.proofs.Packets.{SentOn, Comes, answersIn, limitAfter, isOpenMessage, OpenOrOther, an-open, another, open-or-other}
+use Rattle.session.specs.Laws.{answersIn, Comes, limitAfter, SentOn}
+use Rattle.session.proofs.Packets.{isOpenMessage, OpenOrOther, an-open, another, open-or-other}
 
 -- an end that is not in phase 5 has not closed
 pub is-going : (ending : Ending) (phase : ℕ) → PhaseFits ending phase → phase ≤ batch → ending ≡ Going
@@ -63,25 +65,29 @@ pub hearer-knows : (end : End) {role flow phase n type-data next count : ℕ} {m
 hearer-knows Client other moves = tt
 hearer-knows Server other moves = server-knows other moves
 
-module _ (flow limit serverFlow : ℕ) where
-  pub proper-append : (end : End) (p q : List Packet) → AllProper flow limit serverFlow end p → AllProper flow limit serverFlow end q → AllProper flow limit serverFlow end (p ++ q)
+module _ (flow limit serverFlow : ℕ) (Made : Endpoint → Call → Type 0) where
+  pub proper-append : (end : End) (p q : List Packet) → AllProper flow limit serverFlow Made end p → AllProper flow limit serverFlow Made end q → AllProper flow limit serverFlow Made end (p ++ q)
   proper-append end [] q front back = back
   proper-append end (m ∷ p) q front back = (front .0, proper-append end p q (front .1) back)
 
   queued-append : (x : Side Endpoint) (p r : List Packet) (bytes : List (List ℕ)) → x .queue ≡ map bytesIn p → bytes ≡ map bytesIn r → x .queue ++ bytes ≡ map bytesIn (p ++ r)
   queued-append x p r bytes queued writes = rw (queued, writes) (sym (map-append bytesIn p r))
 
+  proper-if : (end : End) (m : Packet) (t : Bool) → Proper flow limit serverFlow Made end m → AllProper flow limit serverFlow Made end (cond t (m ∷ []) [])
+  proper-if end m true proper = (proper, tt)
+  proper-if end m false proper = tt
+
   -- the confirmation of a proper packet is proper
-  answers-proper : (end : End) (m : Packet) → Proper flow limit serverFlow (across end) m → AllProper flow limit serverFlow end (answersIn m)
-  answers-proper end (Called e (OPEN name format) room) made = tt
-  answers-proper end (Called e (READY count) room) made = tt
-  answers-proper end (Called e (DATA type-data true body) room) made = ((refl, made .fits), tt)
-  answers-proper end (Called e (DATA type-data false body) room) made = tt
-  answers-proper end (Called e (NOOP type-data true) room) made = ((refl, made .fits), tt)
-  answers-proper end (Called e (NOOP type-data false) room) made = tt
-  answers-proper end (Called e (CLOSE code) room) made = tt
-  answers-proper end (Confirms message type-data) made = tt
-  answers-proper end (Closes code) made = tt
+  answers-proper : (prompt : MessageType → Bool) (end : End) (m : Packet) → Proper flow limit serverFlow Made (across end) m → AllProper flow limit serverFlow Made end (answersIn prompt m)
+  answers-proper prompt end (Called e (OPEN name format)) made = tt
+  answers-proper prompt end (Called e (READY count)) made = tt
+  answers-proper prompt end (Called e (DATA type-data true body)) made = proper-if end (Confirms Data type-data) (prompt Data) (refl, made .fits)
+  answers-proper prompt end (Called e (DATA type-data false body)) made = tt
+  answers-proper prompt end (Called e (NOOP type-data true)) made = proper-if end (Confirms Noop type-data) (prompt Noop) (refl, made .fits)
+  answers-proper prompt end (Called e (NOOP type-data false)) made = tt
+  answers-proper prompt end (Called e (CLOSE code)) made = tt
+  answers-proper prompt end (Confirms message type-data) made = tt
+  answers-proper prompt end (Closes code) made = tt
 
   -- a closed client has its limit and flow still
   closed-terms : (end : End) {e : Endpoint} → Knows end shut → (Knows end (e .phase) → Settled flow limit serverFlow end e) → Settled flow limit serverFlow end (closed e)
@@ -89,11 +95,11 @@ module _ (flow limit serverFlow : ℕ) where
   closed-terms Client still terms = record { limited = terms tt .limited; produced = terms tt .produced }
   closed-terms Server still terms = absurd (omega (arith, still .1))
 
-  module _ (end : End) (x : Side Endpoint) (p : List Packet) (here : OneEnd flow limit serverFlow end x p) where
+  module _ (end : End) (x : Side Endpoint) (p : List Packet) (here : OneEnd flow limit serverFlow Made end x p) where
     -- an end that sent a call
-    pub sent-sides : (call : Call) (room : ℕ) → Fits call → sendOf (x .self) call room .number ≡ 0 → SentOn (x .self) call room
-        → OneEnd flow limit serverFlow end (wrote end x call (written (x .self) call) (sendOf (x .self) call room .next)) (p ++ (Called (x .self) call room ∷ []))
-    sent-sides call room fits number sent =
+    pub sent-sides : {A : Type 0} (view : A → Endpoint) (Fine : A → Type 0) (confirming : Confirming A) (dues : Ledger) (call : Call) (result : SendOutcome A) → (sent : SentOn view Fine Made confirming (x .self) dues call result)
+        → OneEnd flow limit serverFlow Made end (wrote end x call (result .bytes) (view (result .next))) (p ++ (sent .packet ∷ []))
+    sent-sides view Fine confirming dues call result sent =
         let comes = sent .comes in
         let moves = row-moved (roleOf end) (x .self .flow) (x .self .phase) (x .self .n) (messageOf call) (typeDataOf call) (sent .phase) (sent .n) (rw (here .role) at (sent .leads)) in
         let knows = sender-knows end moves in
@@ -103,48 +109,48 @@ module _ (flow limit serverFlow : ℕ) where
           role = comes .role ∙ here .role;
           flows = comes .flow ∙ here .flows;
           ends = rw (going, comes .phased) (landed-ends WroteClose refl (moved-lands moves));
-          queued = queued-append x p (Called (x .self) call room ∷ []) (written (x .self) call ∷ []) (here .queued) refl;
+          queued = queued-append x p (sent .packet ∷ []) (result .bytes ∷ []) (here .queued) (rw (sent .bytes) refl);
           proper =
-              proper-append end p (Called (x .self) call room ∷ []) (here .proper)
-              (record { fits = fits; accepted = number; flows = here .flows; limited = here .terms knows .limited }, tt);
+              proper-append end p (sent .packet ∷ []) (here .proper)
+              (sent .proper flow limit serverFlow end (here .flows) (here .terms knows .limited), tt);
           terms =
               λ still. record {
                 limited = comes .limited ∙ here .terms knows .limited;
                 produced = ap (producing end) (comes .flow) ∙ here .terms knows .produced;
               };
-          counted = sent-counted end (x .self) (here .sound) (x .past) (here .counted) (sendOf (x .self) call room .next) (sent .phase) (sent .n) (comes .phased) (comes .counted) (x .self .flow) call moves;
+          counted = sent-counted end (x .self) (here .sound) (x .past) (here .counted) (view (result .next)) (sent .phase) (sent .n) (comes .phased) (comes .counted) (x .self .flow) call moves;
         }
 
     -- an end that has not closed heard a packet, whose row leads to this phase and n; an OPEN only where it is for who produces
-    pub heard-sides : (m : Packet) (phase n : ℕ) (next : Endpoint) → Proper flow limit serverFlow (across end) m
+    pub heard-sides : (prompt : MessageType → Bool) (m : Packet) (phase n : ℕ) (next : Endpoint) → Proper flow limit serverFlow Made (across end) m
         → Moved (roleOf (across end)) (other (x .self .flow)) (x .self .phase) (x .self .n) (rowMessage m) (typeDataIn m) phase n
         → (isOpenMessage (rowMessage m) ≡ true → producing end (x .self .flow) ≡ source flow) → Comes (x .self) phase n (limitAfter m (x .self .limit)) next
-        → OneEnd flow limit serverFlow end
-        (took end x (dataIn m) (readyIn m) (endedBy HeardClose (rowMessage m) Going) (map bytesIn (answersIn m)) next)
-        (p ++ answersIn m)
-    heard-sides m phase n next proper moves produces comes =
+        → OneEnd flow limit serverFlow Made end
+        (took end x (dataIn m) (readyIn m) (endedBy HeardClose (rowMessage m) Going) (map bytesIn (answersIn prompt m)) next)
+        (p ++ answersIn prompt m)
+    heard-sides prompt m phase n next proper moves produces comes =
         record {
           sound = comes .sound;
           role = comes .role ∙ here .role;
           flows = comes .flow ∙ here .flows;
           ends = rw (comes .phased) (landed-ends HeardClose refl (moved-lands moves));
-          queued = queued-append x p (answersIn m) (map bytesIn (answersIn m)) (here .queued) refl;
-          proper = proper-append end p (answersIn m) (here .proper) (answers-proper end m proper);
+          queued = queued-append x p (answersIn prompt m) (map bytesIn (answersIn prompt m)) (here .queued) refl;
+          proper = proper-append end p (answersIn prompt m) (here .proper) (answers-proper prompt end m proper);
           terms = λ known. record { limited = comes .limited ∙ terms-there .0; produced = ap (producing end) (comes .flow) ∙ terms-there .1 };
           counted = heard-counted end (x .self) (here .sound) (x .past) (here .counted) next phase n (comes .phased) (comes .counted) (other (x .self .flow)) m (endedBy HeardClose (rowMessage m) Going) moves;
         }
       where
         -- an OPEN brings the terms, and any other packet comes to an end that knows them
-        by-sort : (m : Packet) → OpenOrOther m → Proper flow limit serverFlow (across end) m → (isOpenMessage (rowMessage m) ≡ true → producing end (x .self .flow) ≡ source flow)
+        by-sort : (m : Packet) → OpenOrOther m → Proper flow limit serverFlow Made (across end) m → (isOpenMessage (rowMessage m) ≡ true → producing end (x .self .flow) ≡ source flow)
             → (isOpenMessage (rowMessage m) ≡ false → Settled flow limit serverFlow end (x .self)) → (limitAfter m (x .self .limit) ≡ limit) × (producing end (x .self .flow) ≡ source flow)
-        by-sort _ (an-open e asked wanted room) made brings knows = (made .limited, brings refl)
+        by-sort _ (an-open e asked wanted) made brings knows = (made .limited, brings refl)
         by-sort _ (another later offered stays) made brings knows = (stays (x .self .limit) ∙ knows later .limited, knows later .produced)
 
         terms-there : (limitAfter m (x .self .limit) ≡ limit) × (producing end (x .self .flow) ≡ source flow)
         terms-there = by-sort m (open-or-other m) proper produces (λ later. here .terms (hearer-knows end later moves))
 
     -- an end that refused an OPEN
-    pub refused-sides : (code : ℕ) → code < 256 ^ 2 → OneEnd flow limit serverFlow end (took end x [] [] WroteClose (map bytesIn (Closes code ∷ [])) (closed (x .self))) (p ++ (Closes code ∷ []))
+    pub refused-sides : (code : ℕ) → code < 256 ^ 2 → OneEnd flow limit serverFlow Made end (took end x [] [] WroteClose (map bytesIn (Closes code ∷ [])) (closed (x .self))) (p ++ (Closes code ∷ []))
     unfolding closed
     refused-sides code few =
         record {

@@ -1,23 +1,24 @@
--- Every call of an entry makes of two blocks what the same call makes of the records that they hold. Assumes nothing.
+-- Entries that meet their contracts do on a block what the tables do on the record that it holds. Assumes nothing.
 use mathlib.Core.Path.{_≡_, _∙_, ap, refl, subst, sym}
 use Prim.Native.Nat.{ℕ, _≤_}
 use mathlib.Core.List.{List, [], _∷_}
-use mathlib.Core.Bool.{Bool, true, false, cond, not}
 use native.Mathlib.Omega.{arith}
-use lib.Dec.{eqb, ltb}
 use lib.ListN.{length, take}
+use lib.Dec.{eqb}
 use lib.Seq.{take-all}
-use borrow.Author.Tests.{eqb-true, eqb-false, le-leb, lt-leb, ltb-false}
+use borrow.Author.Tests.{le-leb, lt-leb, ne-eqb}
 use Rattle.bytes_be.specs.Part.{putAt}
 use Rattle.bytes_be.proofs.Parts.{length-put, part-put}
 use Rattle.endpoint.specs.declared.Endpoint.{Endpoint}
-use Rattle.endpoint.specs.Record.{good}
 use Rattle.endpoint.specs.Block.{bytesOf, loadOf}
 use Rattle.endpoint.proofs.Round.{block-told, loaded-good, stored-loads}
 use Rattle.endpoint.proofs.Stored.{length-block}
+use Rattle.receiving.specs.declared.Answer.{Answer}
+use Rattle.receiving.specs.declared.Answer.the-variants.{Heard as Answer·Heard, Refused}
+use Rattle.receiving.specs.declared.Reply.{Reply}
+use Rattle.receiving.specs.declared.Reply.the-variants.{Nothing, Frame}
 use Rattle.receiving.specs.declared.Received.{Received}
-use Rattle.receiving.specs.Hearing.{hearOf}
-use Rattle.receiving.specs.Receiving.{answerNumber, receivedOf}
+use Rattle.receiving.specs.Receiving.{answerNumber, receivedOf, replied}
 use Rattle.receiving.specs.Refusing.{refused, unchanged}
 use Rattle.sending.specs.declared.Sent.{Sent}
 use Rattle.sending.specs.Calls.{Call, outgoing, written}
@@ -25,34 +26,22 @@ use Rattle.sending.specs.Sending.{leftBy, sendOf}
 use Rattle.sending.proofs.Decided.{accepted-passed, accepted-sent}
 use Rattle.machine.specs.Good.{Fits, Sound}
 use Rattle.machine.specs.Refusals.{Outcome, stays, closes, hears}
-use Rattle.machine.proofs.Good.{sent-good}
-use Rattle.machine.proofs.Refusals.{receive-comes-to, refused-send-stays}
-use Rattle.fbdp.specs.Blocks.{SendAnswer, ReceiveAnswer, keptAfter, keptBy, leaves, stored}
-use Rattle.session.specs.World.{End, across, Side, World, Event, EventFits, endingReplied, endingHeard, replies, side, joined, became, withQueue, wrote, took, afterSend, afterBundle, isKept, afterReceive, step, Client, Server, receives}
-use Rattle.session.specs.Blocks.{afterEntry, dataTold, readyTold, repliesTold, endingTold, afterReceived, Calls, loadedSide, loaded, sent, received, nothing-there}
-use Rattle.session.proofs.Demand.{joined-sides}
-use Rattle.session.proofs.Told.{replies-told, told}
+use Rattle.machine.proofs.Refusals.{receive-comes-to}
+use Rattle.fbdp.specs.Blocks.{SendAnswer, ReceiveAnswer, answerSlots, heardSlots, keptAfter, keptBy, leaves, replyLength, stored}
+use Rattle.session.specs.World.{Ending, ignored, outcomeOf, ReceiveOutcome, replies, tables}
+use Rattle.session.specs.Blocks.{Entries, Meets, dataTold, endingTold, onBlocks, readyTold, receiveTold, repliesTold, TablesMeet, byTables}
+use Rattle.session.specs.Laws.{atOnce, ByTables, Laws}
+use Rattle.session.proofs.Follows.{Alike, Follows, follows-laws, heldBy}
+use Rattle.session.proofs.Tables.{tables-laws}
+use Rattle.session.proofs.Told.{replies-told, slotsOf, told}
 
--- the ends of two that are joined, and the records that their blocks hold
-
-side-joined : {A : Type 0} (end : End) (x y : Side A) → side (joined end x y) end ≡ x
-side-joined Client x y = refl
-side-joined Server x y = refl
-
-loaded-joined : (end : End) (x y : Side (List ℕ)) → loaded (joined end x y) ≡ joined end (loadedSide x) (loadedSide y)
-loaded-joined Client x y = refl
-loaded-joined Server x y = refl
-
-pub loaded-at : (w : World (List ℕ)) (end : End) → loadedSide (side w end) ≡ side (loaded w) end
-loaded-at w Client = refl
-loaded-at w Server = refl
-
--- both records are good
-abbrev pub AllSound : World Endpoint → Type 0
-AllSound w = (end : End) → Sound (side w end .self)
-
-pub block-sound : (w : World (List ℕ)) → AllSound (loaded w) → (end : End) → Sound (loadOf (side w end .self))
-block-sound w sound end = subst (λ (x : Side Endpoint). Sound (x .self)) (sym (loaded-at w end)) (sound end)
+pub tables-meet : TablesMeet
+unfolding byTables
+tables-meet =
+    record {
+      sent = λ call fits block out. record { finished = record { numbered = refl; counted = refl; kept = refl }; left = refl };
+      received = λ s name format block out. record { numbered = refl; told = refl; kept = refl; left = refl };
+    }
 
 -- a record that is stored in 64 bytes is loaded again
 
@@ -73,59 +62,34 @@ module _ (e : Endpoint) (sound : Sound e) (block : List ℕ) (full : length bloc
 block-full : (block : List ℕ) → Sound (loadOf block) → length block ≡ 64
 block-full block sound = block-told block (sym (loaded-good block) ∙ sound .is-good) .full
 
--- the end of a send: the bytes that the entry wrote are those of the call, and its block holds the record after it
+-- a send: the bytes that the entry wrote are those of the call, and its block holds the record after it
 
-module _ (end : End) (x : Side (List ℕ)) (sound : Sound (loadOf (x .self))) (call : Call) (fits : Fits call) (out : List ℕ) (number count : ℕ) (block′ out′ : List ℕ)
-    (answer : SendAnswer call (x .self) out number count block′ out′) where
-  abbrev before : Endpoint
-  before = loadOf (x .self)
-
+module _ (block : List ℕ) (call : Call) (out : List ℕ) (number count : ℕ) (block′ out′ : List ℕ) (answer : SendAnswer call block out number count block′ out′) where
   abbrev result : Sent
-  result = sendOf before call (length out)
+  result = sendOf (loadOf block) call (length out)
 
   module _ (accepts : result .number ≡ 0) where
-    bytes-out : take count out′ ≡ written before call
+    bytes-out : take count out′ ≡ written (loadOf block) call
     unfolding leftBy
     bytes-out =
+        let before = loadOf block in
         let counted : count ≡ length (written before call) = answer .finished .counted ∙ ap (λ (s : Sent). s .written) (accepted-sent before (outgoing before call) (length out) accepts) in
         let put : out′ ≡ putAt out 0 (written before call) = rw accepts at (answer .left) in
         let room = accepted-passed before (outgoing before call) (length out) accepts .fits in
         (λ i. take (counted i) (put i)) ∙ part-put out 0 (written before call) (omega (arith, room))
 
-    sent-back : loadOf block′ ≡ result .next
+    sent-back : Sound (loadOf block) → Sound (result .next) → loadOf block′ ≡ result .next
     unfolding keptAfter
-    sent-back =
-        let kept : block′ ≡ stored (result .next) (x .self) = rw accepts at (answer .finished .kept) in
-        ap loadOf kept ∙ stored-back (result .next) (sent-good before sound call fits (length out)) (x .self) (block-full (x .self) sound)
+    sent-back sound next-sound =
+        let kept : block′ ≡ stored (result .next) block = rw accepts at (answer .finished .kept) in
+        ap loadOf kept ∙ stored-back (result .next) next-sound block (block-full block sound)
 
-  refused-kept : eqb (result .number) 0 ≡ false → block′ ≡ x .self
+  refused-kept : (number ≡ 0 → ⊥) → block′ ≡ block
   unfolding keptAfter
-  refused-kept refusal = rw refusal at (answer .finished .kept)
+  refused-kept refusal = rw (← answer .finished .numbered, ne-eqb number 0 refusal) at (answer .finished .kept)
 
-  sent-side : loadedSide (afterEntry end x call number count block′ out′) ≡ afterSend end (loadedSide x) call (length out)
-  unfolding afterSend
-  sent-side = ap (λ (k : ℕ). loadedSide (afterEntry end x call k count block′ out′)) (answer .finished .numbered) ∙ go (eqb (result .number) 0) refl
-    where
-      go : (t : Bool) → eqb (result .number) 0 ≡ t →
-          loadedSide (cond t (wrote end x call (take count out′) block′) (became x block′)) ≡ cond t (wrote end (loadedSide x) call (written before call) (result .next)) (became (loadedSide x) (result .next))
-      go true is =
-          let accepts = eqb-true (result .number) 0 is in
-          λ i. wrote end (loadedSide x) call (bytes-out accepts i) (sent-back accepts i)
-      go false is =
-          ap (λ (block : List ℕ). loadedSide (became x block)) (refused-kept is)
-          ∙ ap (became (loadedSide x)) (sym (ap (λ (s : Sent). s .next) (refused-send-stays before call (length out) (eqb-false _ _ is))))
+-- a receive: what the entry told, wrote and left is what the record in its block came to
 
--- a message that is not left where it is had an output with room for a reply
-roomy : (e : Endpoint) (s name format : List ℕ) (room : ℕ) → isKept (answerNumber (receivedOf e s name format room .answer)) ≡ false → 14 ≤ room
-unfolding receivedOf unchanged
-roomy e s name format room = go (not (good e)) (ltb room 14) refl
-  where
-    go : (bad short : Bool) → ltb room 14 ≡ short → isKept (answerNumber (cond bad (unchanged e 1) (cond short (unchanged e 2) (hearOf e s name format)) .answer)) ≡ false → 14 ≤ room
-    go true short is other = let z : _≡_ {A = ℕ} 0 1 = cc in absurd (omega arith)
-    go false true is other = let z : _≡_ {A = ℕ} 0 1 = cc in absurd (omega arith)
-    go false false is other = ltb-false room 14 is
-
--- the block after a receive holds the record after it
 received-back : (block : List ℕ) (received : Received) → Outcome (loadOf block) received → length block ≡ 64 → Sound (received .next) → loadOf (keptBy received block) ≡ received .next
 unfolding keptBy leaves unchanged refused
 received-back block _ (stays number among) full sound = simp (le-leb 1 number (among .0), le-leb number 3 (among .1))
@@ -133,74 +97,61 @@ received-back block _ (closes number said among) full sound =
     simp (le-leb 1 number (omega (arith, among .0)), lt-leb number 3 (omega (arith, among .0))) (stored-back _ sound block full)
 received-back block _ (hears heard next reply) full sound = stored-back next sound block full
 
--- the ends of a receive: what the entry told, wrote and left is what the record in its block came to
+no-reply : (answer : Answer) (reply : Reply) (out : List ℕ) → replies reply ≡ [] → repliesTold (answerSlots answer (replyLength reply)) (replied reply out) ≡ []
+unfolding heardSlots
+no-reply (Answer·Heard heard) Nothing out none = refl
+no-reply (Refused number) Nothing out none = refl
+no-reply answer (Frame message flags type-data) out none = let z : _≡_ {A = ℕ} 0 1 = cc in absurd (omega arith)
 
-module _ (end : End) (x : Side (List ℕ)) (sound : Sound (loadOf (x .self))) (s name format out : List ℕ) (number : ℕ) (slots block′ out′ : List ℕ)
-    (answer : ReceiveAnswer s name format (x .self) out number slots block′ out′) where
+module _ (s name format block out : List ℕ) (number : ℕ) (slots block′ out′ : List ℕ) (answer : ReceiveAnswer s name format block out number slots block′ out′) where
   abbrev heard : Received
-  heard = receivedOf (loadOf (x .self)) s name format (length out)
+  heard = receivedOf (loadOf block) s name format (length out)
 
-  -- the end that took a message
-  taken-side : isKept (answerNumber (heard .answer)) ≡ false → Sound (heard .next) →
-      loadedSide (took end x (dataTold s slots) (readyTold slots) (endingTold number slots (x .past .ending)) (repliesTold slots out′) block′)
-      ≡ afterBundle end (loadedSide x) s heard
-  taken-side left next-sound =
-      let says = told (loadOf (x .self)) s name format (length out) in
-      let carried = ap (dataTold s) (answer .told) ∙ says .carried in
-      let readied = ap readyTold (answer .told) ∙ says .readied in
-      let replied : repliesTold slots out′ ≡ replies (heard .reply) =
-      (λ i. repliesTold (answer .told i) (answer .left i)) ∙ replies-told heard out (roomy (loadOf (x .self)) s name format (length out) left) in
-      let ends : endingTold number slots (x .past .ending) ≡ endingReplied (heard .reply) (endingHeard (heard .answer) (x .past .ending)) =
-      (λ i. endingTold (answer .numbered i) (answer .told i) (x .past .ending)) ∙ says .ends (x .past .ending) in
-      let back = ap loadOf (answer .kept) ∙ received-back (x .self) heard (receive-comes-to (loadOf (x .self)) s name format (length out)) (block-full (x .self) sound) next-sound in
-      λ i. took end (loadedSide x) (carried i) (readied i) (ends i) (replied i) (back i)
+  abbrev outcome : ReceiveOutcome (List ℕ)
+  outcome = receiveTold s (record { number = number; slots = slots; block = block′; out = out′ })
 
-  -- and one that left it
-  left-side : isKept (answerNumber (heard .answer)) ≡ true → Sound (heard .next) → loadedSide (became x block′) ≡ became (loadedSide x) (heard .next)
-  left-side is next-sound =
-      let back = ap loadOf (answer .kept) ∙ received-back (x .self) heard (receive-comes-to (loadOf (x .self)) s name format (length out)) (block-full (x .self) sound) next-sound in
-      λ i. became (loadedSide x) (back i)
+  received-ends : (before : Ending) → outcome .ended before ≡ outcomeOf s heard .ended before
+  received-ends before = (λ i. endingTold (answer .numbered i) (answer .told i) before) ∙ told (loadOf block) s name format (length out) .ends before
 
-  module _ (y : Side (List ℕ)) (rest : List (List ℕ)) where
-    next-sound : Sound (side (afterReceive end (loadedSide x) (loadedSide y) (s ∷ rest) name format (length out)) end .self) → Sound (heard .next)
-    unfolding afterReceive
-    next-sound = go (isKept (answerNumber (heard .answer)))
-      where
-        go : (t : Bool) → Sound (side (cond t (joined end (became (loadedSide x) (heard .next)) (loadedSide y)) (joined end (afterBundle end (loadedSide x) s heard) (withQueue (loadedSide y) rest))) end .self)
-            → Sound (heard .next)
-        go true after = subst (λ (z : Side Endpoint). Sound (z .self)) (side-joined end _ _) after
-        go false after = subst (λ (z : Side Endpoint). Sound (z .self)) (side-joined end _ _) after
+  received-alike : 14 ≤ length out → Sound (loadOf block) → Sound (heard .next) → Alike loadOf outcome (outcomeOf s heard)
+  received-alike room sound next-sound =
+      let says = told (loadOf block) s name format (length out) in
+      record {
+        number = answer .numbered;
+        heard = ap (dataTold s) (answer .told) ∙ says .carried;
+        readies = ap readyTold (answer .told) ∙ says .readied;
+        ended = received-ends;
+        replied = (λ i. repliesTold (answer .told i) (answer .left i)) ∙ replies-told heard out room;
+        next = ap loadOf (answer .kept) ∙ received-back block heard (receive-comes-to (loadOf block) s name format (length out)) (block-full block sound) next-sound;
+      }
 
-    received-world : Sound (side (afterReceive end (loadedSide x) (loadedSide y) (s ∷ rest) name format (length out)) end .self) →
-        loaded (afterReceived end x y s rest number slots block′ out′) ≡ afterReceive end (loadedSide x) (loadedSide y) (s ∷ rest) name format (length out)
-    unfolding afterReceive
-    received-world after-sound = ap (λ (k : ℕ). loaded (after (isKept k))) (answer .numbered) ∙ go (isKept (answerNumber (heard .answer))) refl
-      where
-        after : Bool → World (List ℕ)
-        after t =
-            cond t
-            (joined end (became x block′) y)
-            (joined end
-            (took end x (dataTold s slots) (readyTold slots) (endingTold number slots (x .past .ending)) (repliesTold slots out′) block′)
-            (withQueue y rest))
+  received-ignored : (k : ℕ) → (2 ≤ k) × (k ≤ 3) → outcomeOf s heard ≡ ignored k (loadOf block) → outcome ≡ ignored k block
+  unfolding keptBy leaves
+  received-ignored k among same =
+      let says = told (loadOf block) s name format (length out) in
+      let numbered = answer .numbered ∙ ap (λ (r : ReceiveOutcome Endpoint). r .number) same in
+      let data-none = ap (dataTold s) (answer .told) ∙ says .carried ∙ ap (λ (r : ReceiveOutcome Endpoint). r .heard) same in
+      let readies-none = ap readyTold (answer .told) ∙ says .readied ∙ ap (λ (r : ReceiveOutcome Endpoint). r .readies) same in
+      let ends : (before : Ending) → outcome .ended before ≡ before = λ before. received-ends before ∙ ap (λ (r : ReceiveOutcome Endpoint). r .ended before) same in
+      let replies-none = (λ i. repliesTold (answer .told i) (answer .left i)) ∙ no-reply (heard .answer) (heard .reply) out (ap (λ (r : ReceiveOutcome Endpoint). r .replied) same) in
+      let number-of : answerNumber (heard .answer) ≡ k = ap (λ (r : ReceiveOutcome Endpoint). r .number) same in
+      let kept : block′ ≡ block = answer .kept ∙ simp (number-of, le-leb 1 k (omega (arith, among .0)), le-leb k 3 (among .1)) in
+      λ i. record { number = numbered i; heard = data-none i; readies = readies-none i; ended = λ before. ends before i; replied = replies-none i; next = kept i }
 
-        go : (t : Bool) → isKept (answerNumber (heard .answer)) ≡ t → loaded (after t) ≡ cond t (joined end (became (loadedSide x) (heard .next)) (loadedSide y)) (joined end (afterBundle end (loadedSide x) s heard) (withQueue (loadedSide y) rest))
-        go true is = loaded-joined end (became x block′) y ∙ ap (λ (z : Side Endpoint). joined end z (loadedSide y)) (left-side is (next-sound after-sound))
-        go false is = loaded-joined end _ (withQueue y rest) ∙ ap (λ (z : Side Endpoint). joined end z (withQueue (loadedSide y) rest)) (taken-side is (next-sound after-sound))
+module _ (entries : Entries) (meets : Meets entries) where
+  entries-follow : Follows (onBlocks entries) tables loadOf length (λ e. e) Sound ByTables atOnce
+  entries-follow =
+      record {
+        room = λ out. refl;
+        numbered = λ block call out fits. meets .sent call fits block out .finished .numbered;
+        writes = λ block call out sound fits accepts next-sound.
+            let answer = meets .sent call fits block out in
+            (bytes-out block call out _ _ _ _ answer accepts, sent-back block call out _ _ _ _ answer accepts sound next-sound);
+        unsent = λ block call out sound fits refusal. refused-kept block call out _ _ _ _ (meets .sent call fits block out) refusal;
+        receives = λ block s name format out sound room next-sound. received-alike s name format block out _ _ _ _ (meets .received s name format block out) room sound next-sound;
+        ignores = λ block s name format out k among same. received-ignored s name format block out _ _ _ _ (meets .received s name format block out) k among same;
+      }
 
--- every call of an entry makes of the blocks what the same call makes of their records
-pub call-loads : (w : World (List ℕ)) (event : Event) (after : World (List ℕ)) → Calls w event after → EventFits event → AllSound (loaded w) → AllSound (step (loaded w) event) → loaded after ≡ step (loaded w) event
-unfolding step afterReceive
-call-loads w _ _ (sent end call out number count block′ out′ answer) fits sound next-sound =
-    let here = sent-side end (side w end) (block-sound w sound end) call fits out number count block′ out′ answer ∙ ap (λ (x : Side Endpoint). afterSend end x call (length out)) (loaded-at w end) in
-    loaded-joined end _ (side w (across end)) ∙ λ i. joined end (here i) (loaded-at w (across end) i)
-call-loads w _ _ (received end s rest name format out number slots block′ out′ queue answer) fits sound next-sound =
-    let head : s ∷ rest ≡ side (loaded w) (across end) .queue = sym queue ∙ ap (λ (y : Side Endpoint). y .queue) (loaded-at w (across end)) in
-    let same : afterReceive end (loadedSide (side w end)) (loadedSide (side w (across end))) (s ∷ rest) name format (length out) ≡ step (loaded w) (receives end name format (length out)) =
-    λ i. afterReceive end (loaded-at w end i) (loaded-at w (across end) i) (head i) name format (length out) in
-    received-world end (side w end) (block-sound w sound end) s name format out number slots block′ out′ answer (side w (across end)) rest
-    (subst (λ (v : World Endpoint). Sound (side v end .self)) (sym same) (next-sound end))
-    ∙ same
-call-loads w _ _ (nothing-there end name format room queue) fits sound next-sound =
-    let none : [] ≡ side (loaded w) (across end) .queue = sym queue ∙ ap (λ (y : Side Endpoint). y .queue) (loaded-at w (across end)) in
-    sym (joined-sides (loaded w) end) ∙ ap (λ (queue : List (List ℕ)). afterReceive end (side (loaded w) end) (side (loaded w) (across end)) queue name format room) none
+  -- so they have the laws
+  pub entries-laws : Laws (onBlocks entries) loadOf (λ block. Sound (loadOf block)) ByTables (heldBy loadOf atOnce)
+  entries-laws = follows-laws (onBlocks entries) tables loadOf length (λ e. e) Sound ByTables atOnce entries-follow tables-laws

@@ -34,7 +34,7 @@ use Rattle.sending.specs.Calls.{goodCode, bundleWith}
 use Rattle.sending.specs.Sending.{sendRow, isFull, numberFor, askedBy, sentBy}
 use Rattle.sending.specs.Calls.{OPEN, READY, DATA, NOOP, CLOSE}
 use Rattle.endpoint.specs.declared.Endpoint.{Endpoint}
-use Rattle.session.specs.World.{Datum, Ending, World, Event, start, afterSend, afterReceive, step, run, Client, Server, Going, HeardClose, WroteClose, sends, receives}
+use Rattle.session.specs.World.{Datum, Ending, World, Event, start, afterReceive, step, run, tables, Client, Server, Going, HeardClose, WroteClose, sends, receives}
 
 -- what is looked at afterwards: data sent and accepted, batches agreed, how each end ended, and how many bundles are on their way
 record Noted : Type 0 where
@@ -64,7 +64,7 @@ noted w =
 
 -- the client produces: of an offer of five it takes two, asks for a confirmation of the second, and is refused a third; one receive has no room
 -- for a reply; the server closes, and the client's NOOP comes after that
-client-produces : List Event
+client-produces : List (Event ℕ)
 client-produces =
     sends Client (OPEN (97 ∷ []) []) 4200
     ∷ receives Server (97 ∷ []) [] 14
@@ -86,7 +86,7 @@ client-produces =
     ∷ []
 
 -- the server produces: one batch of one, the confirmation of whose DATA is still on its way
-server-produces : List Event
+server-produces : List (Event ℕ)
 server-produces =
     sends Client (OPEN (97 ∷ []) []) 4200
     ∷ receives Server (97 ∷ []) [] 14
@@ -101,7 +101,7 @@ server-produces =
     ∷ []
 
 -- both produce: the OPEN is refused
-both-produce : List Event
+both-produce : List (Event ℕ)
 both-produce = sends Client (OPEN (97 ∷ []) []) 4200 ∷ receives Server (97 ∷ []) [] 14 ∷ receives Client [] [] 14 ∷ []
 
 abbrev pages : List Datum
@@ -111,7 +111,7 @@ abbrev report : List Datum
 report = record { type-data = 7; body = [] } ∷ []
 
 sessions :
-    noted (run (start 1 1000000 2) client-produces) ∷ noted (run (start 2 50000000 1) server-produces) ∷ noted (run (start 1 50000000 1) both-produce) ∷ []
+    noted (run tables (start 1 1000000 2) client-produces) ∷ noted (run tables (start 2 50000000 1) server-produces) ∷ noted (run tables (start 1 50000000 1) both-produce) ∷ []
     ≡ record {
       from-client = pages;
       from-server = [];
@@ -146,5 +146,5 @@ sessions :
       to-client = 0;
     }
     ∷ []
-unfolding flatMap flatten inUnsigned ofBits ofInt toBits toUnsigned whole fromBytesBehind fromBytes toBytes numberAt same putAt countOf lengthOf lengthsBefore startOf good sizeOf contentsOf frameOf bundleOf signedOf versionOf knownTypeOf bytesOf table dueBehind rest wellFormed payloadAt fieldAt fieldsWithin fieldsOf saidAt varintAt shortestWithin shortestOf tagOf varintField eightField bytesField bitsAt Double·bytesOf limitOf keyOf valuePlace findIn walk firstOf placeIn valueWire valueText valueAllowed valueRule valueField valueCheck bytesRule keyRule seenOf entryField entryDone entryCheck itemField itemsCheck inside structCheck limitIn heldBy valueAt oversized frameWire isThere frameText frameRule frameField placeIf socketIf keep kept frameCheck partsOf openingOf readable outOfRange inRange knownSocket offeredPipe offeredFormat openOf offered goodName goodFormat isGood formatField parametersField frameFor strangeFlags bodyOf readAs readingOf entryBytes entryAt inRanges countFits waitFits awaitable isNone entryFits entriesFit Record·good freshOf closed atPhase asked confirmed limited begun openRow readyRow dataRow noopRow closeRow atRow movesAs hearRow tooLarge openAt carriedBy matchesOldest unmatched confirmedBy replyTo accepted hearContent hearMessage hearOf replied receivedOf versionCode closeCode silent refused unchanged goodCode bundleWith sendRow isFull numberFor askedBy sentBy afterSend afterReceive step run client-produces server-produces both-produce
+unfolding flatMap flatten inUnsigned ofBits ofInt toBits toUnsigned whole fromBytesBehind fromBytes toBytes numberAt same putAt countOf lengthOf lengthsBefore startOf good sizeOf contentsOf frameOf bundleOf signedOf versionOf knownTypeOf bytesOf table dueBehind rest wellFormed payloadAt fieldAt fieldsWithin fieldsOf saidAt varintAt shortestWithin shortestOf tagOf varintField eightField bytesField bitsAt Double·bytesOf limitOf keyOf valuePlace findIn walk firstOf placeIn valueWire valueText valueAllowed valueRule valueField valueCheck bytesRule keyRule seenOf entryField entryDone entryCheck itemField itemsCheck inside structCheck limitIn heldBy valueAt oversized frameWire isThere frameText frameRule frameField placeIf socketIf keep kept frameCheck partsOf openingOf readable outOfRange inRange knownSocket offeredPipe offeredFormat openOf offered goodName goodFormat isGood formatField parametersField frameFor strangeFlags bodyOf readAs readingOf entryBytes entryAt inRanges countFits waitFits awaitable isNone entryFits entriesFit Record·good freshOf closed atPhase asked confirmed limited begun openRow readyRow dataRow noopRow closeRow atRow movesAs hearRow tooLarge openAt carriedBy matchesOldest unmatched confirmedBy replyTo accepted hearContent hearMessage hearOf replied receivedOf versionCode closeCode silent refused unchanged goodCode bundleWith sendRow isFull numberFor askedBy sentBy afterReceive step run client-produces server-produces both-produce
 sessions = refl

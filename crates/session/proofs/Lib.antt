@@ -9,6 +9,7 @@ pub mod Turns
 pub mod Packets
 pub mod Taking
 pub mod Unoffered
+pub mod Tables
 pub mod Streams
 pub mod Counts
 pub mod Ends
@@ -17,7 +18,8 @@ pub mod Hearing
 pub mod Step
 pub mod Speaking
 pub mod Demand
+pub mod Follows
 pub mod Told
+pub mod Example
 pub mod Entries
 pub mod Blocks
-pub mod Example

@@ -5,7 +5,6 @@ use mathlib.Core.List.{[], _∷_}
 use mathlib.Core.Bool.{Bool, true, false, cond}
 use native.Mathlib.Omega.{arith}
 use lib.Dec.{eqb, lit<}
-use lib.ListN.{length}
 use borrow.Author.Tests.{eqb-true, le-ltb, ne-eqb}
 use Rattle.utf8.specs.Text.{table, dueBehind, rest, wellFormed}
 use Rattle.open_write.specs.Frame.{goodName, goodFormat, isGood}
@@ -13,37 +12,27 @@ use Rattle.endpoint.specs.declared.Endpoint.{Endpoint}
 use Rattle.endpoint.specs.Record.{producer, fresh, opening, idle, offer, batch, shut}
 use Rattle.table.specs.declared.Row.the-variants.{To}
 use Rattle.table.specs.Table.{rowOf}
-use Rattle.sending.specs.Calls.{Call, OPEN, READY, DATA, messageOf, typeDataOf, askOf, aboveLimit, misgiven, miscoded, outgoing, written}
-use Rattle.sending.specs.Sending.{sendOf, sendRow, isFull}
-use Rattle.sending.proofs.Decided.{passed-accepted}
-use Rattle.machine.specs.Good.{Sound}
+use Rattle.sending.specs.Calls.{Call, OPEN, READY, DATA, messageOf, typeDataOf, askOf, aboveLimit, misgiven, miscoded}
+use Rattle.machine.specs.Good.{Fits, Sound}
 use Rattle.machine.proofs.Rows.{n-small}
-use Rattle.session.specs.World.{End, across, Client, Server}
+use Rattle.session.specs.World.{End, across, Program, Client, Server}
 use Rattle.session.specs.Turns.{roleOf, producing}
-use Rattle.session.specs.Demand.{MaySend}
+use Rattle.session.specs.Confirmations.{Confirming}
+use Rattle.session.specs.Demand.{MaySend, movesOn}
+use Rattle.session.specs.Laws.{Laws, MayCall}
 use Rattle.session.proofs.Turns.{across-differs}
 use Rattle.session.proofs.Taking.{limit-least}
 use Rattle.session.proofs.Table.{Begun, nothing, something, opens, offers, takes, gives, moved-row}
 
--- a call that does not ask, is within the limit, and is given well, is accepted where its row leads on and the output has room
-module _ (e : Endpoint) (sound : Sound e) (alive : eqb (e .phase) shut ≡ false) (call : Call) (phase n : ℕ)
-    (leads : rowOf (e .role) (e .flow) (e .phase) (e .n) (messageOf call) (typeDataOf call) ≡ To phase n) (askless : askOf call ≡ false)
-    (small : aboveLimit e call ≡ false) (given : misgiven call ≡ false) (coded : miscoded e call ≡ false) where
-  accepted : (room : ℕ) → length (written e call) ≤ room → sendOf e call room .number ≡ 0
-  unfolding sendRow isFull
-  accepted room enough =
-      passed-accepted e (outgoing e call) room
-      (record {
-        is-good = sound .is-good;
-        alive = alive;
-        allowed = simp leads;
-        below = simp leads;
-        awaits = simp askless;
-        within = small;
-        given = given;
-        coded = coded;
-        fits = enough;
-      })
+-- a call that moves on and that no test refuses
+pub record Speaks (e : Endpoint) (call : Call) : Type 0 where
+  pub fits : Fits call
+  pub moves-on : movesOn call ≡ true
+  pub may : MayCall e call
+
+-- is sent by a program that has the laws
+pub speaks-sent : {A O : Type 0} {prog : Program A O} {view : A → Endpoint} {Fine : A → Type 0} {Made : Endpoint → Call → Type 0} {confirming : Confirming A} → Laws prog view Fine Made confirming → (self : A) (call : Call) → Fine self → Speaks (view self) call → MaySend prog view self call
+speaks-sent laws self call fine speaks = record { fits = speaks .fits; moves-on = speaks .moves-on; sent = laws .sends self call fine (speaks .may) (speaks .fits) }
 
 -- where any count begins
 begun-any : (phase count : ℕ) → (next : ℕ) × (m : ℕ) × Begun phase count next m
@@ -63,47 +52,52 @@ unfolding isGood goodName goodFormat wellFormed rest dueBehind table
 named-well = refl
 
 module _ (end : End) (e : Endpoint) (sound : Sound e) (role : e .role ≡ roleOf end) where
-  pub opens-first : end ≡ Client → e .phase ≡ fresh → MaySend e (OPEN (97 ∷ []) [])
+  may-call : eqb (e .phase) shut ≡ false → (call : Call) (phase n : ℕ) → rowOf (e .role) (e .flow) (e .phase) (e .n) (messageOf call) (typeDataOf call) ≡ To phase n
+      → askOf call ≡ false → aboveLimit e call ≡ false → misgiven call ≡ false → miscoded e call ≡ false → MayCall e call
+  may-call alive call phase n leads askless small given coded =
+      record { sound = sound; alive = alive; phase = phase; n = n; leads = leads; askless = askless; small = small; given = given; coded = coded }
+
+  pub opens-first : end ≡ Client → e .phase ≡ fresh → Speaks e (OPEN (97 ∷ []) [])
   opens-first mine begins =
       record {
         fits = lit< tt;
         moves-on = refl;
-        sent =
-            accepted e sound (rw begins refl) (OPEN (97 ∷ []) []) opening 0
+        may =
+            may-call (rw begins refl) (OPEN (97 ∷ []) []) opening 0
             (moved-row {role = e .role} {flow = e .flow} {phase = e .phase} {n = e .n} {type-data = 0} (opens (role ∙ rw mine refl) begins)) refl refl (simp named-well) refl;
       }
 
-  pub offers-one : end ≡ Server → opening ≤ e .phase → e .phase ≤ idle → MaySend e (READY 1)
+  pub offers-one : end ≡ Server → opening ≤ e .phase → e .phase ≤ idle → Speaks e (READY 1)
   offers-one mine low high =
       record {
         fits = lit< tt;
         moves-on = refl;
-        sent =
-            accepted e sound (ne-eqb (e .phase) shut (λ same. omega arith)) (READY 1) offer 1
+        may =
+            may-call (ne-eqb (e .phase) shut (λ same. omega arith)) (READY 1) offer 1
             (moved-row {role = e .role} {flow = e .flow} {phase = e .phase} {n = e .n} {type-data = 1} (offers (λ same. not-client mine (sym role ∙ same)) low high (something (omega arith)))) refl refl refl refl;
       }
     where
       not-client : end ≡ Server → roleOf end ≡ 1 → ⊥
       not-client theirs same = omega (arith, rw theirs at same)
 
-  pub takes-all : end ≡ Client → e .phase ≡ offer → MaySend e (READY (e .n))
+  pub takes-all : end ≡ Client → e .phase ≡ offer → Speaks e (READY (e .n))
   takes-all mine offered =
       let begins = begun-any batch (e .n) in
       record {
         fits = n-small e sound;
         moves-on = refl;
-        sent =
-            accepted e sound (rw offered refl) (READY (e .n)) (begins .0) (begins .1)
+        may =
+            may-call (rw offered refl) (READY (e .n)) (begins .0) (begins .1)
             (moved-row {role = e .role} {flow = e .flow} {phase = e .phase} {n = e .n} {type-data = e .n} (takes (role ∙ rw mine refl) offered (omega arith) (begins .2))) refl refl refl refl;
       }
 
-  pub gives-data : producing end (e .flow) ≡ end → e .phase ≡ batch → MaySend e (DATA 0 false [])
+  pub gives-data : producing end (e .flow) ≡ end → e .phase ≡ batch → Speaks e (DATA 0 false [])
   gives-data mine batching =
       let begins = begun-any batch (e .n - 1) in
       record {
         fits = lit< tt;
         moves-on = refl;
-        sent =
-            accepted e sound (rw batching refl) (DATA 0 false []) (begins .0) (begins .1)
+        may =
+            may-call (rw batching refl) (DATA 0 false []) (begins .0) (begins .1)
             (moved-row {role = e .role} {flow = e .flow} {phase = e .phase} {n = e .n} {type-data = 0} (gives (is-producer end (e .flow) mine) batching (begins .2))) refl (le-ltb (e .limit) 8 (omega (arith, limit-least e sound))) refl refl;
       }

@@ -1,9 +1,13 @@
 -- What is asked for, confirmed and carried on the way between two ends: how sending, hearing and closing change it. Assumes nothing.
 use mathlib.Core.Path.{_≡_, refl, sym, _∙_, ap}
 use mathlib.Core.List.{List, [], _∷_, _++_, append-assoc, append-nil, flatMap}
+use Prim.Native.Nat.{ℕ, _+_, _≤_}
+use native.Mathlib.Omega.{arith}
+use lib.ListN.{length, length-append}
 use Rattle.endpoint.specs.declared.Entry.{Entry}
+use Rattle.endpoint.specs.Record.{capacity}
 use Rattle.session.specs.Packets.{Packet}
-use Rattle.session.specs.Turns.{Stage, Standing, IsOpen, At, ClosedByItself}
+use Rattle.session.specs.Turns.{Stage, Standing, IsOpen, At, ClosedByItself, ClosedByOther}
 use Rattle.session.specs.Confirmations.{askedIn, confirmedIn, Awaits}
 use Rattle.session.specs.Invariant.{Delivers}
 
@@ -21,66 +25,115 @@ module _ {A : Type 0} (taken : Packet → List A) where
   flat-none : (p r : List Packet) → flatMap taken r ≡ [] → flatMap taken (p ++ r) ≡ flatMap taken p
   flat-none p r none = flat-append p r ∙ ap (λ (l : List A). flatMap taken p ++ l) none ∙ append-nil (flatMap taken p)
 
--- confirmations
+-- confirmations, on one line
 
-module _ {entries : List Entry} {p q : List Packet} {b : Standing} where
-  -- an end sends, and awaits what it asks for
-  pub sends-awaits : (s : Stage) (a : Standing) (m : Packet) (after : List Entry) → (IsOpen a → after ≡ entries ++ askedIn m)
-      → Awaits (At s) entries p b q → Awaits a after (p ++ (m ∷ [])) b q
-  sends-awaits s a m after asks c =
-      record {
-        rest = c .rest ++ askedIn m;
-        held = λ is-open. asks is-open ∙ ap (λ (l : List Entry). l ++ askedIn m) (c .held tt) ∙ append-assoc (flatMap confirmedIn q) (c .rest) (askedIn m);
-        due = λ is-open. ap (λ (l : List Entry). l ++ askedIn m) (c .due is-open) ∙ sym (flat-last askedIn p m);
-      }
+module _ (pick : List Entry → List Entry) where
+  abbrev asks : Packet → List Entry
+  asks m = pick (askedIn m)
 
-  -- an end hears a packet that confirms its oldest entries, and writes packets that ask for nothing
-  pub hears-awaits : (was a : Standing) (m : Packet) (r : List Packet) (after : List Entry) → flatMap askedIn r ≡ []
-      → (c : Awaits was entries p b (m ∷ q)) → (IsOpen a → after ≡ flatMap confirmedIn q ++ c .rest) → Awaits a after (p ++ r) b q
-  hears-awaits was a m r after none c keeps =
-      record { rest = c .rest; held = keeps; due = λ is-open. c .due is-open ∙ sym (flat-none askedIn p r none) }
+  abbrev confirms : Packet → List Entry
+  confirms m = pick (confirmedIn m)
 
-  -- an end that has closed awaits nothing
-  pub gone-awaits : (a : Standing) (m : Packet) (r : List Packet) (after : List Entry) → flatMap askedIn r ≡ []
-      → Awaits a entries p b (m ∷ q) → Awaits ClosedByItself after (p ++ r) b q
-  gone-awaits a m r after none c =
-      record { rest = c .rest; held = λ is-open. absurd is-open; due = λ is-open. c .due is-open ∙ sym (flat-none askedIn p r none) }
+  module _ {entries owes : List Entry} {p q : List Packet} {b : Standing} where
+    -- an end sends, and awaits what it asks for
+    pub sends-awaits : (s : Stage) (a : Standing) (m : Packet) (after : List Entry) → (IsOpen a → after ≡ entries ++ asks m) → length after ≤ capacity → ((IsOpen a → ⊥) → asks m ≡ [])
+        → Awaits pick (At s) entries p b owes q → Awaits pick a after (p ++ (m ∷ [])) b owes q
+    sends-awaits s a m after asked bounded silent c =
+        record {
+          rest = c .rest ++ asks m;
+          held = held-so;
+          due = λ is-open. ap (λ (l : List Entry). l ++ asks m) (c .due is-open) ∙ append-assoc owes (flatMap asks p) (asks m) ∙ ap (λ (l : List Entry). owes ++ l) (sym (flat-last asks p m));
+          few = λ is-open. few-so a is-open held-so silent;
+        }
+      where
+        held-so : IsOpen a → after ≡ flatMap confirms q ++ (c .rest ++ asks m)
+        held-so is-open = asked is-open ∙ ap (λ (l : List Entry). l ++ asks m) (c .held tt) ∙ append-assoc (flatMap confirms q) (c .rest) (asks m)
 
-  -- the other end writes packets that confirm nothing
-  pub across-awaits : (a c : Standing) (r : List Packet) → (IsOpen c → IsOpen b) → flatMap confirmedIn r ≡ [] → Awaits a entries p b q → Awaits a entries p c (q ++ r)
-  across-awaits a c r stays none d =
-      record {
-        rest = d .rest;
-        held = λ is-open. d .held is-open ∙ ap (λ (l : List Entry). l ++ d .rest) (sym (flat-none confirmedIn q r none));
-        due = λ is-open. d .due (stays is-open);
-      }
+        quiet : IsOpen b → asks m ≡ [] → length owes + length (flatMap asks (p ++ (m ∷ []))) ≤ capacity
+        quiet is-open none = rw (flat-last asks p m, none, append-nil) (c .few is-open)
 
-module _ {entries : List Entry} {p q : List Packet} where
-  -- the other end hears a packet, and writes packets that confirm what it asks for
-  pub across-hears-awaits : (a b : Standing) (s : Stage) (m : Packet) (r : List Packet) → flatMap confirmedIn r ≡ askedIn m
-      → Awaits a entries (m ∷ p) (At s) q → Awaits a entries p b (q ++ r)
-  unfolding flatMap
-  across-hears-awaits a b s m r confirms c =
-      record {
-        rest = flatMap askedIn p;
-        held =
-            λ is-open. c .held is-open
-            ∙ ap (λ (l : List Entry). flatMap confirmedIn q ++ l) (c .due tt)
-            ∙ sym (append-assoc (flatMap confirmedIn q) (askedIn m) (flatMap askedIn p))
-            ∙ ap (λ (l : List Entry). l ++ flatMap askedIn p)
-            (ap (λ (l : List Entry). flatMap confirmedIn q ++ l) (sym confirms) ∙ sym (flat-append confirmedIn q r));
-        due = λ is-open. refl;
-      }
+        few-so : (stands : Standing) → IsOpen b → (IsOpen stands → after ≡ flatMap confirms q ++ (c .rest ++ asks m)) → ((IsOpen stands → ⊥) → asks m ≡ []) → length owes + length (flatMap asks (p ++ (m ∷ []))) ≤ capacity
+        few-so (At t) is-open holds none =
+            let whole = ap length (holds tt) ∙ length-append (flatMap confirms q) (c .rest ++ asks m) in
+            let more = length-append (c .rest) (asks m) in
+            let due = ap length (c .due is-open) ∙ length-append owes (flatMap asks p) in
+            let last = ap length (flat-last asks p m) ∙ length-append (flatMap asks p) (asks m) in
+            omega (arith, bounded, whole, more, due, last)
+        few-so ClosedByOther is-open holds none = quiet is-open (none (λ closed. closed))
+        few-so ClosedByItself is-open holds none = quiet is-open (none (λ closed. closed))
 
-  -- the other end closes, and writes packets that confirm nothing
-  pub across-gone-awaits : (a b : Standing) (m : Packet) (r : List Packet) → flatMap confirmedIn r ≡ []
-      → Awaits a entries (m ∷ p) b q → Awaits a entries p ClosedByItself (q ++ r)
-  across-gone-awaits a b m r none c =
-      record {
-        rest = c .rest;
-        held = λ is-open. c .held is-open ∙ ap (λ (l : List Entry). l ++ c .rest) (sym (flat-none confirmedIn q r none));
-        due = λ is-open. absurd is-open;
-      }
+    -- an end hears a packet that confirms its oldest entries, and writes packets that ask for nothing
+    pub hears-awaits : (was a : Standing) (m : Packet) (r : List Packet) (after : List Entry) → flatMap asks r ≡ []
+        → (c : Awaits pick was entries p b owes (m ∷ q)) → (IsOpen a → after ≡ flatMap confirms q ++ c .rest) → Awaits pick a after (p ++ r) b owes q
+    hears-awaits was a m r after none c keeps =
+        record {
+          rest = c .rest;
+          held = keeps;
+          due = λ is-open. c .due is-open ∙ ap (λ (l : List Entry). owes ++ l) (sym (flat-none asks p r none));
+          few = λ is-open. rw (flat-none asks p r none) (c .few is-open);
+        }
+
+    -- an end that has closed awaits nothing
+    pub gone-awaits : (a : Standing) (m : Packet) (r : List Packet) (after : List Entry) → flatMap asks r ≡ []
+        → Awaits pick a entries p b owes (m ∷ q) → Awaits pick ClosedByItself after (p ++ r) b owes q
+    gone-awaits a m r after none c =
+        record {
+          rest = c .rest;
+          held = λ is-open. absurd is-open;
+          due = λ is-open. c .due is-open ∙ ap (λ (l : List Entry). owes ++ l) (sym (flat-none asks p r none));
+          few = λ is-open. rw (flat-none asks p r none) (c .few is-open);
+        }
+
+    -- the other end closes, and writes packets that confirm nothing
+    pub across-gone-awaits : (a : Standing) (m : Packet) (r : List Packet) (after : List Entry) → flatMap confirms r ≡ []
+        → Awaits pick a entries (m ∷ p) b owes q → Awaits pick a entries p ClosedByItself after (q ++ r)
+    across-gone-awaits a m r after none c =
+        record {
+          rest = c .rest;
+          held = λ is-open. c .held is-open ∙ ap (λ (l : List Entry). l ++ c .rest) (sym (flat-none confirms q r none));
+          due = λ is-open. absurd is-open;
+          few = λ is-open. absurd is-open;
+        }
+
+  module _ {entries owes : List Entry} {before p q : List Packet} where
+    -- the other end has heard packets that ask for more, and wrote packets that confirm the oldest that it owed then, which leaves it these
+    across-awaits : (a b : Standing) (s : Stage) (r : List Packet) (more left after : List Entry) → flatMap asks before ≡ more ++ flatMap asks p
+        → flatMap confirms r ++ left ≡ owes ++ more → (IsOpen b → after ≡ left) → Awaits pick a entries before (At s) owes q → Awaits pick a entries p b after (q ++ r)
+    across-awaits a b s r more left after asked balance keeps c =
+        record {
+          rest = left ++ flatMap asks p;
+          held =
+              λ is-open. c .held is-open
+              ∙ ap (λ (l : List Entry). flatMap confirms q ++ l)
+              (c .due tt
+              ∙ ap (λ (l : List Entry). owes ++ l) asked
+              ∙ sym (append-assoc owes more (flatMap asks p))
+              ∙ ap (λ (l : List Entry). l ++ flatMap asks p) (sym balance)
+              ∙ append-assoc (flatMap confirms r) left (flatMap asks p))
+              ∙ sym (append-assoc (flatMap confirms q) (flatMap confirms r) (left ++ flatMap asks p))
+              ∙ ap (λ (l : List Entry). l ++ (left ++ flatMap asks p)) (sym (flat-append confirms q r));
+          due = λ is-open. ap (λ (l : List Entry). l ++ flatMap asks p) (sym (keeps is-open));
+          few = λ is-open.
+              let now = ap length (keeps is-open) in
+              let before-this = ap length asked ∙ length-append more (flatMap asks p) in
+              let both = sym (length-append (flatMap confirms r) left) ∙ ap length balance ∙ length-append owes more in
+              omega (arith, c .few tt, now, before-this, both);
+        }
+
+  module _ {entries owes : List Entry} {p q : List Packet} where
+    -- the other end writes a packet that confirms the oldest that it owes
+    pub across-sends-awaits : (a b : Standing) (s : Stage) (m : Packet) (left after : List Entry) → owes ≡ confirms m ++ left → (IsOpen b → after ≡ left)
+        → Awaits pick a entries p (At s) owes q → Awaits pick a entries p b after (q ++ (m ∷ []))
+    unfolding flatMap
+    across-sends-awaits a b s m left after files keeps c =
+        across-awaits a b s (m ∷ []) [] left after refl
+        (ap (λ (l : List Entry). l ++ left) (append-nil (confirms m)) ∙ sym files ∙ sym (append-nil owes)) keeps c
+
+    -- the other end hears a packet, and confirms or owes what it asks for
+    pub across-hears-awaits : (a b : Standing) (s : Stage) (m : Packet) (r : List Packet) (left after : List Entry) → flatMap confirms r ++ left ≡ owes ++ asks m → (IsOpen b → after ≡ left)
+        → Awaits pick a entries (m ∷ p) (At s) owes q → Awaits pick a entries p b after (q ++ r)
+    unfolding flatMap
+    across-hears-awaits a b s m r left after balance keeps c = across-awaits a b s r (asks m) left after refl balance keeps c
 
 -- data and READYs
 

@@ -1,7 +1,7 @@
 -- A packet that an end may take is taken. Assumes nothing.
 use mathlib.Core.Path.{_≡_, _∙_, ap, refl, subst, sym}
 use Prim.Native.Nat.{ℕ, _+_, _<_, _≤_, suc, zero}
-use mathlib.Core.List.{List, [], _∷_, map}
+use mathlib.Core.List.{List, [], _∷_, _++_, append-nil, flatMap, map}
 use mathlib.Core.Bool.{Bool, true, false, cond}
 use native.Mathlib.Omega.{arith}
 use lib.ListN.{drop, length}
@@ -28,16 +28,18 @@ use Rattle.receiving.specs.declared.Content.the-variants.{Nothing}
 use Rattle.receiving.specs.declared.Received.{Received}
 use Rattle.receiving.specs.declared.Reply.the-variants.{Nothing as Reply·Nothing, Frame}
 use Rattle.receiving.specs.Hearing.{confirmable, confirms, hearOf, hearRow, matchesOldest, movesAs, tooLarge, unmatched}
+use Rattle.receiving.specs.Receiving.{answerNumber}
 use Rattle.sending.specs.Calls.{Call, OPEN, READY, DATA, NOOP, CLOSE, aboveLimit, askOf, dataFrames, flagsFor, messageOf, misgiven, outgoing, typeDataOf, written}
 use Rattle.sending.proofs.Decided.{accepted-passed}
 use Rattle.machine.specs.Good.{Sound}
 use Rattle.machine.specs.Round.{ContentSent, afterHearing, confirmation, isReply, messageSent, messageWith}
 use Rattle.machine.proofs.Replies.{replies-heard}
 use Rattle.machine.proofs.Round.{heard-as-sent, own-flags}
-use Rattle.session.specs.World.{End, Ending, dataSent, dataAt, readyCount, endedBy, endingReplied, replies, HeardClose}
+use Rattle.session.specs.World.{End, Ending, dataHeard, dataSent, dataAt, readyCount, readyHeard, endedBy, endingReplied, outcomeOf, replies, HeardClose}
 use Rattle.session.specs.Packets.{Packet, bytesIn, Called, Confirms, Closes}
-use Rattle.session.specs.Confirmations.{entryFor}
-use Rattle.session.proofs.Packets.{Comes, MayTake, Taken, answersIn, limitAfter, row-awaited, row-comes}
+use Rattle.session.specs.Confirmations.{askedIn, confirmedIn, entryFor}
+use Rattle.session.specs.Laws.{answersIn, atOnce, ByTables, Comes, limitAfter, MayTake, Taken}
+use Rattle.session.proofs.Packets.{row-awaited, row-comes}
 
 -- ---- a call
 
@@ -84,7 +86,7 @@ confirming-ends (NOOP type-data true) ending = refl
 confirming-ends (NOOP type-data false) ending = refl
 confirming-ends (CLOSE code) ending = refl
 
-confirming-replies : (e : Endpoint) (call : Call) (room : ℕ) → replies (confirmation call) ≡ map bytesIn (answersIn (Called e call room))
+confirming-replies : (e : Endpoint) (call : Call) (room : ℕ) → replies (confirmation call) ≡ map bytesIn (answersIn (λ message. true) (Called e call))
 confirming-replies e call room = go (askOf call)
   where
     go : (t : Bool) → replies (cond t (Frame (messageOf call) ackReply (typeDataOf call)) Reply·Nothing) ≡ map bytesIn (cond t (Confirms (messageOf call) (typeDataOf call) ∷ []) [])
@@ -93,7 +95,7 @@ confirming-replies e call room = go (askOf call)
 
 -- an OPEN brings its limit
 module _ (e r : Endpoint) (in-limits : inLimits (e .limit) ≡ true) (after : Endpoint) (phase n : ℕ) (comes : Comes r phase n (r .limit) after) (room : ℕ) where
-  hearing-comes : (call : Call) → Comes r phase n (limitAfter (Called e call room) (r .limit)) (afterHearing e call after)
+  hearing-comes : (call : Call) → Comes r phase n (limitAfter (Called e call) (r .limit)) (afterHearing e call after)
   unfolding limited
   hearing-comes (OPEN name format) =
       record {
@@ -185,14 +187,30 @@ close-matched r code = refl
 
 -- ---- every packet
 
+-- the confirmation of a packet confirms what it asks for
+answers-confirm : (m : Packet) → flatMap confirmedIn (answersIn (λ message. true) m) ≡ askedIn m
+unfolding flatMap
+answers-confirm (Called e call) = go (askOf call)
+  where
+    go : (ask : Bool) → flatMap confirmedIn (cond ask (Confirms (messageOf call) (typeDataOf call) ∷ []) []) ≡ cond ask (entryFor (messageOf call) (typeDataOf call) ∷ []) []
+    go true = refl
+    go false = refl
+answers-confirm (Confirms message type-data) = refl
+answers-confirm (Closes code) = refl
+
+-- what comes of a packet by the tables
+abbrev pub TakenBy : Endpoint → Packet → List ℕ → List ℕ → ℕ → ℕ → (ℕ → List Entry) → Type 0
+TakenBy r m name format phase n rest = Taken (λ e. e) Sound ByTables atOnce r (atOnce .ledger r) m phase n rest (outcomeOf (bytesIn m) (hearOf r (bytesIn m) name format))
+
 module _ (flow limit serverFlow : ℕ) (end : End) (r : Endpoint) where
-  call-taken : (e : Endpoint) (call : Call) (room : ℕ) (name format : List ℕ) (phase n : ℕ) (rest : List Entry) →
-      MayTake flow limit serverFlow end r (Called e call room) name format phase n rest → Taken r (Called e call room) name format phase n rest
-  call-taken e call room name format phase n rest may =
+  call-taken : (e : Endpoint) (call : Call) (name format : List ℕ) (phase n : ℕ) (rest : ℕ → List Entry) →
+      MayTake flow limit serverFlow ByTables (atOnce .pick) end r (atOnce .ledger r) (Called e call) name format phase n rest → TakenBy r (Called e call) name format phase n rest
+  call-taken e call name format phase n rest may =
       let made = may .proper in
-      let passed = accepted-passed e (outgoing e call) room (made .accepted) in
+      let room = made .accepted .room in
+      let passed = accepted-passed e (outgoing e call) room (made .accepted .accepted) in
       let back =
-      heard-as-sent e call (made .fits) room (made .accepted) r name format phase n
+      heard-as-sent e call (made .fits) room (made .accepted .accepted) r name format phase n
       (record {
         leads = call-leads e call r phase n (may .leads);
         small = call-small r (may .sound) e call (passed .within) (passed .given) (λ bears. may .limited bears ∙ sym (made .limited));
@@ -201,18 +219,21 @@ module _ (flow limit serverFlow : ℕ) (end : End) (r : Endpoint) where
       let comes = row-comes r (may .sound) (other (r .role)) (other (r .flow)) (messageOf call) (typeDataOf call) phase n (made .fits) (may .leads) in
       let in-limits = good-told e (passed .is-good) .bounded in
       record {
-        message = record { message = messageOf call; flags = flagsFor (askOf call); «type_data» = typeDataOf call; frames = length (dataFrames e call); content = back .content };
-        answered = back .answered;
-        carried = call-data e call (back .content) (back .carried);
-        readied = refl;
-        ends = λ ending. simp (back .replied) (confirming-ends call ending);
+        answered = ap answerNumber (back .answered);
+        carried = ap (dataHeard (bytesIn (Called e call))) (back .answered) ∙ call-data e call (back .content) (back .carried);
+        readied = ap readyHeard (back .answered);
+        ends = λ ending. simp (back .answered, back .replied) (confirming-ends call ending);
         replied = ap replies (back .replied) ∙ confirming-replies e call room;
+        fine = subst Sound (sym (back .after)) (hearing-comes e r in-limits (atRow r phase n) phase n comes room call .sound);
         comes = subst (Comes r phase n _) (sym (back .after)) (hearing-comes e r in-limits (atRow r phase n) phase n comes room call);
-        awaits = λ goes. ap awaited (back .after) ∙ hearing-awaited e r in-limits (atRow r phase n) phase n comes room call ∙ row-awaited r phase n goes ∙ may .awaits;
+        left = λ line. [];
+        balance = λ line. append-nil (flatMap confirmedIn (answersIn (λ message. true) (Called e call))) ∙ answers-confirm (Called e call);
+        owes = λ line goes. refl;
+        awaits = λ line goes. ap awaited (back .after) ∙ hearing-awaited e r in-limits (atRow r phase n) phase n comes room call ∙ row-awaited r phase n goes ∙ may .awaits line;
       }
 
-  confirmation-taken : (message : MessageType) (type-data : ℕ) (name format : List ℕ) (phase n : ℕ) (rest : List Entry) →
-      MayTake flow limit serverFlow end r (Confirms message type-data) name format phase n rest → Taken r (Confirms message type-data) name format phase n rest
+  confirmation-taken : (message : MessageType) (type-data : ℕ) (name format : List ℕ) (phase n : ℕ) (rest : ℕ → List Entry) →
+      MayTake flow limit serverFlow ByTables (atOnce .pick) end r (atOnce .ledger r) (Confirms message type-data) name format phase n rest → TakenBy r (Confirms message type-data) name format phase n rest
   confirmation-taken message type-data name format phase n rest may =
       let proper = may .proper in
       let quiet = confirmation-quiets message (proper .0) in
@@ -222,25 +243,28 @@ module _ (flow limit serverFlow : ℕ) (end : End) (r : Endpoint) where
       (record {
         leads = confirmation-leads r message type-data (quiet .confirming) phase n (may .leads);
         small = reply-small r (may .sound) message ackReply type-data (quiet .reply);
-        matched = confirmation-matched r message type-data (quiet .confirming) rest (may .awaits);
+        matched = confirmation-matched r message type-data (quiet .confirming) (rest 0) (may .awaits 0);
       }) in
       let next : hearOf r (bytesIn (Confirms message type-data)) name format .next ≡ confirmed after =
       ap (λ (x : Received). x .next) heard ∙ ap (λ (t : Bool). cond t (confirmed after) after) (quiet .confirming) in
       let comes = row-comes r (may .sound) (other (r .role)) (other (r .flow)) Noop type-data phase n (proper .1) (may .leads) in
       record {
-        message = record { message = message; flags = ackReply; «type_data» = type-data; frames = 0; content = Nothing };
-        answered = ap (λ (x : Received). x .answer) heard;
-        carried = refl;
-        readied = quiet .readied type-data;
+        answered = ap (λ (x : Received). answerNumber (x .answer)) heard;
+        carried = ap (λ (x : Received). dataHeard (bytesIn (Confirms message type-data)) (x .answer)) heard;
+        readied = ap (λ (x : Received). readyHeard (x .answer)) heard ∙ quiet .readied type-data;
         ends = λ ending. simp heard (quiet .ends ending);
         replied = ap (λ (x : Received). replies (x .reply)) heard;
+        fine = subst Sound (sym next) (confirmed-comes r after phase n (r .limit) comes .sound);
         comes = subst (Comes r phase n (r .limit)) (sym next) (confirmed-comes r after phase n (r .limit) comes);
-        awaits = λ goes.
-            ap awaited next ∙ confirmed-awaited after (comes .sound .sized .full) ∙ ap (drop 1) (row-awaited r phase n goes ∙ may .awaits);
+        left = λ line. [];
+        balance = λ line. append-nil (flatMap confirmedIn (answersIn (λ message. true) (Confirms message type-data))) ∙ answers-confirm (Confirms message type-data);
+        owes = λ line goes. refl;
+        awaits = λ line goes.
+            ap awaited next ∙ confirmed-awaited after (comes .sound .sized .full) ∙ ap (drop 1) (row-awaited r phase n goes ∙ may .awaits line);
       }
 
-  close-taken : (code : ℕ) (name format : List ℕ) (phase n : ℕ) (rest : List Entry) →
-      MayTake flow limit serverFlow end r (Closes code) name format phase n rest → Taken r (Closes code) name format phase n rest
+  close-taken : (code : ℕ) (name format : List ℕ) (phase n : ℕ) (rest : ℕ → List Entry) →
+      MayTake flow limit serverFlow ByTables (atOnce .pick) end r (atOnce .ledger r) (Closes code) name format phase n rest → TakenBy r (Closes code) name format phase n rest
   close-taken code name format phase n rest may =
       let after : Endpoint = atRow r phase n in
       let heard =
@@ -248,20 +272,25 @@ module _ (flow limit serverFlow : ℕ) (end : End) (r : Endpoint) where
       (record { leads = close-leads r code phase n (may .leads); small = reply-small r (may .sound) Close 0 code refl; matched = close-matched r code }) in
       let next : hearOf r (bytesIn (Closes code)) name format .next ≡ after = ap (λ (x : Received). x .next) heard in
       record {
-        message = record { message = Close; flags = 0; «type_data» = code; frames = 0; content = Nothing };
-        answered = ap (λ (x : Received). x .answer) heard;
-        carried = refl;
-        readied = refl;
+        answered = ap (λ (x : Received). answerNumber (x .answer)) heard;
+        carried = ap (λ (x : Received). dataHeard (bytesIn (Closes code)) (x .answer)) heard;
+        readied = ap (λ (x : Received). readyHeard (x .answer)) heard;
         ends = λ ending. simp heard;
         replied = ap (λ (x : Received). replies (x .reply)) heard;
+        fine =
+            subst Sound (sym next)
+            (row-comes r (may .sound) (other (r .role)) (other (r .flow)) Close code phase n (may .proper) (may .leads) .sound);
         comes =
             subst (Comes r phase n (r .limit)) (sym next)
             (row-comes r (may .sound) (other (r .role)) (other (r .flow)) Close code phase n (may .proper) (may .leads));
-        awaits = λ goes. ap awaited next ∙ row-awaited r phase n goes ∙ may .awaits;
+        left = λ line. [];
+        balance = λ line. append-nil (flatMap confirmedIn (answersIn (λ message. true) (Closes code))) ∙ answers-confirm (Closes code);
+        owes = λ line goes. refl;
+        awaits = λ line goes. ap awaited next ∙ row-awaited r phase n goes ∙ may .awaits line;
       }
 
   -- a packet that an end may take is taken
-  pub packet-taken : (m : Packet) (name format : List ℕ) (phase n : ℕ) (rest : List Entry) → MayTake flow limit serverFlow end r m name format phase n rest → Taken r m name format phase n rest
-  packet-taken (Called e call room) = call-taken e call room
+  pub packet-taken : (m : Packet) (name format : List ℕ) (phase n : ℕ) (rest : ℕ → List Entry) → MayTake flow limit serverFlow ByTables (atOnce .pick) end r (atOnce .ledger r) m name format phase n rest → TakenBy r m name format phase n rest
+  packet-taken (Called e call) = call-taken e call
   packet-taken (Confirms message type-data) = confirmation-taken message type-data
   packet-taken (Closes code) = close-taken code

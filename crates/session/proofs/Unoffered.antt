@@ -30,11 +30,11 @@ use Rattle.sending.proofs.Decided.{accepted-passed}
 use Rattle.machine.specs.Good.{Sound}
 use Rattle.machine.specs.Round.{isOffered}
 use Rattle.machine.proofs.Round.{reads-back}
-use Rattle.machine.proofs.Rows.{row-alive}
-use Rattle.session.specs.World.{End, Side}
+use Rattle.machine.proofs.Rows.{closed-sound, row-alive}
+use Rattle.session.specs.World.{End, outcomeOf, Side}
 use Rattle.session.specs.Demand.{MayAnswer, other-pipe, other-format}
 use Rattle.session.specs.Invariant.{AcceptedCall}
-use Rattle.session.proofs.Packets.{OpenRefused}
+use Rattle.session.specs.Laws.{ByTables, OpenRefused}
 use Rattle.session.proofs.Taking.{call-leads, call-small}
 
 -- ---- what it is answered
@@ -64,8 +64,8 @@ module _ (flow : ℕ) (name format : List ℕ) (opening : Opening) (serverFlow :
 
 -- ---- what a server does
 
-module _ (flow limit serverFlow : ℕ) (end : End) (x y : Side Endpoint) (e : Endpoint) (asked wanted : List ℕ) (sent-room : ℕ) (name format : List ℕ) (phase n : ℕ)
-    (sound : Sound (x .self)) (serves : x .self .role ≡ server) (made : AcceptedCall flow limit serverFlow end e (OPEN asked wanted) sent-room)
+module _ (flow limit serverFlow : ℕ) (end : End) (x y : Side Endpoint) (e : Endpoint) (asked wanted : List ℕ) (name format : List ℕ) (phase n : ℕ)
+    (sound : Sound (x .self)) (serves : x .self .role ≡ server) (made : AcceptedCall flow limit serverFlow ByTables end e (OPEN asked wanted))
     (same-flow : y .self .flow ≡ e .flow) (same-limit : y .self .limit ≡ e .limit)
     (leads : rowOf (other (x .self .role)) (other (x .self .flow)) (x .self .phase) (x .self .n) Open 0 ≡ To phase n) where
   abbrev r : Endpoint
@@ -80,8 +80,8 @@ module _ (flow limit serverFlow : ℕ) (end : End) (x y : Side Endpoint) (e : En
   unfolding hearOf hearMessage carriedBy openAt
   frame-refused refusal answers =
       let call = OPEN asked wanted in
-      let passed = accepted-passed e (outgoing e call) sent-room (made .accepted) in
-      let back = reads-back e call (made .fits) sent-room (made .accepted) in
+      let passed = accepted-passed e (outgoing e call) (made .accepted .room) (made .accepted .accepted) in
+      let back = reads-back e call (made .fits) (made .accepted .room) (made .accepted .accepted) in
       let given = not-false (isGood asked wanted) (passed .given) in
       let read = read-back (e .flow) asked wanted (e .limit) given (good-told e (passed .is-good) .bounded) s 18 (back .framed) in
       let heard = read .heard (r .flow) name format ∙ answers (read .opening) in
@@ -89,17 +89,21 @@ module _ (flow limit serverFlow : ℕ) (end : End) (x y : Side Endpoint) (e : En
       let alive = row-alive (other (r .role)) (other (r .flow)) (r .phase) (r .n) Open 0 phase n leads in
       simp (alive, back .read, small, call-leads e call r phase n leads, heard)
 
+  abbrev pub RefusedBy : Type 0
+  RefusedBy = OpenRefused (λ after. after) Sound x y s name format (outcomeOf s (hearOf r s name format))
+
   -- and then it closes, and says so
-  closes-by : (number code : ℕ) → hearOf r s name format ≡ refused r number 1 → silent r number 1 ≡ false → closeCode r number 1 ≡ code → code < 256 ^ 2 → MayAnswer x y s name format number → OpenRefused x y s name format
+  closes-by : (number code : ℕ) → hearOf r s name format ≡ refused r number 1 → silent r number 1 ≡ false → closeCode r number 1 ≡ code → code < 256 ^ 2 → MayAnswer x y s name format number → RefusedBy
   unfolding refused
   closes-by number code heard speaks coded small may =
       record {
-        number = number;
+        may = simp heard may;
+        carried = simp heard;
+        readied = simp heard;
         code = code;
-        answered = simp heard;
-        may = may;
         replied = simp (heard, speaks, coded);
         ends = λ ending. simp (heard, speaks);
+        fine = simp heard (closed-sound r sound);
         after = simp heard;
         small = small;
       }
@@ -108,11 +112,11 @@ module _ (flow limit serverFlow : ℕ) (end : End) (x y : Side Endpoint) (e : En
   as-written : s ≡ written (y .self) (OPEN asked wanted)
   as-written = rw (same-flow, same-limit) refl
 
-  pub open-refused : isOffered e (OPEN asked wanted) r name format ≡ false → OpenRefused x y s name format
+  pub open-refused : isOffered e (OPEN asked wanted) r name format ≡ false → RefusedBy
   unfolding silent closeCode
   open-refused differs = go (same asked name && eqb (socketOf (e .flow)) (offeredSocket (r .flow))) refl
     where
-      go : (t : Bool) → same asked name && eqb (socketOf (e .flow)) (offeredSocket (r .flow)) ≡ t → OpenRefused x y s name format
+      go : (t : Bool) → same asked name && eqb (socketOf (e .flow)) (offeredSocket (r .flow)) ≡ t → RefusedBy
       go true agrees =
           let format-differs : eqb (length wanted) 0 || same wanted format ≡ false = simp agrees at differs in
           closes-by 22 103 (frame-refused OtherFormat (λ opening. format-refused (e .flow) asked wanted opening (r .flow) name format agrees format-differs)) (simp serves) refl (lit< tt)

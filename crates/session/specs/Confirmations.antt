@@ -1,12 +1,14 @@
 -- "ACK-REPLY must equal the oldest entry": the confirmations that an end awaits, and those on their way. This is the part of the invariant that
 -- depends on when a message is confirmed.
-use Prim.Native.Nat.{ℕ}
+use Prim.Native.Nat.{ℕ, _+_, _≤_}
 use mathlib.Core.Path.{_≡_}
 use mathlib.Core.List.{List, [], _∷_, _++_, flatMap}
-use mathlib.Core.Bool.{cond}
+use mathlib.Core.Bool.{Bool, cond}
 use Rattle.control.specs.declared.MessageType.{MessageType}
 use Rattle.control.specs.Frame.{typeOf}
+use lib.ListN.{length}
 use Rattle.endpoint.specs.declared.Entry.{Entry}
+use Rattle.endpoint.specs.Record.{capacity}
 use Rattle.sending.specs.Calls.{messageOf, typeDataOf, askOf}
 use Rattle.session.specs.Packets.{Packet, Called, Confirms, Closes}
 use Rattle.session.specs.Turns.{Standing, IsOpen}
@@ -16,18 +18,35 @@ entryFor message type-data = record { message = typeOf message; «type_data» = 
 
 -- the confirmation that a packet asks for, and the one that it gives
 abbrev pub askedIn : Packet → List Entry
-askedIn (Called e call room) = cond (askOf call) (entryFor (messageOf call) (typeDataOf call) ∷ []) []
+askedIn (Called e call) = cond (askOf call) (entryFor (messageOf call) (typeDataOf call) ∷ []) []
 askedIn (Confirms message type-data) = []
 askedIn (Closes code) = []
 
 abbrev pub confirmedIn : Packet → List Entry
-confirmedIn (Called e call room) = []
+confirmedIn (Called e call) = []
 confirmedIn (Confirms message type-data) = entryFor message type-data ∷ []
 confirmedIn (Closes code) = []
 
--- an end at a that wrote p awaits these entries: first those that q confirms, which the one at b wrote, and then those that p asks for; once
--- the other has closed, the latter are lost
-pub record Awaits (a : Standing) (entries : List Entry) (p : List Packet) (b : Standing) (q : List Packet) : Type 0 where
+-- what an end awaits and what it owes, on each line of confirmations
+pub record Ledger : Type 0 where
+  pub waits : ℕ → List Entry
+  pub owes : ℕ → List Entry
+
+abbrev pub nothingDue : Ledger
+nothingDue = record { waits = λ line. []; owes = λ line. [] }
+
+-- how the states of a program confirm: which messages at once, and which are owed first; which entries stand on a line, "oldest" being of one
+-- line; and the ledger of a state
+pub record Confirming (A : Type 0) : Type 0 where
+  pub prompt : MessageType → Bool
+  pub pick : ℕ → List Entry → List Entry
+  pub ledger : A → Ledger
+
+-- on one line, an end at a that wrote p awaits these entries: first those that q confirms, which the one at b wrote, then those that it owes, and
+-- then those that p asks for; once the other has closed, the latter two are lost
+pub record Awaits (pick : List Entry → List Entry) (a : Standing) (entries : List Entry) (p : List Packet) (b : Standing) (owes : List Entry) (q : List Packet) : Type 0 where
   pub rest : List Entry
-  pub held : IsOpen a → entries ≡ flatMap confirmedIn q ++ rest
-  pub due : IsOpen b → rest ≡ flatMap askedIn p
+  pub held : IsOpen a → entries ≡ flatMap (λ (m : Packet). pick (confirmedIn m)) q ++ rest
+  pub due : IsOpen b → rest ≡ owes ++ flatMap (λ (m : Packet). pick (askedIn m)) p
+  -- and those still to be confirmed are never more than an end may await, whether or not it has closed since
+  pub few : IsOpen b → length owes + length (flatMap (λ (m : Packet). pick (askedIn m)) p) ≤ capacity

@@ -13,12 +13,10 @@ use Rattle.open.specs.Open.{offeredSocket}
 use Rattle.open_write.specs.Frame.{socketOf}
 use Rattle.endpoint.specs.declared.Endpoint.{Endpoint}
 use Rattle.endpoint.specs.declared.Given.the-variants.{Good}
-use Rattle.endpoint.specs.Record.{fresh, offer, batch, shut, givenOf}
-use Rattle.receiving.specs.Receiving.{answerNumber, receivedOf}
+use Rattle.endpoint.specs.Record.{fresh, offer, batch, shut, givenOf, freshClient, freshServer}
 use Rattle.sending.specs.Calls.{Call, OPEN, READY, DATA, NOOP, CLOSE, written}
-use Rattle.sending.specs.Sending.{sendOf}
 use Rattle.machine.specs.Good.{Fits}
-use Rattle.session.specs.World.{End, Client, across, Ending, Going, HeardClose, WroteClose, agreed, Side, World, side, start, Event, receives, AllFit, step, run}
+use Rattle.session.specs.World.{End, Client, across, Ending, Going, HeardClose, WroteClose, agreed, Side, World, side, made, Program, Event, receives, AllFit, step, run, viewedSide, tables}
 use Rattle.session.specs.Turns.{producing, turn}
 
 -- "neither refuses the other's message": what x answers to the bundle s that y wrote, offering this pipe name and format. It hears it, unless it
@@ -57,48 +55,54 @@ movesOn (CLOSE code) = false
 
 -- what may be sent at rest, where both ends are in the client's phase, by the end whose turn it is: in phase 0 an OPEN for the pipe `a`, in
 -- phase 3 a READY for the whole offer, in phase 4 a DATA with no ask and an empty body, in phases 1 and 2 an offer of one
-abbrev pub nextEnd : World Endpoint → End
-nextEnd w = turn (producing Client (w .client .self .flow)) (w .client .self .phase)
+abbrev pub nextEnd : Endpoint → End
+nextEnd e = turn (producing Client (e .flow)) (e .phase)
 
-abbrev pub nextCall : World Endpoint → Call
-nextCall w =
-    cond (eqb (w .client .self .phase) fresh) (OPEN (97 ∷ []) [])
-    (cond (eqb (w .client .self .phase) offer) (READY (w .client .self .n))
-    (cond (eqb (w .client .self .phase) batch) (DATA 0 false [])
+abbrev pub nextCall : Endpoint → Call
+nextCall e =
+    cond (eqb (e .phase) fresh) (OPEN (97 ∷ []) [])
+    (cond (eqb (e .phase) offer) (READY (e .n))
+    (cond (eqb (e .phase) batch) (DATA 0 false [])
     (READY 1)))
 
--- an end may send a call in every output with room for it
-pub record MaySend (e : Endpoint) (call : Call) : Type 0 where
-  pub fits : Fits call
-  pub moves-on : movesOn call ≡ true
-  pub sent : (room : ℕ) → length (written e call) ≤ room → sendOf e call room .number ≡ 0
+-- of a program whose states hold endpoints
+module _ {A O : Type 0} (p : Program A O) (view : A → Endpoint) where
+  -- an end may send a call in every output with room for it
+  pub record MaySend (self : A) (call : Call) : Type 0 where
+    pub fits : Fits call
+    pub moves-on : movesOn call ≡ true
+    pub sent : (out : O) → length (written (view self) call) ≤ p .room out → p .send self call out .number ≡ 0
 
--- what holds of a world
-pub record Holds (w : World Endpoint) : Type 0 where
-  -- "neither refuses the other's message"
-  pub answers : (end : End) (s : List ℕ) (rest : List (List ℕ)) → side w (across end) .queue ≡ s ∷ rest
-      → (name format : List ℕ) (room : ℕ) → 14 ≤ room
-      → MayAnswer (side w end) (side w (across end)) s name format (answerNumber (receivedOf (side w end .self) s name format room .answer))
-  -- "2 output too short": nothing changes, and the message stays where it is
-  pub waits : (end : End) (s : List ℕ) (rest : List (List ℕ)) → side w (across end) .queue ≡ s ∷ rest
-      → (name format : List ℕ) (room : ℕ) → room < 14
-      → (answerNumber (receivedOf (side w end .self) s name format room .answer) ≡ 2) × (step w (receives end name format room) ≡ w)
-  -- nothing at all arrives at an end that heard a CLOSE
-  pub nothing-after-close : (end : End) → side w end .past .ending ≡ HeardClose → side w (across end) .queue ≡ []
-  pub closed-by-phase : (end : End) → PhaseFits (side w end .past .ending) (side w end .self .phase)
-  -- "data accepted is always a prefix of data sent", and so are the READYs heard of those sent
-  pub data-leads : (end : End) → IsPrefix (side w end .past .accepted) (side w (across end) .past .sent)
-  pub readies-lead : (end : End) → IsPrefix (side w end .past .readies-heard) (side w (across end) .past .readies)
-  -- "and never more than the batches agreed": in all of them, and in the newest; a batch that is over was the newest until the READY that began
-  -- the next, so this holds of each
-  pub within : length (w .client .past .accepted) + length (w .server .past .accepted) ≤ sum (agreed Client (w .client .past))
-  pub within-newest : (end : End) → length (side w end .past .batch) ≤ newest (agreed end (side w end .past))
-  -- "while neither has closed and nothing is in transit, one end may still send something other than NOOP and CLOSE"
-  pub may-send : w .client .past .ending ≡ Going → w .server .past .ending ≡ Going → w .client .queue ≡ [] → w .server .queue ≡ []
-      → MaySend (side w (nextEnd w) .self) (nextCall w)
+  -- what holds of a world
+  pub record Holds (w : World A) : Type 0 where
+    -- "neither refuses the other's message"
+    pub answers : (end : End) (s : List ℕ) (rest : List (List ℕ)) → side w (across end) .queue ≡ s ∷ rest
+        → (name format : List ℕ) (out : O) → 14 ≤ p .room out
+        → MayAnswer (viewedSide view (side w end)) (viewedSide view (side w (across end))) s name format (p .receive (side w end .self) s name format out .number)
+    -- "2 output too short": nothing changes, and the message stays where it is
+    pub waits : (end : End) (s : List ℕ) (rest : List (List ℕ)) → side w (across end) .queue ≡ s ∷ rest
+        → (name format : List ℕ) (out : O) → p .room out < 14
+        → (p .receive (side w end .self) s name format out .number ≡ 2) × (step p w (receives end name format out) ≡ w)
+    -- nothing at all arrives at an end that heard a CLOSE
+    pub nothing-after-close : (end : End) → side w end .past .ending ≡ HeardClose → side w (across end) .queue ≡ []
+    pub closed-by-phase : (end : End) → PhaseFits (side w end .past .ending) (view (side w end .self) .phase)
+    -- "data accepted is always a prefix of data sent", and so are the READYs heard of those sent
+    pub data-leads : (end : End) → IsPrefix (side w end .past .accepted) (side w (across end) .past .sent)
+    pub readies-lead : (end : End) → IsPrefix (side w end .past .readies-heard) (side w (across end) .past .readies)
+    -- "and never more than the batches agreed": in all of them, and in the newest; a batch that is over was the newest until the READY that began
+    -- the next, so this holds of each
+    pub within : length (w .client .past .accepted) + length (w .server .past .accepted) ≤ sum (agreed Client (w .client .past))
+    pub within-newest : (end : End) → length (side w end .past .batch) ≤ newest (agreed end (side w end .past))
+    -- "while neither has closed and nothing is in transit, one end may still send something other than NOOP and CLOSE"
+    pub may-send : w .client .past .ending ≡ Going → w .server .past .ending ≡ Going → w .client .queue ≡ [] → w .server .queue ≡ []
+        → MaySend (side w (nextEnd (view (w .client .self))) .self) (nextCall (view (w .client .self)))
+
+  -- for a client and a server that hold such endpoints, and every list of calls
+  abbrev pub DemandFrom : A → A → Type 0
+  DemandFrom client server = (events : List (Event O)) → AllFit events → Holds (run p (record { client = made client; server = made server }) events)
 
 -- for a client and a server of any flow and any limit that making accepts, and every list of calls
 abbrev pub Demand : Type 0
 Demand =
     (flow limit serverFlow : ℕ) → givenOf flow limit ≡ Good → givenOf serverFlow mostLimit ≡ Good
-    → (events : List Event) → AllFit events → Holds (run (start flow limit serverFlow) events)
+    → DemandFrom tables (λ e. e) (freshClient flow limit) (freshServer serverFlow)

@@ -17,17 +17,17 @@ use lib.ListN.{length}
 use lib.Dec.{eqb}
 use Rattle.double.specs.Limit.{mostLimit}
 use Rattle.endpoint.specs.declared.Endpoint.{Endpoint}
+use Rattle.endpoint.specs.declared.Entry.{Entry}
 use Rattle.endpoint.specs.declared.Given.the-variants.{Good}
-use Rattle.endpoint.specs.Record.{batch, awaited, givenOf}
+use Rattle.endpoint.specs.Record.{batch, givenOf}
 use Rattle.receiving.specs.Hearing.{confirmable}
 use Rattle.sending.specs.Calls.{Call}
-use Rattle.sending.specs.Sending.{sendOf}
 use Rattle.machine.specs.Good.{Sound, Fits}
-use Rattle.session.specs.World.{End, Client, Server, across, agreed, History, Side, World, Event, EventFits, start, step}
+use Rattle.session.specs.World.{End, Client, Server, across, agreed, History, Side, World, start}
 use Rattle.session.specs.Packets.{Packet, Called, Confirms, Closes, bytesIn, dataIn, readyIn}
 use Rattle.session.specs.Turns.{Standing, IsOpen, standing, roleOf, producing, Alive, Meets}
-use Rattle.session.specs.Confirmations.{Awaits}
-use Rattle.session.specs.Demand.{PhaseFits, sum, newest, Holds}
+use Rattle.session.specs.Confirmations.{Awaits, Ledger, nothingDue}
+use Rattle.session.specs.Demand.{PhaseFits, sum, newest}
 
 -- the part of the batch that is left
 abbrev pub left : ℕ → ℕ → ℕ
@@ -66,15 +66,17 @@ module _ (flow limit serverFlow : ℕ) where
     pub limited : e .limit ≡ limit
     pub produced : producing end (e .flow) ≡ source flow
 
+-- and this is what a program makes sure of in a call that it accepts
+module _ (flow limit serverFlow : ℕ) (Made : Endpoint → Call → Type 0) where
   -- a call that an end made on these terms, and that was accepted
-  pub record AcceptedCall (end : End) (e : Endpoint) (call : Call) (room : ℕ) : Type 0 where
+  pub record AcceptedCall (end : End) (e : Endpoint) (call : Call) : Type 0 where
     pub fits : Fits call
-    pub accepted : sendOf e call room .number ≡ 0
-    pub flows : e .flow ≡ flowAt end
+    pub accepted : Made e call
+    pub flows : e .flow ≡ flowAt flow limit serverFlow end
     pub limited : e .limit ≡ limit
 
   abbrev pub Proper : End → Packet → Type 0
-  Proper end (Called e call room) = AcceptedCall end e call room
+  Proper end (Called e call) = AcceptedCall end e call
   Proper end (Confirms message type-data) = (confirmable message ≡ true) × (type-data < 256 ^ 2)
   Proper end (Closes code) = code < 256 ^ 2
 
@@ -86,42 +88,32 @@ module _ (flow limit serverFlow : ℕ) where
   pub record OneEnd (end : End) (x : Side Endpoint) (p : List Packet) : Type 0 where
     pub sound : Sound (x .self)
     pub role : x .self .role ≡ roleOf end
-    pub flows : x .self .flow ≡ flowAt end
+    pub flows : x .self .flow ≡ flowAt flow limit serverFlow end
     pub ends : PhaseFits (x .past .ending) (x .self .phase)
     pub queued : x .queue ≡ map bytesIn p
     pub proper : AllProper end p
-    pub terms : Knows end (x .self .phase) → Settled end (x .self)
+    pub terms : Knows end (x .self .phase) → Settled flow limit serverFlow end (x .self)
     pub counted : Counted end (x .past) (x .self)
 
-  -- an end x that wrote p, and y across from it that wrote q
-  pub record Linked (end : End) (x y : Side Endpoint) (p q : List Packet) : Type 0 where
+  -- an end x that wrote p, with this ledger, and y across from it that wrote q
+  pub record Linked (pick : ℕ → List Entry → List Entry) (end : End) (x y : Side Endpoint) (p q : List Packet) (dues dues-across : Ledger) : Type 0 where
     pub here : OneEnd end x p
     pub there : OneEnd (across end) y q
     pub meets : Meets (source flow) end (standing x) p (standing y) q
-    pub awaits : Awaits (standing x) (awaited (x .self)) p (standing y) q
-    pub awaits-across : Awaits (standing y) (awaited (y .self)) q (standing x) p
+    pub awaits : (line : ℕ) → Awaits (pick line) (standing x) (dues .waits line) p (standing y) (dues-across .owes line) q
+    pub awaits-across : (line : ℕ) → Awaits (pick line) (standing y) (dues-across .waits line) q (standing x) (dues .owes line) p
     pub delivers : Delivers dataIn (x .past .sent) p (standing y) (y .past .accepted)
     pub delivers-across : Delivers dataIn (y .past .sent) q (standing x) (x .past .accepted)
     pub readies : Delivers readyIn (x .past .readies) p (standing y) (y .past .readies-heard)
     pub readies-across : Delivers readyIn (y .past .readies) q (standing x) (x .past .readies-heard)
 
-  pub record Invariant (w : World Endpoint) : Type 0 where
+  pub record Invariant (pick : ℕ → List Entry → List Entry) (w : World Endpoint) (dues server-dues : Ledger) : Type 0 where
     pub from-client : List Packet
     pub from-server : List Packet
-    pub linked : Linked Client (w .client) (w .server) from-client from-server
+    pub linked : Linked pick Client (w .client) (w .server) from-client from-server dues server-dues
 
 -- a client and a server that were made have it
-abbrev pub StartKeeps : Type 0
+abbrev pub StartKeeps : Type 1
 StartKeeps =
     (flow limit serverFlow : ℕ) → givenOf flow limit ≡ Good → givenOf serverFlow mostLimit ≡ Good
-    → Invariant flow limit serverFlow (start flow limit serverFlow)
-
--- every call keeps it
-abbrev pub StepKeeps : Type 0
-StepKeeps =
-    (flow limit serverFlow : ℕ) (w : World Endpoint) (event : Event) → EventFits event → Invariant flow limit serverFlow w
-    → Invariant flow limit serverFlow (step w event)
-
--- and where it holds, so does demand 3
-abbrev pub InvariantHolds : Type 0
-InvariantHolds = (flow limit serverFlow : ℕ) (w : World Endpoint) → Invariant flow limit serverFlow w → Holds w
+    → (Made : Endpoint → Call → Type 0) (pick : ℕ → List Entry → List Entry) → Invariant flow limit serverFlow Made pick (start flow limit serverFlow) nothingDue nothingDue

@@ -10,31 +10,31 @@ use Rattle.receiving.specs.Receiving.{replyBytes}
 use Rattle.sending.specs.Calls.{Call, messageOf, typeDataOf, written}
 use Rattle.session.specs.World.{Datum, dataSent, readyCount}
 
--- a call with the record that it was made on and the length of its output; the confirmation of a message; the CLOSE of a refusal
+-- a call with the record that it was made on; the confirmation of a message; the CLOSE of a refusal
 pub data Packet : Type 0 where
-  Called : Endpoint → Call → ℕ → Packet
+  Called : Endpoint → Call → Packet
   Confirms : MessageType → ℕ → Packet
   Closes : ℕ → Packet
 
 abbrev pub bytesIn : Packet → List ℕ
-bytesIn (Called e call room) = written e call
+bytesIn (Called e call) = written e call
 bytesIn (Confirms message type-data) = replyBytes (Frame message ackReply type-data)
 bytesIn (Closes code) = replyBytes (Frame Close 0 code)
 
 -- the message whose row it takes: "NOOP, and any message with ACK-REPLY"
 abbrev pub rowMessage : Packet → MessageType
-rowMessage (Called e call room) = messageOf call
+rowMessage (Called e call) = messageOf call
 rowMessage (Confirms message type-data) = Noop
 rowMessage (Closes code) = Close
 
 abbrev pub typeDataIn : Packet → ℕ
-typeDataIn (Called e call room) = typeDataOf call
+typeDataIn (Called e call) = typeDataOf call
 typeDataIn (Confirms message type-data) = type-data
 typeDataIn (Closes code) = code
 
 -- the data and the count of a READY that it carries
 abbrev pub dataIn : Packet → List Datum
-dataIn (Called e call room) = dataSent call
+dataIn (Called e call) = dataSent call
 dataIn (Confirms message type-data) = []
 dataIn (Closes code) = []
 

@@ -1,5 +1,5 @@
--- "A fresh client and a fresh server joined by two lossless FIFO queues": two records, two queues of bundles, and what is called and delivered.
--- A send and a receive do what the contracts of `sending` and `receiving` say, whether they accept or refuse.
+-- "A fresh client and a fresh server joined by two lossless FIFO queues": two states, two queues of bundles, and what is called and delivered.
+-- A send and a receive do what a program makes of them; `tables` is the one of the contracts of `sending` and `receiving`.
 use Prim.Native.Nat.{ℕ}
 use mathlib.Core.List.{List, [], _∷_, _++_}
 use mathlib.Core.Bool.{Bool, cond, _||_}
@@ -64,20 +64,45 @@ pub record World (A : Type 0) : Type 0 where
   pub client : Side A
   pub server : Side A
 
--- every call: a send with any arguments, and the receiving of the head of a queue with any pipe name and format on offer; each with an output
--- of any length
-pub data Event : Type 0 where
-  sends : End → Call → ℕ → Event
-  receives : End → List ℕ → List ℕ → ℕ → Event
+-- every call: a send with any arguments, and the receiving of the head of a queue with any pipe name and format on offer; each with any output
+pub data Event (O : Type 0) : Type 0 where
+  sends : End → Call → O → Event O
+  receives : End → List ℕ → List ℕ → O → Event O
 
--- the arguments of a send are of their types
-abbrev pub EventFits : Event → Type 0
-EventFits (sends end call room) = Fits call
-EventFits (receives end name format room) = Unit
+module _ {O : Type 0} where
+  -- the arguments of a send are of their types
+  abbrev pub EventFits : Event O → Type 0
+  EventFits (sends end call out) = Fits call
+  EventFits (receives end name format out) = Unit
 
-abbrev pub AllFit : List Event → Type 0
-AllFit [] = Unit
-AllFit (event ∷ rest) = EventFits event × AllFit rest
+  abbrev pub AllFit : List (Event O) → Type 0
+  AllFit [] = Unit
+  AllFit (event ∷ rest) = EventFits event × AllFit rest
+
+-- what comes of a call: its number, the bytes that it wrote if that is 0, and the state afterwards
+pub record SendOutcome (A : Type 0) : Type 0 where
+  pub number : ℕ
+  pub bytes : List ℕ
+  pub next : A
+
+-- what comes of a message: the number, the data and READYs told, how the end has ended, the bundles replied, and the state afterwards
+pub record ReceiveOutcome (A : Type 0) : Type 0 where
+  pub number : ℕ
+  pub heard : List Datum
+  pub readies : List ℕ
+  pub ended : Ending → Ending
+  pub replied : List (List ℕ)
+  pub next : A
+
+-- a message that was answered by this number and nothing else
+abbrev pub ignored : {A : Type 0} → ℕ → A → ReceiveOutcome A
+ignored number self = record { number = number; heard = []; readies = []; ended = λ before. before; replied = []; next = self }
+
+-- a program over the states A, with outputs O that have so much room: a call on a state, and a message with the pipe name and format on offer
+pub record Program (A O : Type 0) : Type 0 where
+  pub room : O → ℕ
+  pub send : A → Call → O → SendOutcome A
+  pub receive : A → List ℕ → List ℕ → List ℕ → O → ReceiveOutcome A
 
 -- the data that a call sends
 abbrev pub dataSent : Call → List Datum
@@ -192,43 +217,68 @@ module _ {A : Type 0} where
   took end x heard readies ending replied next =
       record { self = next; queue = x .queue ++ replied; past = afterMessage end (x .past) heard readies ending }
 
--- a client of this flow and limit, and a server of this flow, each made once
-abbrev pub start : ℕ → ℕ → ℕ → World Endpoint
-start flow limit serverFlow = record { client = made (freshClient flow limit); server = made (freshServer serverFlow) }
+  -- only a call that is accepted writes
+  abbrev pub sentBy : End → Side A → Call → SendOutcome A → Side A
+  sentBy end x call result = cond (eqb (result .number) 0) (wrote end x call (result .bytes) (result .next)) (became x (result .next))
 
--- an end after a call: only one that is accepted writes
-unfoldable pub afterSend : End → Side Endpoint → Call → ℕ → Side Endpoint
-afterSend end x call room =
-    cond (eqb (sendOf (x .self) call room .number) 0)
-    (wrote end x call (written (x .self) call) (sendOf (x .self) call room .next))
-    (became x (sendOf (x .self) call room .next))
-
--- an end after it received the bundle s
-abbrev pub afterBundle : End → Side Endpoint → List ℕ → Received → Side Endpoint
-afterBundle end x s received =
-    took end x (dataHeard s (received .answer)) (readyHeard (received .answer))
-    (endingReplied (received .reply) (endingHeard (received .answer) (x .past .ending)))
-    (replies (received .reply))
-    (received .next)
+  abbrev pub tookBy : End → Side A → ReceiveOutcome A → Side A
+  tookBy end x result =
+      took end x (result .heard) (result .readies) (result .ended (x .past .ending)) (result .replied) (result .next)
 
 -- a receive that answers 1 or 2 has not taken the message, and one that answers 3 has passed it over
 abbrev pub isKept : ℕ → Bool
 isKept number = eqb number 1 || eqb number 2
 
--- the head of the queue of y is received by x; where there is none, nothing is
-unfoldable pub afterReceive : End → Side Endpoint → Side Endpoint → List (List ℕ) → List ℕ → List ℕ → ℕ → World Endpoint
-afterReceive end x y [] name format room = joined end x y
-afterReceive end x y (s ∷ rest) name format room =
-    cond (isKept (answerNumber (receivedOf (x .self) s name format room .answer)))
-    (joined end (became x (receivedOf (x .self) s name format room .next)) y)
-    (joined end (afterBundle end x s (receivedOf (x .self) s name format room)) (withQueue y rest))
+module _ {A O : Type 0} (p : Program A O) where
+  -- the head of the queue of y is received by x; where there is none, nothing is
+  unfoldable pub afterReceive : End → Side A → Side A → List (List ℕ) → List ℕ → List ℕ → O → World A
+  afterReceive end x y [] name format out = joined end x y
+  afterReceive end x y (s ∷ rest) name format out =
+      cond (isKept (p .receive (x .self) s name format out .number))
+      (joined end (became x (p .receive (x .self) s name format out .next)) y)
+      (joined end (tookBy end x (p .receive (x .self) s name format out)) (withQueue y rest))
 
-unfoldable pub step : World Endpoint → Event → World Endpoint
-step w (sends end call room) = joined end (afterSend end (side w end) call room) (side w (across end))
-step w (receives end name format room) =
-    afterReceive end (side w end) (side w (across end)) (side w (across end) .queue) name format room
+  unfoldable pub step : World A → Event O → World A
+  step w (sends end call out) = joined end (sentBy end (side w end) call (p .send (side w end .self) call out)) (side w (across end))
+  step w (receives end name format out) =
+      afterReceive end (side w end) (side w (across end)) (side w (across end) .queue) name format out
 
--- whatever is called and delivered, in this order
-unfoldable pub run : World Endpoint → List Event → World Endpoint
-run w [] = w
-run w (event ∷ rest) = run (step w event) rest
+  -- whatever is called and delivered, in this order
+  unfoldable pub run : World A → List (Event O) → World A
+  run w [] = w
+  run w (event ∷ rest) = run (step w event) rest
+
+-- the same two ends, each seen as another state
+module _ {A B : Type 0} (view : A → B) where
+  abbrev pub viewedSide : Side A → Side B
+  viewedSide x = record { self = view (x .self); queue = x .queue; past = x .past }
+
+  abbrev pub viewed : World A → World B
+  viewed w = record { client = viewedSide (w .client); server = viewedSide (w .server) }
+
+-- ---- the tables
+
+-- a client of this flow and limit, and a server of this flow, each made once
+abbrev pub start : ℕ → ℕ → ℕ → World Endpoint
+start flow limit serverFlow = record { client = made (freshClient flow limit); server = made (freshServer serverFlow) }
+
+-- what is told of the bundle s
+abbrev pub outcomeOf : List ℕ → Received → ReceiveOutcome Endpoint
+outcomeOf s received =
+    record {
+      number = answerNumber (received .answer);
+      heard = dataHeard s (received .answer);
+      readies = readyHeard (received .answer);
+      ended = λ before. endingReplied (received .reply) (endingHeard (received .answer) before);
+      replied = replies (received .reply);
+      next = received .next;
+    }
+
+-- outputs are told by their lengths
+abbrev pub tables : Program Endpoint ℕ
+tables =
+    record {
+      room = λ out. out;
+      send = λ e call out. record { number = sendOf e call out .number; bytes = written e call; next = sendOf e call out .next };
+      receive = λ e s name format out. outcomeOf s (receivedOf e s name format out);
+    }
