@@ -6,7 +6,7 @@ use Rattle.bytes_be.proofs.Determined.{coincide}
 use Rattle.endpoint.specs.declared.Endpoint.{Endpoint}
 use Rattle.sending.specs.Calls.{Call}
 use Rattle.fbdp.specs.Entries.{FrameAnswer, ValueAnswer, LookupAnswer}
-use Rattle.fbdp.specs.Blocks.{MakeAnswer, SendAnswer, ReceiveAnswer}
+use Rattle.fbdp.specs.Blocks.{MakeAnswer, SendOnBlock, ReceiveOnBlock}
 
 pub frame-determined : {bundle : List ℕ} {index number number′ : ℕ} {slots slots′ : List ℕ} → FrameAnswer bundle index number slots →
     FrameAnswer bundle index number′ slots′ → (number ≡ number′) × (slots ≡ slots′)
@@ -25,7 +25,7 @@ pub make-determined : {made : Endpoint} {before : List ℕ} {number number′ : 
 make-determined one other = (coincide (one .numbered) (other .numbered), coincide (one .kept) (other .kept))
 
 pub send-determined : {call : Call} {block out : List ℕ} {number number′ count count′ : ℕ} {block₁ block₂ out₁ out₂ : List ℕ} →
-    SendAnswer call block out number count block₁ out₁ → SendAnswer call block out number′ count′ block₂ out₂ →
+    SendOnBlock call block out number count block₁ out₁ → SendOnBlock call block out number′ count′ block₂ out₂ →
     (number ≡ number′) × (count ≡ count′) × (block₁ ≡ block₂) × (out₁ ≡ out₂)
 send-determined one other =
     let first = one .finished in
@@ -33,7 +33,7 @@ send-determined one other =
     (coincide (first .numbered) (second .numbered), coincide (first .counted) (second .counted), coincide (first .kept) (second .kept), coincide (one .left) (other .left))
 
 pub receive-determined : {s name format block out : List ℕ} {number number′ : ℕ} {slots slots′ block₁ block₂ out₁ out₂ : List ℕ} →
-    ReceiveAnswer s name format block out number slots block₁ out₁ → ReceiveAnswer s name format block out number′ slots′ block₂ out₂ →
+    ReceiveOnBlock s name format block out number slots block₁ out₁ → ReceiveOnBlock s name format block out number′ slots′ block₂ out₂ →
     (number ≡ number′) × (slots ≡ slots′) × (block₁ ≡ block₂) × (out₁ ≡ out₂)
 receive-determined one other =
     (coincide (one .numbered) (other .numbered), coincide (one .told) (other .told), coincide (one .kept) (other .kept), coincide (one .left) (other .left))

@@ -15,13 +15,13 @@ use Rattle.receiving.specs.Refusing.{unchanged}
 use Rattle.sending.specs.declared.Sent.{Sent}
 use Rattle.sending.specs.Calls.{Call, written}
 use Rattle.sending.specs.Sending.{SendAnswer as Sent-by-record, leftBy, numberFor, sendOf, sentBy, unsent}
-use Rattle.fbdp.specs.Blocks.{SendAnswer, ReceiveAnswer, Finished, BadBlockSends, BadBlockReceives, answerSlots, replyLength, keptAfter, leaves, keptBy}
+use Rattle.fbdp.specs.Blocks.{SendOnBlock, ReceiveOnBlock, Finished, BadBlockSends, BadBlockReceives, answerSlots, replyLength, keptAfter, leaves, keptBy}
 
 module _ (block : List ℕ) (e : Endpoint) (loaded : e ≡ loadOf block) where
   -- the answer is that of the record that was loaded
 
   pub send-finished : (call : Call) (out out′ : List ℕ) (sent : Sent) (number count : ℕ) (block′ : List ℕ) →
-      Sent-by-record e call out sent out′ → Finished sent block number count block′ → SendAnswer call block out number count block′ out′
+      Sent-by-record e call out sent out′ → Finished sent block number count block′ → SendOnBlock call block out number count block′ out′
   send-finished call out out′ sent number count block′ by-record finished =
       let by-loaded : Sent-by-record (loadOf block) call out sent out′ = rw loaded at by-record in
       record { finished = rw (by-loaded .answered) at finished; left = by-loaded .left }
@@ -29,7 +29,7 @@ module _ (block : List ℕ) (e : Endpoint) (loaded : e ≡ loadOf block) where
   pub receive-finished : (s name format out out′ : List ℕ) (received : Received) (number : ℕ) (slots block′ : List ℕ) →
       Heard-by-record e s name format out received out′ → number ≡ answerNumber (received .answer) →
       slots ≡ answerSlots (received .answer) (replyLength (received .reply)) → block′ ≡ keptBy received block →
-      ReceiveAnswer s name format block out number slots block′ out′
+      ReceiveOnBlock s name format block out number slots block′ out′
   receive-finished s name format out out′ received number slots block′ by-record its-number its-slots its-block =
       let by-loaded : Heard-by-record (loadOf block) s name format out received out′ = rw loaded at by-record in
       let on-block = by-loaded .answered in

@@ -55,14 +55,14 @@ abbrev pub asksFor : ℕ → Bool
 asksFor ask = not (eqb ask 0)
 
 -- `fbdp_send_open`, `fbdp_send_ready`, `fbdp_send_data`, `fbdp_send_noop` and `fbdp_send_close`
-pub record SendAnswer (call : Call) (block out : List ℕ) (number count : ℕ) (block′ out′ : List ℕ) : Type 0 where
+pub record SendOnBlock (call : Call) (block out : List ℕ) (number count : ℕ) (block′ out′ : List ℕ) : Type 0 where
   pub finished : Finished (sentOn block call (length out)) block number count block′
   pub left : out′ ≡ leftBy (sentOn block call (length out)) (written (loadOf block) call) out
 
 -- "1 block not 64 bytes, or not good": a send on such a block changes no byte
 abbrev pub BadBlockSends : Type 0
 BadBlockSends =
-    (call : Call) (block out : List ℕ) (number count : ℕ) (block′ out′ : List ℕ) → isGood block ≡ false → SendAnswer call block out number count block′ out′
+    (call : Call) (block out : List ℕ) (number count : ℕ) (block′ out′ : List ℕ) → isGood block ≡ false → SendOnBlock call block out number count block′ out′
     → (number ≡ 1) × (count ≡ 0) × (block′ ≡ block) × (out′ ≡ out)
 
 -- what comes of a message on a block
@@ -110,7 +110,7 @@ answerSlots (Answer·Heard heard) reply = heardSlots heard reply
 answerSlots (Refused number) reply = 0 ∷ 0 ∷ 0 ∷ reply ∷ 0 ∷ 0 ∷ 0 ∷ 0 ∷ 0 ∷ 0 ∷ 0 ∷ 0 ∷ 0 ∷ 0 ∷ 0 ∷ 0 ∷ []
 
 -- `fbdp_receive`
-pub record ReceiveAnswer (s name format block out : List ℕ) (number : ℕ) (slots block′ out′ : List ℕ) : Type 0 where
+pub record ReceiveOnBlock (s name format block out : List ℕ) (number : ℕ) (slots block′ out′ : List ℕ) : Type 0 where
   pub numbered : number ≡ answerNumber (receivedOn block s name format (length out) .answer)
   pub told :
       slots
@@ -121,5 +121,5 @@ pub record ReceiveAnswer (s name format block out : List ℕ) (number : ℕ) (sl
 -- and a receive on such a block changes none either, and tells nothing
 abbrev pub BadBlockReceives : Type 0
 BadBlockReceives =
-    (s name format block out : List ℕ) (number : ℕ) (slots block′ out′ : List ℕ) → isGood block ≡ false → ReceiveAnswer s name format block out number slots block′ out′
+    (s name format block out : List ℕ) (number : ℕ) (slots block′ out′ : List ℕ) → isGood block ≡ false → ReceiveOnBlock s name format block out number slots block′ out′
     → (number ≡ 1) × (slots ≡ replicate 16 0) × (block′ ≡ block) × (out′ ≡ out)

@@ -3,7 +3,7 @@ ghost use mathlib.Core.Path.{_≡_};
 ghost use Rattle.endpoint.specs.Record.{freshOf, freshClient, freshServer};
 ghost use Rattle.receiving.specs.Receiving.{answerNumber};
 ghost use Rattle.sending.specs.Calls.{OPEN, READY, DATA, NOOP, CLOSE};
-ghost use Rattle.fbdp.specs.Blocks.{MakeAnswer, Finished, asksFor, SendAnswer, replyLength, leaves, contentSlots, heardSlots, answerSlots, ReceiveAnswer};
+ghost use Rattle.fbdp.specs.Blocks.{MakeAnswer, Finished, asksFor, SendOnBlock, replyLength, leaves, contentSlots, heardSlots, answerSlots, ReceiveOnBlock};
 ghost use Rattle.fbdp.specs.Entries.{frameSlots, FrameAnswer, valueSlots, ValueAnswer, termSlots, LookupAnswer};
 use bundle::Frame;
 use endpoint::Given;
@@ -161,7 +161,7 @@ pub extern "C" fn fbdp_send_open(
     out: &mut [u8],
     written: &mut u64,
 ) -> u32
-    ensures { λ r. ⌜ SendAnswer (OPEN (now (name .entry)) (now (format .entry))) (now (block .entry)) (now (out .entry)) r (now (written .exit)) (now (block .exit)) (now (out .exit)) ⌝ }
+    ensures { λ r. ⌜ SendOnBlock (OPEN (now (name .entry)) (now (format .entry))) (now (block .entry)) (now (out .entry)) r (now (written .exit)) (now (block .exit)) (now (out .exit)) ⌝ }
 {
     let e = endpoint::load(block);
     finish(sending::send_open(e, name, format, out), block, written)
@@ -175,7 +175,7 @@ pub extern "C" fn fbdp_send_ready(
     out: &mut [u8],
     written: &mut u64,
 ) -> u32
-    ensures { λ r. ⌜ SendAnswer (READY count) (now (block .entry)) (now (out .entry)) r (now (written .exit)) (now (block .exit)) (now (out .exit)) ⌝ }
+    ensures { λ r. ⌜ SendOnBlock (READY count) (now (block .entry)) (now (out .entry)) r (now (written .exit)) (now (block .exit)) (now (out .exit)) ⌝ }
 {
     let e = endpoint::load(block);
     finish(sending::send_ready(e, count, out), block, written)
@@ -191,7 +191,7 @@ pub extern "C" fn fbdp_send_data(
     out: &mut [u8],
     written: &mut u64,
 ) -> u32
-    ensures { λ r. ⌜ SendAnswer (DATA «type_data» (asksFor ask) (now (body .entry))) (now (block .entry)) (now (out .entry)) r (now (written .exit)) (now (block .exit)) (now (out .exit)) ⌝ }
+    ensures { λ r. ⌜ SendOnBlock (DATA «type_data» (asksFor ask) (now (body .entry))) (now (block .entry)) (now (out .entry)) r (now (written .exit)) (now (block .exit)) (now (out .exit)) ⌝ }
 {
     let e = endpoint::load(block);
     let asked = asks_for(ask);
@@ -211,7 +211,7 @@ pub extern "C" fn fbdp_send_noop(
     out: &mut [u8],
     written: &mut u64,
 ) -> u32
-    ensures { λ r. ⌜ SendAnswer (NOOP «type_data» (asksFor ask)) (now (block .entry)) (now (out .entry)) r (now (written .exit)) (now (block .exit)) (now (out .exit)) ⌝ }
+    ensures { λ r. ⌜ SendOnBlock (NOOP «type_data» (asksFor ask)) (now (block .entry)) (now (out .entry)) r (now (written .exit)) (now (block .exit)) (now (out .exit)) ⌝ }
 {
     let e = endpoint::load(block);
     let asked = asks_for(ask);
@@ -226,7 +226,7 @@ pub extern "C" fn fbdp_send_close(
     out: &mut [u8],
     written: &mut u64,
 ) -> u32
-    ensures { λ r. ⌜ SendAnswer (CLOSE code) (now (block .entry)) (now (out .entry)) r (now (written .exit)) (now (block .exit)) (now (out .exit)) ⌝ }
+    ensures { λ r. ⌜ SendOnBlock (CLOSE code) (now (block .entry)) (now (out .entry)) r (now (written .exit)) (now (block .exit)) (now (out .exit)) ⌝ }
 {
     let e = endpoint::load(block);
     finish(sending::send_close(e, code, out), block, written)
@@ -327,7 +327,7 @@ pub extern "C" fn fbdp_receive(
     out: &mut [u8],
     heard: &mut [u64; 16],
 ) -> u32
-    ensures { λ r. ⌜ ReceiveAnswer (now (message .entry)) (now (name .entry)) (now (format .entry)) (now (block .entry)) (now (out .entry)) r (now (heard .exit)) (now (block .exit)) (now (out .exit)) ⌝ }
+    ensures { λ r. ⌜ ReceiveOnBlock (now (message .entry)) (now (name .entry)) (now (format .entry)) (now (block .entry)) (now (out .entry)) r (now (heard .exit)) (now (block .exit)) (now (out .exit)) ⌝ }
 {
     let e = endpoint::load(block);
     let received = receiving::receive(e, message, name, format, out);

@@ -46,7 +46,7 @@ use Rattle.sending.specs.Sending.{SendAnswer}
 use Rattle.sending.proofs.Sent as Sent-row
 use Rattle.sending.proofs.Sent.Laws as Sent-laws
 use Rattle.sending.proofs.send_ready as by-value
-use Rattle.lent.specs.Lent.{toldOf, SendAnswer as Lent·SendAnswer}
+use Rattle.lent.specs.Lent.{toldOf, SendOnLent}
 use Rattle.lent.proofs.Told as Told-row
 use Rattle.lent.proofs.Told.Laws as Told-laws
 use Rattle.lent.proofs.Lending.{vals, val, slice-of, told-is, send-said}
@@ -79,7 +79,7 @@ abbrev asks : (ℕ → Call) → {M : Type 1} (𝓤 : URA M) → Clauses 𝓤 by
 asks call-of 𝓤 κs a = record { ghost = Unit {0}; requires = λ _. emp 𝓤; ensures = λ _ r end. fact 𝓤 (SendAnswer (a .0) (call-of (a .1 .0)) (a .1 .1 .0 .now) r (end .1 .1 .0 .now)) }
 
 abbrev answers : (ℕ → Call) → {M : Type 1} (𝓤 : URA M) → Clauses 𝓤 ended
-answers call-of 𝓤 κs a = record { ghost = Unit {0}; requires = λ _. emp 𝓤; ensures = λ _ r end. fact 𝓤 (Lent·SendAnswer (a .0 .now) (call-of (a .1 .0)) (a .1 .1 .0 .now) r (end .0 .now) (end .1 .1 .0 .now)) }
+answers call-of 𝓤 κs a = record { ghost = Unit {0}; requires = λ _. emp 𝓤; ensures = λ _ r end. fact 𝓤 (SendOnLent (a .0 .now) (call-of (a .1 .0)) (a .1 .1 .0 .now) r (end .0 .now) (end .1 .1 .0 .now)) }
 
 abbrev asked : (ℕ → Call) → {M : Type 1} (𝓤 : URA M) (H : Heap 𝓤) (A : Atoms 𝓤) → Contract 𝓤
 asked call-of 𝓤 H A = tripleOf 𝓤 H A by-value.signature (closing 𝓤 H A by-value.ended (asks call-of 𝓤))

@@ -7,13 +7,13 @@ use Rattle.endpoint.specs.declared.Endpoint.{Endpoint}
 use Rattle.sending.specs.Calls.{Call}
 use Rattle.lent.specs.declared.Told.{Told}
 use Rattle.lent.specs.declared.Outcome.{Outcome}
-use Rattle.lent.specs.Lent.{SendAnswer, ReceiveAnswer}
+use Rattle.lent.specs.Lent.{SendOnLent, ReceiveOnLent}
 
 pub send-determined : {e : Endpoint} {call : Call} {before : List ℕ} {told told′ : Told} {next next′ : Endpoint} {after after′ : List ℕ} →
-    SendAnswer e call before told next after → SendAnswer e call before told′ next′ after′ → (told ≡ told′) × (next ≡ next′) × (after ≡ after′)
+    SendOnLent e call before told next after → SendOnLent e call before told′ next′ after′ → (told ≡ told′) × (next ≡ next′) × (after ≡ after′)
 send-determined one other = (coincide (one .answered) (other .answered), coincide (one .changed) (other .changed), coincide (one .left) (other .left))
 
 pub receive-determined : {e : Endpoint} {s name format before : List ℕ} {outcome outcome′ : Outcome} {next next′ : Endpoint} {after after′ : List ℕ} →
-    ReceiveAnswer e s name format before outcome next after → ReceiveAnswer e s name format before outcome′ next′ after′ →
+    ReceiveOnLent e s name format before outcome next after → ReceiveOnLent e s name format before outcome′ next′ after′ →
     (outcome ≡ outcome′) × (next ≡ next′) × (after ≡ after′)
 receive-determined one other = (coincide (one .answered) (other .answered), coincide (one .changed) (other .changed), coincide (one .left) (other .left))

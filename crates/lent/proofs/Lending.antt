@@ -21,7 +21,7 @@ use Rattle.sending.specs.Calls.{Call}
 use Rattle.sending.specs.Sending.{SendAnswer}
 use Rattle.sending.proofs.Sent as Sent-row
 use Rattle.sending.proofs.Sent.Laws as Sent-laws
-use Rattle.lent.specs.Lent.{toldOf, outcomeOf, SendAnswer as Lent·SendAnswer, ReceiveAnswer as Lent·ReceiveAnswer}
+use Rattle.lent.specs.Lent.{toldOf, outcomeOf, SendOnLent, ReceiveOnLent}
 use Rattle.lent.proofs.Told as Told-row
 use Rattle.lent.proofs.Told.Laws as Told-laws
 use Rattle.lent.proofs.Outcome as Outcome-row
@@ -48,12 +48,12 @@ outcome-is received vs is =
     Struct.owes Outcome-row.the-type Outcome-laws.the-laws (outcomeOf received) (owed .0, (owed .1 .1 .0, tt))
 
 pub send-said : (e : Endpoint) (call : Call) (before : List ℕ) {sent : Sent} {after : List ℕ} → SendAnswer e call before sent after →
-    Lent·SendAnswer e call before (toldOf sent) (sent .next) after
+    SendOnLent e call before (toldOf sent) (sent .next) after
 send-said e call before said =
     record { answered = ap toldOf (said .answered); changed = ap (λ (sent : Sent). sent .next) (said .answered); left = said .left }
 
 pub receive-said : (e : Endpoint) (s name format before : List ℕ) {received : Received} {after : List ℕ} → ReceiveAnswer e s name format before received after →
-    Lent·ReceiveAnswer e s name format before (outcomeOf received) (received .next) after
+    ReceiveOnLent e s name format before (outcomeOf received) (received .next) after
 receive-said e s name format before said =
     record {
       answered = ap outcomeOf (said .answered);

@@ -18,7 +18,7 @@ abbrev pub toldOf : Sent → Told
 toldOf sent = record { number = sent .number; written = sent .written }
 
 -- what a send of this record answers, and the record and the output afterwards
-pub record SendAnswer (e : Endpoint) (call : Call) (before : List ℕ) (told : Told) (next : Endpoint) (after : List ℕ) : Type 0 where
+pub record SendOnLent (e : Endpoint) (call : Call) (before : List ℕ) (told : Told) (next : Endpoint) (after : List ℕ) : Type 0 where
   pub answered : told ≡ toldOf (sendOf e call (length before))
   pub changed : next ≡ sendOf e call (length before) .next
   pub left : after ≡ leftBy (sendOf e call (length before)) (written e call) before
@@ -28,7 +28,7 @@ abbrev pub outcomeOf : Received → Outcome
 outcomeOf received = record { answer = received .answer; reply = received .reply }
 
 -- what a receive of this record answers, and the record and the output afterwards
-pub record ReceiveAnswer (e : Endpoint) (s name format before : List ℕ) (outcome : Outcome) (next : Endpoint) (after : List ℕ) : Type 0 where
+pub record ReceiveOnLent (e : Endpoint) (s name format before : List ℕ) (outcome : Outcome) (next : Endpoint) (after : List ℕ) : Type 0 where
   pub answered : outcome ≡ outcomeOf (receivedOf e s name format (length before))
   pub changed : next ≡ receivedOf e s name format (length before) .next
   pub left : after ≡ replied (receivedOf e s name format (length before) .reply) before

@@ -1,6 +1,6 @@
 // The endpoint record that is lent and changed in place: the five sends and receive. A refused send leaves record and output as they were.
 ghost use Rattle.sending.specs.Calls.{OPEN, READY, DATA, NOOP, CLOSE};
-ghost use Rattle.lent.specs.Lent.{SendAnswer, ReceiveAnswer};
+ghost use Rattle.lent.specs.Lent.{SendOnLent, ReceiveOnLent};
 use endpoint::Endpoint;
 use receiving::Answer;
 use receiving::Reply;
@@ -21,7 +21,7 @@ pub struct Outcome {
 
 // Sends OPEN for this pipe name and this format.
 pub fn send_open(e: &mut Endpoint, name: &[u8], format: &[u8], out: &mut [u8]) -> Told
-    ensures { λ r. ⌜ SendAnswer (now (e .entry)) (OPEN (now (name .entry)) (now (format .entry))) (now (out .entry)) r (now (e .exit)) (now (out .exit)) ⌝ }
+    ensures { λ r. ⌜ SendOnLent (now (e .entry)) (OPEN (now (name .entry)) (now (format .entry))) (now (out .entry)) r (now (e .exit)) (now (out .exit)) ⌝ }
 {
     let sent = sending::send_open(*e, name, format, out);
     *e = sent.next;
@@ -33,7 +33,7 @@ pub fn send_open(e: &mut Endpoint, name: &[u8], format: &[u8], out: &mut [u8]) -
 
 // Sends READY with this count.
 pub fn send_ready(e: &mut Endpoint, count: u16, out: &mut [u8]) -> Told
-    ensures { λ r. ⌜ SendAnswer (now (e .entry)) (READY count) (now (out .entry)) r (now (e .exit)) (now (out .exit)) ⌝ }
+    ensures { λ r. ⌜ SendOnLent (now (e .entry)) (READY count) (now (out .entry)) r (now (e .exit)) (now (out .exit)) ⌝ }
 {
     let sent = sending::send_ready(*e, count, out);
     *e = sent.next;
@@ -45,7 +45,7 @@ pub fn send_ready(e: &mut Endpoint, count: u16, out: &mut [u8]) -> Told
 
 // Sends DATA with this body, which is copied once, and with an ask for confirmation or without.
 pub fn send_data(e: &mut Endpoint, type_data: u16, ask: bool, body: &[u8], out: &mut [u8]) -> Told
-    ensures { λ r. ⌜ SendAnswer (now (e .entry)) (DATA «type_data» ask (now (body .entry))) (now (out .entry)) r (now (e .exit)) (now (out .exit)) ⌝ }
+    ensures { λ r. ⌜ SendOnLent (now (e .entry)) (DATA «type_data» ask (now (body .entry))) (now (out .entry)) r (now (e .exit)) (now (out .exit)) ⌝ }
 {
     let sent = sending::send_data(*e, type_data, ask, body, out);
     *e = sent.next;
@@ -57,7 +57,7 @@ pub fn send_data(e: &mut Endpoint, type_data: u16, ask: bool, body: &[u8], out: 
 
 // Sends NOOP, with an ask for confirmation or without.
 pub fn send_noop(e: &mut Endpoint, type_data: u16, ask: bool, out: &mut [u8]) -> Told
-    ensures { λ r. ⌜ SendAnswer (now (e .entry)) (NOOP «type_data» ask) (now (out .entry)) r (now (e .exit)) (now (out .exit)) ⌝ }
+    ensures { λ r. ⌜ SendOnLent (now (e .entry)) (NOOP «type_data» ask) (now (out .entry)) r (now (e .exit)) (now (out .exit)) ⌝ }
 {
     let sent = sending::send_noop(*e, type_data, ask, out);
     *e = sent.next;
@@ -69,7 +69,7 @@ pub fn send_noop(e: &mut Endpoint, type_data: u16, ask: bool, out: &mut [u8]) ->
 
 // Sends CLOSE with this code.
 pub fn send_close(e: &mut Endpoint, code: u16, out: &mut [u8]) -> Told
-    ensures { λ r. ⌜ SendAnswer (now (e .entry)) (CLOSE code) (now (out .entry)) r (now (e .exit)) (now (out .exit)) ⌝ }
+    ensures { λ r. ⌜ SendOnLent (now (e .entry)) (CLOSE code) (now (out .entry)) r (now (e .exit)) (now (out .exit)) ⌝ }
 {
     let sent = sending::send_close(*e, code, out);
     *e = sent.next;
@@ -81,7 +81,7 @@ pub fn send_close(e: &mut Endpoint, code: u16, out: &mut [u8]) -> Told
 
 // Receives a message where this pipe name and this format are offered, with the reply at the start of the output.
 pub fn receive(e: &mut Endpoint, s: &[u8], name: &[u8], format: &[u8], out: &mut [u8]) -> Outcome
-    ensures { λ r. ⌜ ReceiveAnswer (now (e .entry)) (now (s .entry)) (now (name .entry)) (now (format .entry)) (now (out .entry)) r (now (e .exit)) (now (out .exit)) ⌝ }
+    ensures { λ r. ⌜ ReceiveOnLent (now (e .entry)) (now (s .entry)) (now (name .entry)) (now (format .entry)) (now (out .entry)) r (now (e .exit)) (now (out .exit)) ⌝ }
 {
     let received = receiving::receive(*e, s, name, format, out);
     *e = received.next;

@@ -27,7 +27,7 @@ use Rattle.sending.proofs.Decided.{accepted-passed, accepted-sent}
 use Rattle.machine.specs.Good.{Fits, Sound}
 use Rattle.machine.specs.Refusals.{Outcome, stays, closes, hears}
 use Rattle.machine.proofs.Refusals.{receive-comes-to}
-use Rattle.fbdp.specs.Blocks.{SendAnswer, ReceiveAnswer, answerSlots, heardSlots, keptAfter, keptBy, leaves, replyLength, stored}
+use Rattle.fbdp.specs.Blocks.{SendOnBlock, ReceiveOnBlock, answerSlots, heardSlots, keptAfter, keptBy, leaves, replyLength, stored}
 use Rattle.session.specs.World.{Ending, ignored, outcomeOf, ReceiveOutcome, replies, tables}
 use Rattle.session.specs.Blocks.{Entries, Meets, dataTold, endingTold, onBlocks, readyTold, receiveTold, repliesTold, TablesMeet, byTables}
 use Rattle.session.specs.Laws.{atOnce, ByTables, Laws}
@@ -64,7 +64,7 @@ block-full block sound = block-told block (sym (loaded-good block) ∙ sound .is
 
 -- a send: the bytes that the entry wrote are those of the call, and its block holds the record after it
 
-module _ (block : List ℕ) (call : Call) (out : List ℕ) (number count : ℕ) (block′ out′ : List ℕ) (answer : SendAnswer call block out number count block′ out′) where
+module _ (block : List ℕ) (call : Call) (out : List ℕ) (number count : ℕ) (block′ out′ : List ℕ) (answer : SendOnBlock call block out number count block′ out′) where
   abbrev result : Sent
   result = sendOf (loadOf block) call (length out)
 
@@ -103,7 +103,7 @@ no-reply (Answer·Heard heard) Nothing out none = refl
 no-reply (Refused number) Nothing out none = refl
 no-reply answer (Frame message flags type-data) out none = let z : _≡_ {A = ℕ} 0 1 = cc in absurd (omega arith)
 
-module _ (s name format block out : List ℕ) (number : ℕ) (slots block′ out′ : List ℕ) (answer : ReceiveAnswer s name format block out number slots block′ out′) where
+module _ (s name format block out : List ℕ) (number : ℕ) (slots block′ out′ : List ℕ) (answer : ReceiveOnBlock s name format block out number slots block′ out′) where
   abbrev heard : Received
   heard = receivedOf (loadOf block) s name format (length out)
 

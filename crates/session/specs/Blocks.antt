@@ -17,7 +17,7 @@ use Rattle.sending.specs.declared.Sent.{Sent}
 use Rattle.sending.specs.Calls.{Call, written}
 use Rattle.sending.specs.Sending.{leftBy}
 use Rattle.machine.specs.Good.{Fits}
-use Rattle.fbdp.specs.Blocks.{MakeAnswer, SendAnswer, ReceiveAnswer, answerSlots, keptAfter, keptBy, receivedOn, replyLength, sentOn}
+use Rattle.fbdp.specs.Blocks.{MakeAnswer, SendOnBlock, ReceiveOnBlock, answerSlots, keptAfter, keptBy, receivedOn, replyLength, sentOn}
 use Rattle.session.specs.World.{End, Datum, Ending, HeardClose, WroteClose, World, side, made, Program, SendOutcome, ReceiveOutcome, Event, AllFit, run}
 use Rattle.session.specs.Demand.{Holds}
 
@@ -45,10 +45,10 @@ pub record Entries : Type 0 where
 -- whatever is called, with arguments of their types, the result meets the contract of the entry
 pub record Meets (entries : Entries) : Type 0 where
   pub sent : (call : Call) → Fits call → (block out : List ℕ)
-      → SendAnswer call block out (entries .sends call block out .number) (entries .sends call block out .count) (entries .sends call block out .block)
+      → SendOnBlock call block out (entries .sends call block out .number) (entries .sends call block out .count) (entries .sends call block out .block)
       (entries .sends call block out .out)
   pub received : (s name format block out : List ℕ)
-      → ReceiveAnswer s name format block out (entries .receives s name format block out .number) (entries .receives s name format block out .slots)
+      → ReceiveOnBlock s name format block out (entries .receives s name format block out .number) (entries .receives s name format block out .slots)
       (entries .receives s name format block out .block) (entries .receives s name format block out .out)
 
 -- what the tables make of a call and of a message
