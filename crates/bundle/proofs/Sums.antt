@@ -9,7 +9,7 @@ use native.Mathlib.Omega.{arith}
 use lib.Dec.{leb, ltb, eqb}
 use lib.ListN.{length}
 use borrow.Author.Tests.{lt-ltb, le-ltb, ltb-true, leb-true, eqb-true}
-use Rattle.bytes_be.proofs.Tests.{both-true, took-first, took-second}
+use Rattle.bytes_be.proofs.Tests.{both-true, clash, took-first, took-second}
 use Rattle.bytes_be.specs.declared.Place.{Place}
 use Rattle.bundle.specs.Reading.{countOf, counted, lengthOf, lengthsBefore, startOf, placeOf, good, sizeOf, contentsOf, frameOf}
 use Rattle.bundle.specs.declared.Contents.the-variants.{Frames, BadBundle as Contents·BadBundle}
@@ -66,10 +66,10 @@ frame-behind s g k h = simp (g, le-ltb k (countOf s) h)
 -- and what is handed out is a frame of a good bundle
 
 bad-at : {place : Place} → BadBundle ≡ At place → ⊥
-bad-at e = let z : _≡_ {A = ℕ} 0 1 = cc in omega arith
+bad-at e = clash cc
 
 behind-at : {place : Place} → Behind ≡ At place → ⊥
-behind-at e = let z : _≡_ {A = ℕ} 0 1 = cc in omega arith
+behind-at e = clash cc
 
 pub frame-told : (s : List ℕ) (k : ℕ) {place : Place} → frameOf s k ≡ At place → (good s ≡ true) × (k < countOf s)
 unfolding frameOf
@@ -80,7 +80,7 @@ frame-told s k e =
 -- contents are those of a good bundle alone
 
 bad-frames : {count size : ℕ} {control : Place} → Contents·BadBundle ≡ Frames count control size → ⊥
-bad-frames e = let z : _≡_ {A = ℕ} 0 1 = cc in omega arith
+bad-frames e = clash cc
 
 -- what is known where there are contents
 pub record Told (s : List ℕ) (count : ℕ) (control : Place) (size : ℕ) : Type 0 where

@@ -6,14 +6,13 @@ use mathlib.Core.Bool.{Bool, true, false}
 use lib.ListN.{length, getD, drop, drop-of-length-le}
 use lib.Seq.{drop-cons}
 use lib.Dec.{eqb}
-use native.Mathlib.Omega.{arith}
 use native.Mathlib.Numerals.{add-one}
 use borrow.Author.Tests.{eq-eqb, ne-eqb, eqb-true}
 use Rattle.bytes_be.specs.Part.{same}
-use Rattle.bytes_be.proofs.Tests.{both-true}
+use Rattle.bytes_be.proofs.Tests.{both-true, clash}
 
 false-not-true : {A : Type 0} → false ≡ true → A
-false-not-true e = let z : _≡_ {A = ℕ} 0 1 = cc in absurd (omega arith)
+false-not-true e = clash cc
 
 -- the test says that they are equal
 pub same-equal : (xs ys : List ℕ) → same xs ys ≡ true → xs ≡ ys

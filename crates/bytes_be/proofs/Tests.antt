@@ -4,14 +4,18 @@ use mathlib.Core.Bool.{Bool, true, false, _&&_, _||_, cond}
 use Prim.Native.Nat.{ℕ}
 use native.Mathlib.Omega.{arith}
 
+-- what follows where two things cannot be equal and are: `clash cc` finds the contradiction among what is known
+pub clash : {A : Type 0} → _≡_ {A = ℕ} 0 1 → A
+clash same = absurd (omega (arith, same))
+
 -- both halves of a conjunction that holds
 pub both-true : (a b : Bool) → a && b ≡ true → (a ≡ true) × (b ≡ true)
 both-true true b e = (refl, e)
-both-true false b e = let z : _≡_ {A = ℕ} 0 1 = cc in absurd (omega arith)
+both-true false b e = clash cc
 
 -- the second half of a disjunction that does not hold
 pub last-false : (a b : Bool) → a || b ≡ false → b ≡ false
-last-false true b e = let z : _≡_ {A = ℕ} 0 1 = cc in absurd (omega arith)
+last-false true b e = clash cc
 last-false false b e = e
 
 module _ {A : Type 0} where

@@ -10,7 +10,7 @@ use lib.Seq.{take-all}
 use borrow.Author.Tests.{eqb-true}
 use Rattle.bytes_be.specs.Part.{part}
 use Rattle.bytes_be.specs.Number.{fromBytes, fromBytesBehind, numberAt, toBytes}
-use Rattle.bytes_be.proofs.Tests.{both-true, took-first}
+use Rattle.bytes_be.proofs.Tests.{both-true, clash, took-first}
 use Rattle.bytes_be.proofs.Parts.{part-then}
 use Rattle.bytes_be.proofs.Numbers.{Bytes, bytes-there, number-below}
 use Rattle.control.specs.Frame.{signature, version, typeOf, controlByte, typeIn, versionIn, signedOf, versionOf, knownTypeOf, ifSigned, ifVersionOne, ifKnown, controlOf, bytesOf}
@@ -70,13 +70,13 @@ control-back message flags type-data h = simp (signed-back message flags type-da
 -- what a stage says that was passed
 
 unknown-known : {message : MessageType} → Unknown ≡ Known message → ⊥
-unknown-known e = let z : _≡_ {A = ℕ} 0 1 = cc in omega arith
+unknown-known e = clash cc
 
 other-one : {number : ℕ} → Other ≡ One number → ⊥
-other-one e = let z : _≡_ {A = ℕ} 0 1 = cc in omega arith
+other-one e = clash cc
 
 unsigned-frame : {control flags type-data : ℕ} → Unsigned ≡ Frame control flags type-data → ⊥
-unsigned-frame e = let z : _≡_ {A = ℕ} 0 1 = cc in omega arith
+unsigned-frame e = clash cc
 
 known-here : (n : ℕ) (message here : MessageType) {rest : KnownType} → (rest ≡ Known message → n ≡ typeOf message) →
     cond (eqb n (typeOf here)) (Known here) rest ≡ Known message → n ≡ typeOf message
@@ -109,17 +109,17 @@ version-told control n e =
 past-signed : (signed : Signed) (next : ℕ → ℕ → ℕ → Control) {message : MessageType} {flags type-data : ℕ} → ifSigned signed BadSignature next ≡ Read message flags type-data →
     (control : ℕ) × (f : ℕ) × (d : ℕ) × (signed ≡ Frame control f d) × (next control f d ≡ Read message flags type-data)
 past-signed (Frame control f d) next e = (control, f, d, refl, e)
-past-signed Unsigned next e = let z : _≡_ {A = ℕ} 0 1 = cc in absurd (omega arith)
+past-signed Unsigned next e = clash cc
 
 past-version : (found : Version) (next : ℕ → Control) {message : MessageType} {flags type-data : ℕ} → ifVersionOne found OtherVersion next ≡ Read message flags type-data →
     (n : ℕ) × (found ≡ One n) × (next n ≡ Read message flags type-data)
 past-version (One n) next e = (n, refl, e)
-past-version Other next e = let z : _≡_ {A = ℕ} 0 1 = cc in absurd (omega arith)
+past-version Other next e = clash cc
 
 past-known : (known : KnownType) (next : MessageType → Control) {message : MessageType} {flags type-data : ℕ} → ifKnown known UnknownType next ≡ Read message flags type-data →
     (k : MessageType) × (known ≡ Known k) × (next k ≡ Read message flags type-data)
 past-known (Known k) next e = (k, refl, e)
-past-known Unknown next e = let z : _≡_ {A = ℕ} 0 1 = cc in absurd (omega arith)
+past-known Unknown next e = clash cc
 
 -- what is known of a frame that is read
 pub record Told (s : List ℕ) (message : MessageType) (flags type-data : ℕ) : Type 0 where

@@ -15,7 +15,7 @@ use lib.Ieee.Fits.{ofInt-fits, and-r, and-i, down-pos}
 use lib.Ieee.Casts.{toUnsigned-lt}
 use borrow.Author.Tests.{le-leb, leb-true}
 use Rattle.bytes_be.specs.Part.{part}
-use Rattle.bytes_be.proofs.Tests.{both-true, took-first}
+use Rattle.bytes_be.proofs.Tests.{both-true, clash, took-first}
 use Rattle.double.specs.declared.Limit.the-variants.{Whole, Bad}
 use Rattle.double.specs.Double.{bitsAt, bytesOf}
 use Rattle.double.specs.Limit.{isWhole, integerOf, inLimits, limitOf}
@@ -86,7 +86,7 @@ module _ (x : Float) (p : T (fits binary64 x)) where
       rw (← same) (whole-is x p (subst T (sym (tests .0)) tt) .1, ends .0, ends .1)
     where
       not-bad : Bad ≡ Whole n → ⊥
-      not-bad z = let w : _≡_ {A = ℕ} 0 1 = cc in absurd (omega arith)
+      not-bad z = clash cc
 
 -- above -1 and below 2 ^ 64, where a double can be truncated to 64 bits
 abbrev pub truncates : Float → Bool

@@ -3,11 +3,10 @@ use mathlib.Core.Path.{_≡_, refl}
 use Prim.Native.Nat.{ℕ}
 use mathlib.Core.List.{List}
 use mathlib.Core.Bool.{Bool, _&&_, _||_, false, not, true}
-use native.Mathlib.Omega.{arith}
 use lib.Dec.{eqb}
 use lib.ListN.{length}
 use Rattle.bytes_be.specs.Part.{same}
-use Rattle.bytes_be.proofs.Tests.{both-true}
+use Rattle.bytes_be.proofs.Tests.{both-true, clash}
 use Rattle.open.specs.declared.Open.the-variants.{Heard}
 use Rattle.open.specs.declared.Opening.{Opening}
 use Rattle.open.specs.Open.{offeredSocket}
@@ -41,7 +40,7 @@ module _ (r : Endpoint) (m : Message) (phase n : ℕ) (leads : hearRow r m ≡ T
 one-true : (a b : Bool) → a || b ≡ true → not a && not b ≡ false
 one-true true b e = refl
 one-true false true e = refl
-one-true false false e = let z : _≡_ {A = ℕ} 0 1 = cc in absurd (omega arith)
+one-true false false e = clash cc
 
 pub offered-heard : (flow : ℕ) (name format : List ℕ) (opening : Opening) (serverFlow : ℕ) (offeredName offeredFormat : List ℕ) →
     same name offeredName && eqb (socketOf flow) (offeredSocket serverFlow) && (eqb (length format) 0 || same format offeredFormat) ≡ true →

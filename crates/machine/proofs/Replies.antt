@@ -3,9 +3,9 @@ use mathlib.Core.Path.{_≡_, _∙_, refl, subst}
 use Prim.Native.Nat.{_<_, _^_, ℕ}
 use mathlib.Core.List.{List, []}
 use mathlib.Core.Bool.{Bool, _&&_, cond, false, true}
-use native.Mathlib.Omega.{arith}
 use lib.Dec.{eqb, lit<}
 use borrow.Author.Tests.{eqb-true}
+use Rattle.bytes_be.proofs.Tests.{clash}
 use Rattle.bytes_be.proofs.Numbers.{Bytes}
 use Rattle.control.specs.declared.MessageType.{MessageType}
 use Rattle.control.specs.declared.MessageType.the-variants.{Open, Ready, Noop, Data, Close}
@@ -34,8 +34,8 @@ use Rattle.machine.proofs.Stages.{Passed, received-holds}
 
 pub replies-read-back : RepliesReadBack
 unfolding strangeFlags
-replies-read-back Open flags type-data reply few = let z : _≡_ {A = ℕ} 0 1 = cc in absurd (omega arith)
-replies-read-back Ready flags type-data reply few = let z : _≡_ {A = ℕ} 0 1 = cc in absurd (omega arith)
+replies-read-back Open flags type-data reply few = clash cc
+replies-read-back Ready flags type-data reply few = clash cc
 replies-read-back Noop flags type-data reply few = rw (eqb-true flags ackReply reply) (plain-read Noop ackReply type-data few refl refl refl)
 replies-read-back Data flags type-data reply few = rw (eqb-true flags ackReply reply) (plain-read Data ackReply type-data few refl refl refl)
 replies-read-back Close flags type-data reply few = rw (eqb-true flags 0 reply) (plain-read Close 0 type-data few refl refl refl)
@@ -106,8 +106,8 @@ replies-only e s bytes name format room message flags type-data reply =
 bare : (message : MessageType) (flags type-data : ℕ) → isReply message flags ≡ true → (r : Endpoint) (name format : List ℕ) →
     (carriedBy r (replyBytes (Frame message flags type-data)) name format (messageWith message flags type-data []) ≡ Carried·Content Content·Nothing) × (asks message flags ≡ false)
 unfolding carriedBy
-bare Open flags type-data reply r name format = let z : _≡_ {A = ℕ} 0 1 = cc in absurd (omega arith)
-bare Ready flags type-data reply r name format = let z : _≡_ {A = ℕ} 0 1 = cc in absurd (omega arith)
+bare Open flags type-data reply r name format = clash cc
+bare Ready flags type-data reply r name format = clash cc
 bare Noop flags type-data reply r name format = (refl, rw (eqb-true flags ackReply reply) refl)
 bare Data flags type-data reply r name format = (refl, rw (eqb-true flags ackReply reply) refl)
 bare Close flags type-data reply r name format = (refl, refl)

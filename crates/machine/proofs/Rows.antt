@@ -5,7 +5,7 @@ use mathlib.Core.Bool.{Bool, _&&_, _||_, cond, false, true}
 use native.Mathlib.Omega.{arith}
 use lib.Dec.{eqb, leb}
 use borrow.Author.Tests.{eqb-false, eqb-true, le-leb, leb-true, ne-eqb}
-use Rattle.bytes_be.proofs.Tests.{both-true}
+use Rattle.bytes_be.proofs.Tests.{both-true, clash}
 use Rattle.control.specs.declared.MessageType.{MessageType}
 use Rattle.control.specs.declared.MessageType.the-variants.{Open, Ready, Noop, Data, Close}
 use Rattle.endpoint.specs.declared.Endpoint.{Endpoint}
@@ -131,7 +131,7 @@ module _ (e : Endpoint) (sound : Sound e) where
     where
       go : (t : Bool) → eqb flow producer && eqb (e .phase) batch ≡ t → notAllowed (allowed t (begun batch (e .n - 1))) ≡ false → (flow ≡ producer) × Acts e (moved e (allowed t (begun batch (e .n - 1))))
       go true there _ = (eqb-true flow producer (both-true (eqb flow producer) (eqb (e .phase) batch) there .0), data-acts)
-      go false there barred = let z : _≡_ {A = ℕ} 0 1 = cc in absurd (omega arith)
+      go false there barred = clash cc
 
   pub sent-noop-acts : notAllowed (noopRow (e .phase) (e .n)) ≡ false → Acts e (moved e (noopRow (e .phase) (e .n)))
   unfolding noopRow
@@ -139,7 +139,7 @@ module _ (e : Endpoint) (sound : Sound e) where
     where
       go : (t : Bool) → leb idle (e .phase) && leb (e .phase) batch ≡ t → notAllowed (allowed t (To (e .phase) (e .n))) ≡ false → Acts e (moved e (allowed t (To (e .phase) (e .n))))
       go true there _ = noop-acts there
-      go false there barred = let z : _≡_ {A = ℕ} 0 1 = cc in absurd (omega arith)
+      go false there barred = clash cc
 
 -- no row leads on from phase 5
 
@@ -165,5 +165,4 @@ row-alive role flow phase n message type-data next count leads = ne-eqb phase sh
     still : phase ≡ shut → ⊥
     still is-shut =
         let same : NotAllowed ≡ To next count = sym (shut-barred role flow n message type-data) ∙ ap (λ (p : ℕ). rowOf role flow p n message type-data) (sym is-shut) ∙ leads in
-        let z : _≡_ {A = ℕ} 0 1 = cc in
-        omega arith
+        clash cc

@@ -7,6 +7,7 @@ use mathlib.Core.List.{List}
 use mathlib.Core.Bool.{Bool, true, false, cond, not}
 use lib.Dec.{eqb}
 use borrow.Author.Tests.{eqb-true}
+use Rattle.bytes_be.proofs.Tests.{clash}
 use Rattle.bytes_be.specs.declared.Place.{Place}
 use Rattle.bundle.specs.declared.Contents.the-variants.{Frames}
 use Rattle.bundle.specs.Reading.{contentsOf, frameOf}
@@ -24,7 +25,7 @@ use Rattle.message.proofs.Stages.{OfMessage, by-stages}
 
 -- a test has one answer
 other : {A : Type 0} → true ≡ false → A
-other e = let z : _≡_ {A = ℕ} 0 1 = cc in absurd (omega arith)
+other e = clash cc
 
 -- a count that is not another than 1
 one : (frames : ℕ) → not (eqb frames 1) ≡ false → frames ≡ 1

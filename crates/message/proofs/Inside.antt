@@ -2,7 +2,6 @@
 -- number of 10 to 15. Assumes nothing.
 use mathlib.Core.Path.{_≡_, refl, subst}
 use Prim.Native.Nat.{_+_, _<_, _^_, _≤_, zero-le, ℕ}
-use native.Mathlib.Omega.{arith}
 use mathlib.Core.List.{List}
 use mathlib.Core.Bool.{Bool, true, false, cond, _&&_}
 use lib.Dec.{ltb, eqb}
@@ -11,7 +10,7 @@ use borrow.Author.Tests.{ltb-true}
 use Rattle.bytes_be.specs.Number.{fromBytes, numberAt}
 use Rattle.bytes_be.specs.Part.{partAt}
 use Rattle.bytes_be.proofs.Numbers.{Bytes, bytes-part, number-below}
-use Rattle.bytes_be.proofs.Tests.{took-first}
+use Rattle.bytes_be.proofs.Tests.{clash, took-first}
 use Rattle.bundle.specs.declared.Frame.the-variants.{At as Frame·At, Behind, BadBundle}
 use Rattle.bundle.specs.Reading.{countOf, frameOf, good, placeOf}
 use Rattle.bundle.proofs.Sums.{body-inside}
@@ -58,7 +57,7 @@ module _ (s : List ℕ) where
   read-inside = by-stages (λ (m : Message). BodyInside (m .body)) s (λ count size control byte flags type-data message contents signed framed. body-there message flags)
 
 unsigned-frame : {byte flags type-data : ℕ} → Unsigned ≡ Signed·Frame byte flags type-data → ⊥
-unsigned-frame e = let z : _≡_ {A = ℕ} 0 1 = cc in omega arith
+unsigned-frame e = clash cc
 
 -- the type-data of a frame that is signed
 signed-small : (s : List ℕ) → Bytes s → (byte flags type-data : ℕ) → signedOf s ≡ Signed·Frame byte flags type-data → type-data < 256 ^ 2

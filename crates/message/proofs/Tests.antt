@@ -1,23 +1,18 @@
 -- A test that a message passes is false of it, and one that it fails is true. Assumes nothing.
 use mathlib.Core.Path.{_≡_, refl, sym, ap, _∙_}
-use Prim.Native.Nat.{ℕ}
 use mathlib.Core.Bool.{Bool, true, false}
-use native.Mathlib.Omega.{arith}
+use Rattle.bytes_be.proofs.Tests.{clash}
 use Rattle.message.specs.declared.Test.{Test}
 use Rattle.message.specs.declared.Test.the-variants.{Passes, Fails}
 use Rattle.message.specs.Reading.{testOf}
 
 passes-false : (test : Bool) → testOf test ≡ Passes → test ≡ false
-passes-false true passes =
-    let clash : _≡_ {A = ℕ} 0 1 = cc in
-    absurd (omega arith)
+passes-false true passes = clash cc
 passes-false false passes = refl
 
 fails-true : (test : Bool) → testOf test ≡ Fails → test ≡ true
 fails-true true fails = refl
-fails-true false fails =
-    let clash : _≡_ {A = ℕ} 0 1 = cc in
-    absurd (omega arith)
+fails-true false fails = clash cc
 
 -- what was found is the test, and the answer is made of it
 pub passed : {found test : Bool} {answer : Test} → found ≡ test → answer ≡ testOf found → answer ≡ Passes → test ≡ false

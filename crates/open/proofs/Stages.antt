@@ -3,9 +3,9 @@ use mathlib.Core.Path.{_≡_, refl, sym, _∙_, subst}
 use Prim.Native.Nat.{ℕ, _+_, _≤_}
 use mathlib.Core.List.{List}
 use mathlib.Core.Bool.{Bool, true, false, not, _||_}
-use native.Mathlib.Omega.{arith}
 use lib.Dec.{leb, eqb}
 use lib.ListN.{length}
+use Rattle.bytes_be.proofs.Tests.{clash}
 use Rattle.bytes_be.specs.Part.{partAt, same}
 use Rattle.wire.specs.declared.Fault.{Fault}
 use Rattle.params.specs.declared.Check.{Check}
@@ -96,7 +96,7 @@ module _ (s : List ℕ) (from to flow : ℕ) (name format : List ℕ) (said : Op
 
     -- a stage that hears an opening has heard this one
     the-same : (t : Bool) (refusal : Refusal) (other : Opening) → refusedIf t refusal opening ≡ Heard other → opening ≡ other
-    the-same true refusal other e = let z : _≡_ {A = ℕ} 0 1 = cc in absurd (omega arith)
+    the-same true refusal other e = clash cc
     the-same false refusal other e = cc
 
     pub its-format : (other : Opening) → pipe ≡ Heard other → (formatted : Open) → formatted ≡ offeredFormat s format opening → formatted ≡ heardBy s from to flow name format

@@ -6,6 +6,7 @@ use mathlib.Core.Bool.{Bool, true, false, cond}
 use lib.ListN.{length, length-append}
 use native.Mathlib.Omega.{arith}
 use borrow.Author.Tests.{leb-true}
+use Rattle.bytes_be.proofs.Tests.{clash}
 use Rattle.bytes_be.specs.Part.{holds, putAt}
 use Rattle.bytes_be.proofs.Parts.{put-then}
 use Rattle.wire.specs.Varint.{shortestOf, varintLength}
@@ -84,7 +85,7 @@ module _ (flow : ℕ) (name format : List ℕ) (limit at : ℕ) (out : List ℕ)
   bad-given e = go (isGood name format) e
     where
       go : (t : Bool) → cond t (Good (length (frameFor flow name format limit))) Bad ≡ Bad → out ≡ cond t (putAt out at (frameFor flow name format limit)) out
-      go true e = let z : _≡_ {A = ℕ} 0 1 = cc in absurd (omega arith)
+      go true e = clash cc
       go false e = refl
 
   module _ (size : ℕ) (good : givenOf flow name format limit ≡ Good size) where
@@ -94,7 +95,7 @@ module _ (flow : ℕ) (name format : List ℕ) (limit at : ℕ) (out : List ℕ)
       where
         go : (t : Bool) → cond t (Good (length (frameFor flow name format limit))) Bad ≡ Good size → (t ≡ true) × (size ≡ length (frameFor flow name format limit))
         go true e = (refl, cc)
-        go false e = let z : _≡_ {A = ℕ} 0 1 = cc in absurd (omega arith)
+        go false e = clash cc
 
     -- the test for room is that of the frame
     pub its-room : (r t : Bool) → r ≡ holds (length out) at size → r ≡ t → holds (length out) at (length (frameFor flow name format limit)) ≡ t

@@ -7,6 +7,7 @@ use lib.ListN.{length}
 use lib.Dec.{ltb, leb, eqb}
 use native.Mathlib.Nat.{add-zero}
 use native.Mathlib.Omega.{arith}
+use Rattle.bytes_be.proofs.Tests.{clash}
 use Rattle.bytes_be.specs.Part.{part, partAt, between, same}
 use Rattle.bytes_be.specs.declared.Place.{Place}
 use Rattle.bytes_be.proofs.Parts.{length-part, part-part}
@@ -34,7 +35,7 @@ abbrev Implies : Check → Check → Type 0
 Implies one other = one ≡ Good → other ≡ Good
 
 pub refused-not-good : {A : Type 0} {why : Fault} → Refused why ≡ Good → A
-refused-not-good e = let z : _≡_ {A = ℕ} 0 1 = cc in absurd (omega arith)
+refused-not-good e = clash cc
 
 refuse-implies : (t : Bool) {t′ : Bool} (kind : Kind) (at at′ : ℕ) {one other : Check} → t ≡ t′ → Implies one other
     → Implies (refuseIf t kind at one) (refuseIf t′ kind at′ other)
@@ -42,7 +43,7 @@ refuse-implies t {t′} kind at at′ {one} {other} e f = go t t′ e
   where
     go : (t t′ : Bool) → t ≡ t′ → Implies (refuseIf t kind at one) (refuseIf t′ kind at′ other)
     go true t′ e = λ h. refused-not-good h
-    go false true e = let z : _≡_ {A = ℕ} 0 1 = cc in absurd (omega arith)
+    go false true e = clash cc
     go false false e = f
 
 good-implies : Implies Good Good
@@ -102,8 +103,8 @@ module _ (s : List ℕ) (n size : ℕ) (there : n + size ≤ length s) where
       where
         pick : (t t′ : Bool) {x x′ y y′ : A} → t ≡ t′ → R x x′ → R y y′ → R (cond t x y) (cond t′ x′ y′)
         pick true true e f g = f
-        pick true false e f g = let z : _≡_ {A = ℕ} 0 1 = cc in absurd (omega arith)
-        pick false true e f g = let z : _≡_ {A = ℕ} 0 1 = cc in absurd (omega arith)
+        pick true false e f g = clash cc
+        pick false true e f g = clash cc
         pick false false e f g = g
 
         go : (t : Bool) (r : Reading) → fieldAt (part s n size) at to ≡ r

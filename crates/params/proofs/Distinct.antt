@@ -5,7 +5,7 @@ use mathlib.Core.Path.{_≡_, refl, sym, _∙_}
 use mathlib.Core.List.{List, [], _∷_, _++_, append-assoc}
 use mathlib.Core.Bool.{Bool, true, false, cond, not, _&&_}
 use lib.Dec.{eqb}
-use native.Mathlib.Omega.{arith}
+use Rattle.bytes_be.proofs.Tests.{clash}
 use Rattle.bytes_be.specs.Part.{partAt, between, same}
 use Rattle.utf8.specs.Text.{wellFormed}
 use Rattle.wire.specs.declared.Kind.the-variants.{Repeated, BadText, Other}
@@ -45,7 +45,7 @@ module _ (s : List ℕ) where
       go : (t : Bool) → same (keyOf s (field .at) (field .next)) key ≡ t → isFound (cond t (valueFound s field) (firstOf (hasKey s key) (valueFound s) Nothing rest)) ≡ false
           → (isFound (firstOf (hasKey s key) (valueFound s) Nothing rest) ≡ false → Without key rest)
           → (same (keyOf s (field .at) (field .next)) key ≡ false) × Without key rest
-      go true p e behind = let z : _≡_ {A = ℕ} 0 1 = cc in absurd (omega arith)
+      go true p e behind = clash cc
       go false p e behind = (p, behind e)
 
   module _ (inner : Field → Check) (from : ℕ) where

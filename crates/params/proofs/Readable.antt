@@ -10,7 +10,7 @@ use native.Mathlib.Omega.{arith}
 use borrow.Author.Tests.{eq-eqb, ne-eqb, eqb-true, eqb-false, ltb-false, leb-true}
 use Rattle.bytes_be.specs.Part.{partAt}
 use Rattle.bytes_be.specs.declared.Place.{Place}
-use Rattle.bytes_be.proofs.Tests.{both-true}
+use Rattle.bytes_be.proofs.Tests.{both-true, clash}
 use Rattle.wire.specs.declared.Kind.{Kind}
 use Rattle.wire.specs.declared.Kind.the-variants.{WireType, Repeated, BadText, Other}
 use Rattle.wire.specs.declared.Field.{Field}
@@ -56,7 +56,7 @@ sound s from to = sound-within (to - from) s to from
 -- ---- "A Value holds exactly one of" its kinds
 
 true-not-false : {A : Type 0} → true ≡ false → A
-true-not-false e = let z : _≡_ {A = ℕ} 0 1 = cc in absurd (omega arith)
+true-not-false e = clash cc
 
 not-one : (n : ℕ) → 0 < n → n ≤ 2 → (n ≡ 1 → ⊥) → n ≡ 2
 not-one zero h l other = absurd (omega arith)
@@ -72,7 +72,7 @@ pub record OneField (fields : List Reading) : Type 0 where
 
 not-false : (t : Bool) → not t ≡ false → t ≡ true
 not-false true e = refl
-not-false false e = let z : _≡_ {A = ℕ} 0 1 = cc in absurd (omega arith)
+not-false false e = clash cc
 
 module _ (inner : Field → Check) (s : List ℕ) where
   -- what the rule says of a good field behind `held`

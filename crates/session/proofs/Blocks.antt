@@ -1,71 +1,184 @@
--- Demand 3 holds of every two blocks that were made, after any calls of entries that meet their contracts. Assumes nothing.
-use mathlib.Core.Path.{_≡_, _∙_, ap, refl, subst, sym}
-use Prim.Native.Nat.{ℕ}
-use mathlib.Core.List.{List}
-use mathlib.Core.Bool.{true}
+-- Entries that meet their contracts do on a block what the tables do on the record that it holds, and so demand 3 holds of them. Assumes nothing.
+use mathlib.Core.Path.{_≡_, _∙_, ap, refl, sym}
+use Prim.Native.Nat.{ℕ, _≤_}
+use mathlib.Core.List.{List, []}
 use native.Mathlib.Omega.{arith}
+use lib.ListN.{length, take}
 use lib.Dec.{eqb}
-use lib.ListN.{length}
-use borrow.Author.Tests.{eqb-true}
-use Rattle.bytes_be.proofs.Tests.{took-first}
+use lib.Seq.{take-all}
+use borrow.Author.Tests.{eqb-true, le-leb, lt-leb, ne-eqb}
+use Rattle.bytes_be.proofs.Tests.{clash, took-first}
+use Rattle.bytes_be.specs.Part.{putAt}
+use Rattle.bytes_be.proofs.Parts.{length-put, part-put}
 use Rattle.endpoint.specs.declared.Endpoint.{Endpoint}
-use Rattle.endpoint.specs.declared.Entry.{Entry}
-use Rattle.endpoint.specs.declared.Given.{Given}
-use Rattle.endpoint.specs.declared.Given.the-variants.{Good, Bad}
-use Rattle.endpoint.specs.Record.{freshClient, freshOf, freshServer, givenNumber, givenOf}
-use Rattle.endpoint.specs.Block.{isGood, loadOf}
-use Rattle.endpoint.proofs.Round.{loaded-good}
-use Rattle.fbdp.specs.Blocks.{MakeAnswer, makeNumber, stored}
+use Rattle.endpoint.specs.Record.{givenOf, givenNumber}
+use Rattle.endpoint.specs.Block.{bytesOf, loadOf}
+use Rattle.endpoint.proofs.Round.{block-told, loaded-good, stored-loads}
+use Rattle.endpoint.proofs.Stored.{length-block}
+use Rattle.receiving.specs.declared.Answer.{Answer}
+use Rattle.receiving.specs.declared.Answer.the-variants.{Heard as Answer·Heard, Refused}
+use Rattle.receiving.specs.declared.Reply.{Reply}
+use Rattle.receiving.specs.declared.Reply.the-variants.{Nothing, Frame}
+use Rattle.receiving.specs.declared.Received.{Received}
+use Rattle.receiving.specs.Receiving.{answerNumber, receivedOf, replied}
+use Rattle.receiving.specs.Refusing.{refused, unchanged}
+use Rattle.sending.specs.declared.Sent.{Sent}
+use Rattle.sending.specs.Calls.{Call, outgoing, written}
+use Rattle.sending.specs.Sending.{leftBy, sendOf}
+use Rattle.sending.proofs.Decided.{accepted-passed, accepted-sent}
 use Rattle.machine.specs.Good.{Sound}
-use Rattle.session.specs.World.{End, World, made, run, side, start, viewed, Client, Server}
-use Rattle.session.specs.Confirmations.{Ledger}
-use Rattle.session.specs.Invariant.{Invariant}
-use Rattle.session.specs.Laws.{atOnce, ByTables}
-use Rattle.session.specs.Blocks.{DemandOnBlocks, onBlocks}
-use Rattle.session.proofs.Demand.{start-keeps, run-keeps, invariant-holds}
-use Rattle.session.proofs.Follows.{heldBy}
-use Rattle.session.proofs.Entries.{entries-laws, stored-back}
+use Rattle.machine.specs.Refusals.{Outcome, stays, closes, hears}
+use Rattle.machine.proofs.Refusals.{receive-comes-to}
+use Rattle.fbdp.specs.Blocks.{MakeAnswer, makeNumber, SendOnBlock, ReceiveOnBlock, answerSlots, heardSlots, keptAfter, keptBy, leaves, replyLength, stored}
+use Rattle.machine.specs.Programs.{Making, freshBy, toldOf, replies, outcomeOf, ReceiveOutcome, ignored, tables}
+use Rattle.session.specs.Blocks.{Entries, Meets, onBlocks, toldBy, receiveTold, repliesBy, TablesMeet, byTables, DemandOnBlocks}
+use Rattle.session.specs.Laws.{onRecords}
+use Rattle.session.proofs.Follows.{Alike, Follows, follows-laws, heldBy}
+use Rattle.session.proofs.Tables.{tables-laws}
+use Rattle.session.proofs.Told.{answer-told, reply-told}
+use Rattle.session.proofs.Demand.{laws-suffice}
 
--- what was made has 64 bytes and the flow and limit of an endpoint, and is loaded again
-
-record MadeGood (fresh : Endpoint) (memory block : List ℕ) : Type 0 where
-  full : length memory ≡ 64
-  given : givenOf (fresh .flow) (fresh .limit) ≡ Good
-  kept : block ≡ stored fresh memory
-
-given-good : (given : Given) → givenNumber given ≡ 0 → given ≡ Good
-given-good Good number = refl
-given-good Bad number = absurd (omega arith)
-
-made-good : (fresh : Endpoint) (memory block : List ℕ) → MakeAnswer fresh memory 0 block → MadeGood fresh memory block
-unfolding makeNumber
-made-good fresh memory block answer =
-    let passed = took-first (eqb (length memory) 64) (λ one. omega arith) (sym (answer .numbered)) in
+pub tables-meet : TablesMeet
+unfolding byTables
+tables-meet =
     record {
-      full = eqb-true (length memory) 64 (passed .0);
-      given = given-good (givenOf (fresh .flow) (fresh .limit)) (passed .1);
-      kept = rw (← answer .numbered) at (answer .kept);
+      making = λ making block. record { numbered = refl; kept = refl };
+      calls = λ call fits block out. record { finished = record { numbered = refl; counted = refl; kept = refl }; left = refl };
+      messages = λ s name format block out. record { numbered = refl; told = refl; kept = refl; left = refl };
     }
 
-made-loads : (fresh : Endpoint) (memory block : List ℕ) → MadeGood fresh memory block → Sound fresh → loadOf block ≡ fresh
-made-loads fresh memory block good sound = ap loadOf (good .kept) ∙ stored-back fresh sound memory (good .full)
+-- a record that is stored in 64 bytes is loaded again
 
-both-good : {flow limit serverFlow : ℕ} {pick : ℕ → List Entry → List Entry} {dues server-dues : Ledger} (w : World (List ℕ)) → Invariant flow limit serverFlow ByTables pick (viewed loadOf w) dues server-dues → (end : End) → isGood (side w end .self) ≡ true
-both-good w invariant Client = sym (loaded-good _) ∙ invariant .linked .here .sound .is-good
-both-good w invariant Server = sym (loaded-good _) ∙ invariant .linked .there .sound .is-good
+module _ (e : Endpoint) (sound : Sound e) (block : List ℕ) (full : length block ≡ 64) where
+  long : length (bytesOf e) ≡ 64
+  long = length-block e (sound .sized .full)
 
+  stored-whole : stored e block ≡ bytesOf e
+  unfolding stored
+  stored-whole =
+      sym (take-all (length (bytesOf e)) (putAt block 0 (bytesOf e)) (omega (arith, long, length-put block 0 (bytesOf e))))
+      ∙ part-put block 0 (bytesOf e) (omega (arith, long))
+
+  stored-back : loadOf (stored e block) ≡ e
+  stored-back = ap loadOf stored-whole ∙ stored-loads e (sound .sized) (sound .is-good)
+
+-- the block of a good record has 64 bytes
+block-full : (block : List ℕ) → Sound (loadOf block) → length block ≡ 64
+block-full block sound = block-told block (sym (loaded-good block) ∙ sound .is-good) .full
+
+-- a send: the bytes that the entry wrote are those of the call, and its block holds the record after it
+
+module _ (block : List ℕ) (call : Call) (out : List ℕ) (number count : ℕ) (block′ out′ : List ℕ)
+    (answer : SendOnBlock call block out number count block′ out′) where
+  abbrev result : Sent
+  result = sendOf (loadOf block) call (length out)
+
+  module _ (accepts : result .number ≡ 0) where
+    bytes-out : take count out′ ≡ written (loadOf block) call
+    unfolding leftBy
+    bytes-out =
+        let before = loadOf block in
+        let whole = accepted-sent before (outgoing before call) (length out) accepts in
+        let counted : count ≡ length (written before call) = answer .finished .counted ∙ ap (λ (s : Sent). s .written) whole in
+        let put : out′ ≡ putAt out 0 (written before call) = rw accepts at (answer .left) in
+        let room = accepted-passed before (outgoing before call) (length out) accepts .fits in
+        (λ i. take (counted i) (put i)) ∙ part-put out 0 (written before call) (omega (arith, room))
+
+    sent-back : Sound (loadOf block) → Sound (result .next) → loadOf block′ ≡ result .next
+    unfolding keptAfter
+    sent-back sound next-sound =
+        let kept : block′ ≡ stored (result .next) block = rw accepts at (answer .finished .kept) in
+        ap loadOf kept ∙ stored-back (result .next) next-sound block (block-full block sound)
+
+  refused-kept : (number ≡ 0 → ⊥) → block′ ≡ block
+  unfolding keptAfter
+  refused-kept refusal = rw (← answer .finished .numbered, ne-eqb number 0 refusal) at (answer .finished .kept)
+
+-- a receive: what the entry told, wrote and left is what the record in its block came to
+
+received-back : (block : List ℕ) (received : Received) → Outcome (loadOf block) received → length block ≡ 64 → Sound (received .next)
+    → loadOf (keptBy received block) ≡ received .next
+unfolding keptBy leaves unchanged refused
+received-back block _ (stays number among) full sound = simp (le-leb 1 number (among .0), le-leb number 3 (among .1))
+received-back block _ (closes number said among) full sound =
+    simp (le-leb 1 number (omega (arith, among .0)), lt-leb number 3 (omega (arith, among .0))) (stored-back _ sound block full)
+received-back block _ (hears heard next reply) full sound = stored-back next sound block full
+
+no-reply : (answer : Answer) (reply : Reply) (out : List ℕ) → replies reply ≡ []
+    → repliesBy (answerSlots answer (replyLength reply)) (replied reply out) ≡ []
+unfolding heardSlots
+no-reply (Answer·Heard heard) Nothing out none = refl
+no-reply (Refused number) Nothing out none = refl
+no-reply answer (Frame message flags type-data) out none = clash cc
+
+module _ (s name format block out : List ℕ) (number : ℕ) (slots block′ out′ : List ℕ)
+    (answer : ReceiveOnBlock s name format block out number slots block′ out′) where
+  abbrev heard : Received
+  heard = receivedOf (loadOf block) s name format (length out)
+
+  abbrev outcome : ReceiveOutcome (List ℕ)
+  outcome = receiveTold s (record { number = number; slots = slots; block = block′; out = out′ })
+
+  received-told : outcome .told ≡ toldOf s (heard .answer)
+  received-told = ap (toldBy s) (answer .told) ∙ answer-told s (heard .answer) (replyLength (heard .reply))
+
+  received-alike : 14 ≤ length out → Sound (loadOf block) → Sound (heard .next) → Alike loadOf outcome (outcomeOf s heard)
+  received-alike room sound next-sound =
+      let comes = receive-comes-to (loadOf block) s name format (length out) in
+      record {
+        number = answer .numbered;
+        told = received-told;
+        replied = (λ i. repliesBy (answer .told i) (answer .left i)) ∙ reply-told (heard .answer) (heard .reply) out room;
+        next = ap loadOf (answer .kept) ∙ received-back block heard comes (block-full block sound) next-sound;
+      }
+
+  received-ignored : (k : ℕ) → (2 ≤ k) × (k ≤ 3) → outcomeOf s heard ≡ ignored k (loadOf block) → outcome ≡ ignored k block
+  unfolding keptBy leaves
+  received-ignored k among same =
+      let number-of : answerNumber (heard .answer) ≡ k = ap (λ (r : ReceiveOutcome Endpoint). r .number) same in
+      let none-told = received-told ∙ ap (λ (r : ReceiveOutcome Endpoint). r .told) same in
+      let none = no-reply (heard .answer) (heard .reply) out (ap (λ (r : ReceiveOutcome Endpoint). r .replied) same) in
+      let none-replied = (λ i. repliesBy (answer .told i) (answer .left i)) ∙ none in
+      let kept : block′ ≡ block = answer .kept ∙ simp (number-of, le-leb 1 k (omega (arith, among .0)), le-leb k 3 (among .1)) in
+      λ i. record { number = (answer .numbered ∙ number-of) i; told = none-told i; replied = none-replied i; next = kept i }
+
+-- a making: what was made has 64 bytes and is loaded again
+
+made-back : (block : List ℕ) (made : Endpoint) (number : ℕ) (block′ : List ℕ) → MakeAnswer made block number block′ → number ≡ 0
+    → (givenNumber (givenOf (made .flow) (made .limit)) ≡ 0) × (Sound made → loadOf block′ ≡ made)
+unfolding makeNumber
+made-back block made number block′ answer accepts =
+    let accepted = sym (answer .numbered) ∙ accepts in
+    let passed = took-first (eqb (length block) 64) (λ one. omega arith) accepted in
+    let kept : block′ ≡ stored made block = rw accepted at (answer .kept) in
+    (passed .1, λ sound. ap loadOf kept ∙ stored-back made sound block (eqb-true (length block) 64 (passed .0)))
+
+module _ (entries : Entries) (meets : Meets entries) where
+  entries-make : (block : List ℕ) (making : Making) → entries .makes making block .number ≡ 0
+      → (tables .make (loadOf block) making .number ≡ 0)
+      × (Sound (tables .make (loadOf block) making .next) → loadOf (entries .makes making block .next) ≡ tables .make (loadOf block) making .next)
+  entries-make block making accepts =
+      let back = made-back block (freshBy making) _ _ (meets .making making block) accepts in
+      (back .0, rw (back .0) (back .1))
+
+  entries-follow : Follows (onBlocks entries) tables loadOf length onRecords
+  entries-follow =
+      record {
+        room = λ out. refl;
+        makes = entries-make;
+        numbered = λ block call out fits. meets .calls call fits block out .finished .numbered;
+        writes = λ block call out sound fits accepts next-sound.
+            let answer = meets .calls call fits block out in
+            (bytes-out block call out _ _ _ _ answer accepts, sent-back block call out _ _ _ _ answer accepts sound next-sound);
+        stays = λ block call out sound fits refusal. refused-kept block call out _ _ _ _ (meets .calls call fits block out) refusal;
+        receives = λ block m name format out sound room next-sound.
+            received-alike (m .bytes) name format block out _ _ _ _ (meets .messages (m .bytes) name format block out) room sound next-sound;
+        ignores = λ block m name format out k among same.
+            received-ignored (m .bytes) name format block out _ _ _ _ (meets .messages (m .bytes) name format block out) k among same;
+      }
+
+-- so they have the laws, and demand 3 holds of them
 pub demand-on-blocks : DemandOnBlocks
-unfolding freshOf
-demand-on-blocks entries meets flow limit serverFlow memory client-block other-memory server-block client-made server-made events fit =
-    let client = made-good (freshClient flow limit) memory client-block client-made in
-    let server = made-good (freshServer serverFlow) other-memory server-block server-made in
-    let begun = start-keeps flow limit serverFlow (client .given) (server .given) ByTables (atOnce .pick) in
-    let client-loads = made-loads (freshClient flow limit) memory client-block client (begun .linked .here .sound) in
-    let server-loads = made-loads (freshServer serverFlow) other-memory server-block server (begun .linked .there .sound) in
-    let begins : record { client = made (loadOf client-block); server = made (loadOf server-block) } ≡ start flow limit serverFlow =
-    λ i. record { client = made (client-loads i); server = made (server-loads i) } in
-    let laws = entries-laws entries meets in
-    let loaded = subst (λ (w : World Endpoint). Invariant flow limit serverFlow ByTables (atOnce .pick) w (atOnce .ledger (w .client .self)) (atOnce .ledger (w .server .self))) (sym begins) begun in
-    let invariant = run-keeps (onBlocks entries) loadOf (λ block. Sound (loadOf block)) ByTables (heldBy loadOf atOnce) laws flow limit serverFlow _ events fit
-    (record { invariant = loaded; fine = loaded .linked .here .sound; fine-server = loaded .linked .there .sound }) in
-    record { good = both-good _ (invariant .invariant); holds = invariant-holds (onBlocks entries) loadOf (λ block. Sound (loadOf block)) ByTables (heldBy loadOf atOnce) laws flow limit serverFlow _ invariant }
+demand-on-blocks entries meets =
+    laws-suffice (List ℕ) (List ℕ) (onBlocks entries) (heldBy loadOf onRecords)
+    (follows-laws (onBlocks entries) tables loadOf length onRecords (entries-follow entries meets) tables-laws)

@@ -1,26 +1,26 @@
--- What an end sends or hears is counted: what was sent and accepted, with what is left of the batch, stays within what was agreed. Assumes
--- nothing.
-use mathlib.Core.Path.{_≡_, refl}
+-- What an end sends or hears is counted: what was sent and accepted, with what is left of the batch, stays within what was agreed, and what was
+-- agreed within what was offered. Assumes nothing.
+use mathlib.Core.Path.{_≡_, refl, sym, ap, subst, _∙_}
 use Prim.Native.Nat.{ℕ, _+_, _-_, _≤_, zero-le}
 use mathlib.Core.List.{List, [], _∷_, _++_, append-nil}
-use mathlib.Core.Bool.{true, cond, _&&_, _||_}
+use mathlib.Core.Bool.{Bool, true, false, cond, _&&_, _||_}
 use native.Mathlib.Omega.{arith}
 use lib.Dec.{eqb, leb}
 use lib.ListN.{length, length-append}
-use borrow.Author.Tests.{eq-eqb, leb-true}
-use Rattle.bytes_be.proofs.Tests.{both-true}
+use borrow.Author.Tests.{eq-eqb, leb-true, ne-eqb}
+use Rattle.bytes_be.proofs.Tests.{both-true, clash}
 use Rattle.control.specs.declared.MessageType.{MessageType}
 use Rattle.control.specs.declared.MessageType.the-variants.{Open, Ready, Noop, Data, Close}
 use Rattle.endpoint.specs.declared.Endpoint.{Endpoint}
-use Rattle.endpoint.specs.Record.{offer, batch, countFits, closed}
+use Rattle.endpoint.specs.Record.{idle, offer, batch, shut, countFits, closed}
 use Rattle.endpoint.proofs.Told.{good-told}
 use Rattle.sending.specs.Calls.{Call, messageOf, typeDataOf, OPEN, READY, DATA, NOOP, CLOSE}
 use Rattle.machine.specs.Good.{Sound}
-use Rattle.session.specs.World.{End, across, Datum, Ending, History, agreed, dataSent, readyCount, batchAfter, afterCall, afterMessage, Client, Server}
+use Rattle.session.specs.World.{End, across, Datum, Ending, History, dataSent, readyCount, recentAfter, afterCall, afterMessage, Client, Server}
 use Rattle.session.specs.Packets.{Packet, rowMessage, typeDataIn, dataIn, readyIn, Called, Confirms, Closes}
 use Rattle.session.specs.Turns.{roleOf}
-use Rattle.session.specs.Demand.{sum, newest}
-use Rattle.session.specs.Invariant.{left, Within, Counted}
+use Rattle.session.specs.Demand.{agreed, offered, sum, newest, nonZero, EachAtMost}
+use Rattle.session.specs.Invariant.{left, Within, Taken, Counted}
 use Rattle.session.proofs.Table.{Begun, nothing, something, Moved, opens, offers, takes, gives, rests, closes}
 
 -- how many data a message carries
@@ -84,7 +84,7 @@ module _ (counts : List ℕ) (batched : List Datum) (all : ℕ) where
   -- the row of a message that the end `writer` writes leads its writer and its hearer from within to within
   row-within : (writer : End) {flow phase n type-data next m : ℕ} {message : MessageType} → Moved (roleOf writer) flow phase n message type-data next m
       → (phase ≡ batch → 1 ≤ n) → Within counts all (length batched) phase n
-      → Within (counts ++ agreement writer message type-data) (all + dataCount message) (length (batchAfter writer (readyCount message type-data) batched) + dataCount message) next m
+      → Within (counts ++ agreement writer message type-data) (all + dataCount message) (length (recentAfter writer (readyCount message type-data) batched) + dataCount message) next m
   row-within Client (opens is-client begins) some w = kept-within zero-le w
   row-within Client (offers differs low high begins) some w = absurd (differs refl)
   row-within Client {type-data = count} (takes is-client offered few begins) some w =
@@ -95,7 +95,7 @@ module _ (counts : List ℕ) (batched : List Datum) (all : ℕ) where
   row-within Client (closes low high) some w = kept-within zero-le w
   row-within Server (opens is-client begins) some w = kept-within zero-le w
   row-within Server (offers differs low high begins) some w = kept-within (omega (arith, offer-left begins)) w
-  row-within Server (takes is-client offered few begins) some w = let z : _≡_ {A = ℕ} 0 1 = cc in absurd (omega arith)
+  row-within Server (takes is-client offered few begins) some w = clash cc
   row-within Server (gives produces batching begins) some w = given-within batching (some batching) begins w
   row-within Server (rests low high) some w = kept-within (omega arith) w
   row-within Server (closes low high) some w = kept-within zero-le w
@@ -107,41 +107,171 @@ batch-some e sound batching =
     let counts : cond (eqb (e .phase) offer || eqb (e .phase) batch) (leb 1 (e .n) && leb (e .n) 65535) (eqb (e .n) 0) ≡ true = good-told e (sound .is-good) .counted in
     leb-true 1 (e .n) (both-true (leb 1 (e .n)) (leb (e .n) 65535) (rw batching at counts) .0)
 
--- what was agreed after a call, and after a message was heard
+-- ---- offers
 
-called-agreed : (end : End) (past : History) (call : Call) → agreed end (afterCall end past call) ≡ agreed end past ++ agreement end (messageOf call) (typeDataOf call)
+non-zero-append : (a b : List ℕ) → nonZero (a ++ b) ≡ nonZero a ++ nonZero b
+non-zero-append [] b = refl
+non-zero-append (count ∷ rest) b = go (eqb count 0) (non-zero-append rest b)
+  where
+    go : (t : Bool) {all : List ℕ} → all ≡ nonZero rest ++ nonZero b → cond t all (count ∷ all) ≡ cond t (nonZero rest) (count ∷ nonZero rest) ++ nonZero b
+    go true same = same
+    go false same = ap (λ (l : List ℕ). count ∷ l) same
+
+-- one more offer
+each-more : (counts made : List ℕ) (count : ℕ) → EachAtMost counts made → EachAtMost counts (made ++ (count ∷ []))
+each-more [] made count each = tt
+each-more (first ∷ rest) [] count each = absurd each
+each-more (first ∷ rest) (most ∷ others) count each = (each .0, each-more rest others count (each .1))
+
+-- the last one is answered
+each-last : (counts answered : List ℕ) (count most : ℕ) → EachAtMost counts (answered ++ (most ∷ [])) → length answered ≡ length counts → count ≤ most
+    → EachAtMost (counts ++ (count ∷ [])) (answered ++ (most ∷ []))
+each-last [] [] count most each long few = (few, tt)
+each-last [] (next ∷ others) count most each long few = absurd (omega (arith, long))
+each-last (first ∷ rest) [] count most each long few = absurd (omega (arith, long))
+each-last (first ∷ rest) (next ∷ others) count most each long few = (each .0, each-last rest others count most (each .1) (omega (arith, long)) few)
+
+begun-later : {count next m : ℕ} → Begun batch count next m → next ≡ offer → ⊥
+begun-later (nothing none) is = omega (arith, is)
+begun-later (something some) is = omega (arith, is)
+
+-- the offer that a message makes: that of a READY of the server
+abbrev offering : End → MessageType → ℕ → List ℕ
+offering Client message count = []
+offering Server message count = readyCount message count
+
+module _ (counts made : List ℕ) where
+  -- a message that makes and answers no offer, where none is open
+  others-taken : {phase n next m : ℕ} → phase ≤ batch → (phase ≡ offer → ⊥) → (next ≡ offer → ⊥) → Taken counts made phase n
+      → Taken (counts ++ []) (made ++ []) next m
+  others-taken low neither later t =
+      simp append-nil
+      (record { each = t .each; answered = []; open-offer = λ is. absurd (later is); no-offer = λ still other. t .no-offer low neither })
+
+  rests-taken : {phase n : ℕ} → Taken counts made phase n → Taken (counts ++ []) (made ++ []) phase n
+  rests-taken t = simp append-nil t
+
+  closes-taken : {phase n : ℕ} → Taken counts made phase n → Taken counts made shut 0
+  closes-taken t =
+      record { each = t .each; answered = []; open-offer = λ is. absurd (omega (arith, is)); no-offer = λ low other. absurd (omega (arith, low)) }
+
+  -- an offer of 0 is none
+  offers-taken : {phase n count next m : ℕ} → phase ≤ idle → Begun offer count next m → Taken counts made phase n
+      → Taken (counts ++ []) (made ++ nonZero (count ∷ [])) next m
+  offers-taken high (nothing none) t = rw none (others-taken (omega (arith, high)) (λ is. omega (arith, is, high)) (λ is. omega (arith, is)) t)
+  offers-taken {count = count} high (something some) t =
+      simp (ne-eqb count 0 (λ none. omega (arith, none, some)), append-nil)
+      (record {
+        each = each-more counts made count (t .each);
+        answered = made;
+        open-offer = λ is. (refl, t .no-offer (omega (arith, high)) (λ offered. omega (arith, offered, high)));
+        no-offer = λ low other. absurd (other refl);
+      })
+
+  takes-taken : {phase n count next m : ℕ} → phase ≡ offer → count ≤ n → Begun batch count next m → Taken counts made phase n
+      → Taken (counts ++ (count ∷ [])) (made ++ []) next m
+  takes-taken {n = n} {count = count} offered few begins t =
+      let last = t .open-offer offered in
+      let long = ap length (last .0) ∙ length-append (t .answered) (n ∷ []) in
+      rw append-nil
+      (record {
+        each =
+            subst (EachAtMost (counts ++ (count ∷ []))) (sym (last .0))
+            (each-last counts (t .answered) count n (subst (EachAtMost counts) (last .0) (t .each)) (last .1) few);
+        answered = [];
+        open-offer = λ is. absurd (begun-later begins is);
+        no-offer = λ low other. omega (arith, long, last .1, length-append counts (count ∷ []));
+      })
+
+  -- the row of a message leads its writer and its hearer from offers taken to offers taken
+  row-taken : (writer : End) {flow phase n type-data next m : ℕ} {message : MessageType} → Moved (roleOf writer) flow phase n message type-data next m
+      → Taken counts made phase n → Taken (counts ++ agreement writer message type-data) (made ++ nonZero (offering writer message type-data)) next m
+  row-taken Client (opens is-client begins) t = others-taken (omega (arith, begins)) (λ is. omega (arith, is, begins)) (λ is. omega (arith, is)) t
+  row-taken Client (offers differs low high begins) t = absurd (differs refl)
+  row-taken Client (takes is-client offered few begins) t = takes-taken offered few begins t
+  row-taken Client (gives produces batching begins) t = others-taken (omega (arith, batching)) (λ is. omega (arith, is, batching)) (begun-later begins) t
+  row-taken Client (rests low high) t = rests-taken t
+  row-taken Client (closes low high) t = rests-taken (closes-taken t)
+  row-taken Server (opens is-client begins) t = clash cc
+  row-taken Server (offers differs low high begins) t = offers-taken high begins t
+  row-taken Server (takes is-client offered few begins) t = clash cc
+  row-taken Server (gives produces batching begins) t = others-taken (omega (arith, batching)) (λ is. omega (arith, is, batching)) (begun-later begins) t
+  row-taken Server (rests low high) t = rests-taken t
+  row-taken Server (closes low high) t = rests-taken (closes-taken t)
+
+-- ---- histories
+
+-- what was agreed and offered after a call, and after a message was heard
+
+called-agreed : (end : End) (past : History) (call : Call)
+    → agreed end (afterCall end past call) ≡ agreed end past ++ agreement end (messageOf call) (typeDataOf call)
 called-agreed Client past call = refl
 called-agreed Server past call = rw append-nil refl
 
-heard-agreed : (end : End) (past : History) (m : Packet) (arrived : List Datum) (ending : Ending)
-    → agreed end (afterMessage end past arrived (readyIn m) ending) ≡ agreed end past ++ agreement (across end) (rowMessage m) (typeDataIn m)
-heard-agreed Client past m arrived ending = rw append-nil refl
-heard-agreed Server past m arrived ending = refl
+called-offered : (end : End) (past : History) (call : Call)
+    → offered end (afterCall end past call) ≡ offered end past ++ nonZero (offering end (messageOf call) (typeDataOf call))
+called-offered Client past call = rw append-nil refl
+called-offered Server past call = non-zero-append (past .readies) (readyCount (messageOf call) (typeDataOf call))
 
-module _ (end : End) (e : Endpoint) (sound : Sound e) (past : History) (counted : Counted end past e) (next : Endpoint) (phase n : ℕ) (phased : next .phase ≡ phase) (numbered : next .n ≡ n) where
+module _ (end : End) (past : History) (m : Packet) (arrived : List Datum) (ending : Ending) where
+  heard-agreed : agreed end (afterMessage end past arrived (readyIn m) ending) ≡ agreed end past ++ agreement (across end) (rowMessage m) (typeDataIn m)
+  heard-agreed = go end
+    where
+      go : (end : End) → agreed end (afterMessage end past arrived (readyIn m) ending) ≡ agreed end past ++ agreement (across end) (rowMessage m) (typeDataIn m)
+      go Client = rw append-nil refl
+      go Server = refl
+
+  heard-offered : offered end (afterMessage end past arrived (readyIn m) ending)
+      ≡ offered end past ++ nonZero (offering (across end) (rowMessage m) (typeDataIn m))
+  heard-offered = go end
+    where
+      go : (end : End) → offered end (afterMessage end past arrived (readyIn m) ending)
+          ≡ offered end past ++ nonZero (offering (across end) (rowMessage m) (typeDataIn m))
+      go Client = non-zero-append (past .readies-heard) (readyIn m)
+      go Server = rw append-nil refl
+
+module _ (end : End) (e : Endpoint) (sound : Sound e) (past : History) (counted : Counted end past e) (next : Endpoint) (phase n : ℕ)
+    (phased : next .phase ≡ phase) (numbered : next .n ≡ n) where
+  abbrev all : ℕ
+  all = length (past .sent) + length (past .accepted)
+
   -- an end sends
-  pub sent-counted : (flow : ℕ) (call : Call) → Moved (roleOf end) flow (e .phase) (e .n) (messageOf call) (typeDataOf call) phase n → Counted end (afterCall end past call) next
+  pub sent-counted : (flow : ℕ) (call : Call) → Moved (roleOf end) flow (e .phase) (e .n) (messageOf call) (typeDataOf call) phase n
+      → Counted end (afterCall end past call) next
   sent-counted flow call moves =
-      let after = row-within (agreed end past) (past .batch) (length (past .sent) + length (past .accepted)) end moves (batch-some e sound) counted in
+      let after = row-within (agreed end past) (past .recent) all end moves (batch-some e sound) (counted .within) in
       let carries = carried-count (Called e call) in
-      rw (called-agreed end past call, phased, numbered)
-      (record {
-        in-all = omega (arith, after .in-all, carries, length-append (past .sent) (dataSent call));
-        in-newest = omega (arith, after .in-newest);
-      })
+      record {
+        within =
+            rw (called-agreed end past call, phased, numbered)
+            (record {
+              in-all = omega (arith, after .in-all, carries, length-append (past .sent) (dataSent call));
+              in-newest = omega (arith, after .in-newest);
+            });
+        taken =
+            rw (called-agreed end past call, called-offered end past call, phased, numbered)
+            (row-taken (agreed end past) (offered end past) end moves (counted .taken));
+      }
 
   -- an end hears what the other wrote
-  pub heard-counted : (flow : ℕ) (m : Packet) (ending : Ending) → Moved (roleOf (across end)) flow (e .phase) (e .n) (rowMessage m) (typeDataIn m) phase n
+  pub heard-counted : (flow : ℕ) (m : Packet) (ending : Ending)
+      → Moved (roleOf (across end)) flow (e .phase) (e .n) (rowMessage m) (typeDataIn m) phase n
       → Counted end (afterMessage end past (dataIn m) (readyIn m) ending) next
   heard-counted flow m ending moves =
-      let after = row-within (agreed end past) (past .batch) (length (past .sent) + length (past .accepted)) (across end) moves (batch-some e sound) counted in
+      let after = row-within (agreed end past) (past .recent) all (across end) moves (batch-some e sound) (counted .within) in
       let carries = carried-count m in
-      let batched = length-append (batchAfter (across end) (readyIn m) (past .batch)) (dataIn m) in
-      rw (heard-agreed end past m (dataIn m) ending, phased, numbered)
-      (record {
-        in-all = omega (arith, after .in-all, carries, length-append (past .accepted) (dataIn m));
-        in-newest = omega (arith, after .in-newest, carries, batched);
-      })
+      let batched = length-append (recentAfter (across end) (readyIn m) (past .recent)) (dataIn m) in
+      record {
+        within =
+            rw (heard-agreed end past m (dataIn m) ending, phased, numbered)
+            (record {
+              in-all = omega (arith, after .in-all, carries, length-append (past .accepted) (dataIn m));
+              in-newest = omega (arith, after .in-newest, carries, batched);
+            });
+        taken =
+            rw (heard-agreed end past m (dataIn m) ending, heard-offered end past m (dataIn m) ending, phased, numbered)
+            (row-taken (agreed end past) (offered end past) (across end) moves (counted .taken));
+      }
 
 -- an end closes
 
@@ -149,11 +279,20 @@ nothing-agreed : (end : End) (past : History) (ending : Ending) → agreed end (
 nothing-agreed Client past ending = refl
 nothing-agreed Server past ending = append-nil (past .readies-heard)
 
-pub closed-counted : (end : End) (e : Endpoint) (past : History) → Counted end past e → (ending : Ending) → Counted end (afterMessage end past [] [] ending) (closed e)
+nothing-offered : (end : End) (past : History) (ending : Ending) → offered end (afterMessage end past [] [] ending) ≡ offered end past
+nothing-offered Client past ending = ap nonZero (append-nil (past .readies-heard))
+nothing-offered Server past ending = refl
+
+pub closed-counted : (end : End) (e : Endpoint) (past : History) → Counted end past e → (ending : Ending)
+    → Counted end (afterMessage end past [] [] ending) (closed e)
 unfolding closed
 closed-counted end e past counted ending =
-    rw (nothing-agreed end past ending)
-    (record {
-      in-all = omega (arith, counted .in-all, length-append (past .accepted) []);
-      in-newest = omega (arith, counted .in-newest, length-append (past .batch) []);
-    })
+    record {
+      within =
+          rw (nothing-agreed end past ending)
+          (record {
+            in-all = omega (arith, counted .within .in-all, length-append (past .accepted) []);
+            in-newest = omega (arith, counted .within .in-newest, length-append (past .recent) []);
+          });
+      taken = rw (nothing-agreed end past ending, nothing-offered end past ending) (closes-taken (agreed end past) (offered end past) (counted .taken));
+    }

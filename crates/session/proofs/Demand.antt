@@ -1,38 +1,29 @@
--- Demand 3: a fresh client and a fresh server have the invariant, every list of calls of a program that has the laws leaves it, and where it holds
--- the demand does. Assumes nothing.
+-- Demand 3: where the invariant holds the demand does, and every list of calls of a program that has the laws leaves it. Assumes nothing.
 use mathlib.Core.Path.{_≡_, refl, sym, _∙_, ap, subst}
 use Prim.Native.Nat.{ℕ, _+_, _≤_, _<_}
-use mathlib.Core.List.{List, [], _∷_, map, flatMap}
-use mathlib.Core.Bool.{Bool, true, false, cond, _&&_, _||_}
+use mathlib.Core.List.{List, [], _∷_, _++_, append-nil, map, flatMap}
+use mathlib.Core.Bool.{Bool, true, false, cond, _||_}
 use native.Mathlib.Omega.{arith}
-use lib.Dec.{eqb, leb}
+use lib.Dec.{eqb}
 use lib.ListN.{length, length-append}
 use borrow.Author.Tests.{eqb-true, eqb-false}
-use Rattle.bytes_be.proofs.Tests.{took-first}
-use Rattle.double.specs.Limit.{mostLimit, inLimits}
+use Rattle.bytes_be.proofs.Tests.{clash}
 use Rattle.endpoint.specs.declared.Endpoint.{Endpoint}
 use Rattle.endpoint.specs.declared.Entry.{Entry}
-use Rattle.endpoint.specs.declared.Given.the-variants.{Good}
-use Rattle.endpoint.specs.Record.{client, server, fresh, opening, idle, offer, batch, goodFlow, givenOf, freshClient, freshOf, freshServer}
-use Rattle.endpoint.proofs.StaysGood.{fresh-good, fresh-sized}
+use Rattle.endpoint.specs.Record.{fresh, opening, idle, offer, batch}
 use Rattle.sending.specs.Calls.{Call, OPEN, READY, DATA}
-use Rattle.machine.specs.Good.{Sound}
-use Rattle.session.specs.World.{End, across, Ending, agreed, Side, World, Program, Event, AllFit, noHistory, side, joined, made, afterReceive, step, run, viewed, viewedSide, tables, Client, Server, Going, receives}
-use Rattle.session.specs.Packets.{Packet, bytesIn, dataIn, readyIn}
-use Rattle.session.specs.Turns.{roleOf, producing, turn, Stage, Standing, stands, nothing, empty, ahead}
-use Rattle.session.specs.Confirmations.{Awaits, Confirming}
-use Rattle.session.specs.Demand.{MayAnswer, PhaseFits, sum, nextEnd, nextCall, MaySend, Holds, DemandFrom, Demand}
-use Rattle.session.specs.Invariant.{Within, Delivers, Knows, source, flowAt, Settled, OneEnd, Linked, StartKeeps}
-use Rattle.session.specs.Laws.{atOnce, ByTables, Laws}
-use Rattle.session.proofs.Turns.{rests-meets, shut-meets}
-use Rattle.session.proofs.Speaking.{speaks-sent, opens-first, offers-one, takes-all, gives-data}
+use Rattle.machine.specs.Programs.{Queued, Program, tables}
+use Rattle.session.specs.World.{End, across, Datum, Ending, Side, World, Event, AllFit, side, joined, withQueue, afterReceive, step, run, begun, viewedSide, Client, Server, Going, HeardClose, WroteClose, receives}
+use Rattle.session.specs.Packets.{Packet, queuedIn, dataIn}
+use Rattle.session.specs.Turns.{producing, turn, Stage, IsOpen, Listens, stands, standing}
+use Rattle.session.specs.Demand.{MayAnswer, PhaseFits, agreed, sum, nextEnd, nextCall, AtRest, MaySend, Demand}
+use Rattle.session.specs.Confirmations.{askedIn, confirmedIn}
+use Rattle.session.specs.Invariant.{Model, source, Linked, Joint, Invariant}
+use Rattle.session.specs.Laws.{Laws, InvariantHolds, LawsSuffice, onRecords}
+use Rattle.session.proofs.Turns.{rests-converge, shut-converge}
+use Rattle.session.proofs.Speaking.{Speaks, speaks-sent, opens-first, offers-one, takes-all, gives-data}
 use Rattle.session.proofs.Tables.{tables-laws}
-use Rattle.session.proofs.Step.{Joint, Keeps, seen-from, head-delivered, step-keeps}
-
--- what making accepts
-given-well : (flow limit : ℕ) → givenOf flow limit ≡ Good → goodFlow flow && inLimits limit ≡ true
-unfolding givenOf
-given-well flow limit given = took-first (goodFlow flow && inLimits limit) (λ same. let z : _≡_ {A = ℕ} 0 1 = cc in omega arith) given .0
+use Rattle.session.proofs.Step.{seen-from, head-delivered, start-keeps, step-keeps}
 
 -- the phases that are neither 0, 3, 4 nor 5 are 1 and 2
 one-or-two : (phase : ℕ) → phase ≤ batch → (phase ≡ fresh → ⊥) → (phase ≡ offer → ⊥) → (phase ≡ batch → ⊥) → (opening ≤ phase) × (phase ≤ idle)
@@ -44,188 +35,204 @@ joined-sides w Client = refl
 joined-sides w Server = refl
 
 -- where nothing is queued, nothing is on its way
-none-queued : (q : List Packet) → map bytesIn q ≡ [] → q ≡ []
+none-queued : (q : List Packet) → map queuedIn q ≡ [] → q ≡ []
 none-queued [] none = refl
-none-queued (m ∷ q) none = let z : _≡_ {A = ℕ} 0 1 = cc in absurd (omega arith)
+none-queued (m ∷ q) none = clash cc
 
--- nothing is awaited, and nothing is on its way
+-- an end that has not itself closed listens
+listens-still : (x : Side Endpoint) → (x .past .ending ≡ WroteClose → ⊥) → Listens (standing x)
+listens-still x = go (x .past .ending)
+  where
+    go : (ending : Ending) → (ending ≡ WroteClose → ⊥) → Listens (stands ending (x .self))
+    go Going still = tt
+    go HeardClose still = tt
+    go WroteClose still = absurd (still refl)
 
-nothing-awaited : (pick : List Entry → List Entry) (a b : Standing) → Awaits pick a [] [] b [] []
-unfolding flatMap
-nothing-awaited pick a b = record { rest = []; held = λ is-open. refl; due = λ is-open. refl; few = λ is-open. omega arith }
+is-open : (x : Side Endpoint) → x .past .ending ≡ Going → IsOpen (standing x)
+is-open x going = rw (ap (λ (ending : Ending). stands ending (x .self)) going) tt
 
-nothing-delivered : {A : Type 0} (carried : Packet → List A) (b : Standing) → Delivers carried [] [] b []
-unfolding flatMap
-nothing-delivered carried b = record { rest = []; whole = refl; due = λ is-open. refl }
+module _ {A O : Type 0} (prog : Program A O) (model : Model A) (laws : Laws prog model) (w : World A) (holds : Invariant model w) where
+  abbrev seen : Side A → Side Endpoint
+  seen x = viewedSide (model .view .endpoint) x
 
--- a fresh end, and a fresh client and a fresh server
+  joint : (end : End) → Joint (holds .terms) model end (side w end) (side w (across end))
+  joint end = seen-from end w holds
 
-nothing-counted : (end : End) → Within (agreed end noHistory) 0 0 fresh 0
-nothing-counted Client = record { in-all = omega arith; in-newest = omega arith }
-nothing-counted Server = record { in-all = omega arith; in-newest = omega arith }
+  -- "neither end refuses the other's message"
+  head-answered : (end : End) (q : List Packet) → joint end .from-across ≡ q → (m : Queued) (rest : List Queued) → map queuedIn q ≡ m ∷ rest
+      → (name format : List ℕ) (out : O) → 14 ≤ prog .room out
+      → MayAnswer (seen (side w end)) (seen (side w (across end))) (m .bytes) name format
+      (prog .receive (side w end .self) m name format out .number)
+  head-answered end [] is m rest queued name format out enough = clash cc
+  head-answered end (packet ∷ q) is m rest queued name format out enough =
+      subst Answers (first-of queued)
+      (head-delivered prog model laws (holds .terms) end (side w end) (side w (across end)) (joint end .from-here) q packet
+      (rw is at (joint end .linked)) (joint end .fine) (joint end .fine-across) name format out enough .may)
+    where
+      Answers : Queued → Type 0
+      Answers head =
+          MayAnswer (seen (side w end)) (seen (side w (across end))) (head .bytes) name format
+          (prog .receive (side w end .self) head name format out .number)
 
-module _ (flow limit serverFlow : ℕ) (Made : Endpoint → Call → Type 0) where
-  fresh-end : (end : End) (own : ℕ) → leb client (roleOf end) && leb (roleOf end) server ≡ true → givenOf (flowAt flow limit serverFlow end) own ≡ Good
-      → (Knows end fresh → Settled flow limit serverFlow end (freshOf (roleOf end) (flowAt flow limit serverFlow end) own))
-      → OneEnd flow limit serverFlow Made end (made (freshOf (roleOf end) (flowAt flow limit serverFlow end) own)) []
-  unfolding freshOf
-  fresh-end end own role given terms =
-      let seen = flowAt flow limit serverFlow end in
-      record {
-        sound = record { sized = fresh-sized (roleOf end) seen own; is-good = fresh-good (roleOf end) seen own role (given-well seen own given) };
-        role = refl;
-        flows = refl;
-        ends = omega arith;
-        queued = refl;
-        proper = tt;
-        terms = terms;
-        counted = nothing-counted end;
-      }
+      first-of : queuedIn packet ∷ map queuedIn q ≡ m ∷ rest → queuedIn packet ≡ m
+      first-of same = cc
 
-pub start-keeps : StartKeeps
-unfolding freshOf
-start-keeps flow limit serverFlow given server-given Made pick =
-    record {
-      from-client = [];
-      from-server = [];
-      linked =
-          record {
-            here = fresh-end flow limit serverFlow Made Client limit refl given (λ known. record { limited = refl; produced = refl });
-            there = fresh-end flow limit serverFlow Made Server mostLimit refl server-given (λ known. absurd (omega (arith, known .0)));
-            meets = ahead nothing empty;
-            awaits = λ line. nothing-awaited (pick line) _ _;
-            awaits-across = λ line. nothing-awaited (pick line) _ _;
-            delivers = nothing-delivered dataIn _;
-            delivers-across = nothing-delivered dataIn _;
-            readies = nothing-delivered readyIn _;
-            readies-across = nothing-delivered readyIn _;
-          };
-    }
+  -- "2 output too short"
+  short-answered : (end : End) (m : Queued) (rest : List Queued) → side w (across end) .queue ≡ m ∷ rest → (name format : List ℕ) (out : O)
+      → prog .room out < 14
+      → (prog .receive (side w end .self) m name format out .number ≡ 2) × (step prog w (receives end name format out) ≡ w)
+  unfolding step afterReceive
+  short-answered end m rest queued name format out few =
+      let short = laws .short (side w end .self) m name format out (joint end .fine) few in
+      let y : Side A = side w (across end) in
+      let kept : withQueue y (m ∷ rest) ≡ y = ap (withQueue y) (sym queued) in
+      (rw short refl, simp (queued, short, append-nil) (ap (joined end (side w end)) kept ∙ joined-sides w end))
 
--- of a program that has the laws
-module _ {A O : Type 0} (prog : Program A O) (view : A → Endpoint) (Fine : A → Type 0) (Made : Endpoint → Call → Type 0) (confirming : Confirming A) (laws : Laws prog view Fine Made confirming) (flow limit serverFlow : ℕ) where
-  pub run-keeps : (w : World A) (events : List (Event O)) → AllFit events → Keeps prog view Fine Made confirming laws flow limit serverFlow w → Keeps prog view Fine Made confirming laws flow limit serverFlow (run prog w events)
-  unfolding run
-  run-keeps w [] fit holds = holds
-  run-keeps w (event ∷ rest) fit holds = run-keeps (step prog w event) rest (fit .1) (step-keeps prog view Fine Made confirming laws flow limit serverFlow w event (fit .0) holds)
+  -- nothing is lost
+  all-arrived : (end : End) → (side w end .past .ending ≡ WroteClose → ⊥) → side w (across end) .queue ≡ []
+      → side w end .past .accepted ≡ side w (across end) .past .sent
+  unfolding flatMap
+  all-arrived end still none =
+      let back = joint end .linked .delivers-across in
+      let empty-queue = none-queued (joint end .from-across) (sym (joint end .linked .there .queued) ∙ none) in
+      let accepted : List Datum = side w end .past .accepted in
+      let rest-empty = back .due (listens-still (seen (side w end)) still) ∙ ap (flatMap dataIn) empty-queue in
+      sym (back .whole ∙ ap (λ (rest : List Datum). accepted ++ rest) rest-empty ∙ append-nil accepted)
 
-  module _ (w : World A) (holds : Keeps prog view Fine Made confirming laws flow limit serverFlow w) where
-    joint : (end : End) → Joint prog view Fine Made confirming laws flow limit serverFlow end (side w end) (side w (across end))
-    joint end = seen-from prog view Fine Made confirming laws flow limit serverFlow end w holds
+  -- "and never more than the batches agreed"
+  all-within : length (w .client .past .accepted) + length (w .server .past .accepted) ≤ sum (agreed Client (w .client .past))
+  all-within =
+      let linked = holds .joint .linked in
+      let whole = ap length (linked .delivers .whole) ∙ length-append (w .server .past .accepted) (linked .delivers .rest) in
+      omega (arith, linked .here .counted .within .in-all, whole)
 
-    -- "neither refuses the other's message"
-    head-answered : (end : End) (x y : Side A) (p q : List Packet) → Linked flow limit serverFlow Made (confirming .pick) end (viewedSide view x) (viewedSide view y) p q (confirming .ledger (x .self)) (confirming .ledger (y .self)) → Fine (x .self) → Fine (y .self)
-        → (s : List ℕ) (rest : List (List ℕ)) → map bytesIn q ≡ s ∷ rest
-        → (name format : List ℕ) (out : O) → 14 ≤ prog .room out → MayAnswer (viewedSide view x) (viewedSide view y) s name format (prog .receive (x .self) s name format out .number)
-    head-answered end x y p [] linked fine fine-across s rest queued name format out enough = let z : _≡_ {A = ℕ} 0 1 = cc in absurd (omega arith)
-    head-answered end x y p (m ∷ q) linked fine fine-across s rest queued name format out enough =
-        subst (λ (bytes : List ℕ). MayAnswer (viewedSide view x) (viewedSide view y) bytes name format (prog .receive (x .self) bytes name format out .number)) (first-of queued)
-        (head-delivered prog view Fine Made confirming laws flow limit serverFlow end x y p q m linked fine fine-across name format out enough .may)
-      where
-        first-of : bytesIn m ∷ map bytesIn q ≡ s ∷ rest → bytesIn m ≡ s
-        first-of same = cc
+  module _ (rest : AtRest w) where
+    -- nothing is on its way
+    none-here : (end : End) → joint end .from-here ≡ []
+    none-here end = none-queued (joint end .from-here) (sym (joint end .linked .here .queued) ∙ rest .none-coming end)
 
-    -- "2 output too short"
-    short-answered : (end : End) (s : List ℕ) (rest : List (List ℕ)) → side w (across end) .queue ≡ s ∷ rest → (name format : List ℕ) (out : O) → prog .room out < 14
-        → (prog .receive (side w end .self) s name format out .number ≡ 2) × (step prog w (receives end name format out) ≡ w)
-    unfolding step afterReceive
-    short-answered end s rest queued name format out few =
-        let short = laws .short (side w end .self) s name format out (joint end .fine) few in
-        (rw short refl, simp (queued, short) (joined-sides w end))
+    none-across : (end : End) → joint end .from-across ≡ []
+    none-across end = none-queued (joint end .from-across) (sym (joint end .linked .there .queued) ∙ rest .none-coming (across end))
 
-    -- "and never more than the batches agreed"
-    all-within : length (w .client .past .accepted) + length (w .server .past .accepted) ≤ sum (agreed Client (w .client .past))
-    all-within =
-        let linked = holds .invariant .linked in
-        let whole = ap length (linked .delivers .whole) ∙ length-append (w .server .past .accepted) (linked .delivers .rest) in
-        omega (arith, linked .here .counted .in-all, whole)
+    -- what is awaited is what is owed
+    none-awaited : (end : End) (line : ℕ)
+        → model .view .ledger (side w end .self) .waits line ≡ model .view .ledger (side w (across end) .self) .owes line
+    unfolding flatMap
+    none-awaited end line =
+        let waits = joint end .linked .awaits line in
+        let owes : List Entry = model .view .ledger (side w (across end) .self) .owes line in
+        waits .held (is-open (seen (side w end)) (rest .going end))
+        ∙ ap (λ (q : List Packet). flatMap (λ (m : Packet). model .rules .pick line (confirmedIn m)) q ++ waits .rest) (none-across end)
+        ∙ waits .due (is-open (seen (side w (across end))) (rest .going (across end)))
+        ∙ ap (λ (p : List Packet). owes ++ flatMap (λ (m : Packet). model .rules .pick line (askedIn m)) p) (none-here end)
+        ∙ append-nil owes
 
-    -- both ends at rest, in one stage
-    record Resting : Type 0 where
-      low : view (w .client .self) .phase ≤ batch
-      same-phase : view (w .client .self) .phase ≡ view (w .server .self) .phase
+    abbrev here : Endpoint
+    here = model .view .endpoint (w .client .self)
 
-    resting : w .client .past .ending ≡ Going → w .server .past .ending ≡ Going → w .client .queue ≡ [] → w .server .queue ≡ [] → Resting
-    resting going server-going none none-back =
-        let linked = holds .invariant .linked in
-        let empty-queue = none-queued (holds .invariant .from-client) (sym (linked .here .queued) ∙ none) in
-        let empty-back = none-queued (holds .invariant .from-server) (sym (linked .there .queued) ∙ none-back) in
-        let stage = rests-meets (source flow) Client (rw (going, server-going, empty-queue, empty-back) at (linked .meets)) in
-        record { low = subst (λ (ending : Ending). PhaseFits ending (view (w .client .self) .phase)) going (linked .here .ends); same-phase = ap (λ (s : Stage). s .phase) stage }
+    abbrev there : Endpoint
+    there = model .view .endpoint (w .server .self)
 
-    -- "one end may still send something other than NOOP and CLOSE"
-    speaking : Resting → MaySend prog view (side w (nextEnd (view (w .client .self))) .self) (nextCall (view (w .client .self)))
+    abbrev linked : Linked (holds .terms) (model .rules) Client (seen (w .client)) (seen (w .server)) (holds .joint .from-here) (holds .joint .from-across)
+        (model .view .ledger (w .client .self)) (model .view .ledger (w .server .self))
+    linked = holds .joint .linked
+
+    -- both ends are in one phase
+    same-phase : here .phase ≡ there .phase
+    same-phase =
+        let none = none-queued (holds .joint .from-here) (sym (linked .here .queued) ∙ rest .none-coming Client) in
+        let none-back = none-queued (holds .joint .from-across) (sym (linked .there .queued) ∙ rest .none-coming Server) in
+        let converge = rw (rest .going Client, rest .going Server, none, none-back) at (linked .converge) in
+        ap (λ (s : Stage). s .phase) (rests-converge (source (holds .terms)) Client converge)
+
+    low : here .phase ≤ batch
+    low = subst (λ (ending : Ending). PhaseFits ending (here .phase)) (rest .going Client) (linked .here .ends)
+
+    -- "one end may still send a message other than NOOP and CLOSE"
+    speaking : MaySend prog (model .view) (side w (nextEnd here) .self) (nextCall here)
     unfolding turn
-    speaking rests = from-fresh (eqb phase fresh) refl
+    speaking = from-fresh (eqb (here .phase) fresh) refl
       where
-        phase : ℕ
-        phase = view (w .client .self) .phase
-
-        n : ℕ
-        n = view (w .client .self) .n
-
         producer-end : End
-        producer-end = producing Client (view (w .client .self) .flow)
-
-        linked : Linked flow limit serverFlow Made (confirming .pick) Client (viewedSide view (w .client)) (viewedSide view (w .server)) (holds .invariant .from-client) (holds .invariant .from-server)
-            (confirming .ledger (w .client .self)) (confirming .ledger (w .server .self))
-        linked = holds .invariant .linked
+        producer-end = producing Client (here .flow)
 
         spoken : (is-fresh is-offer is-batch : Bool) → Type 0
         spoken is-fresh is-offer is-batch =
-            MaySend prog view (side w (cond (is-fresh || is-offer) Client (cond is-batch producer-end Server)) .self)
-            (cond is-fresh (OPEN (97 ∷ []) []) (cond is-offer (READY n) (cond is-batch (DATA 0 false []) (READY 1))))
+            MaySend prog (model .view) (side w (cond (is-fresh || is-offer) Client (cond is-batch producer-end Server)) .self)
+            (cond is-fresh (OPEN (97 ∷ []) []) (cond is-offer (READY (here .n)) (cond is-batch (DATA 0 false []) (READY 1))))
 
-        in-batch : phase ≡ batch → (end : End) → producer-end ≡ end → MaySend prog view (side w end .self) (DATA 0 false [])
-        in-batch batching Client mine = speaks-sent laws (w .client .self) (DATA 0 false []) (holds .fine) (gives-data Client (view (w .client .self)) (linked .here .sound) (linked .here .role) mine batching)
+        by-client : (call : Call) → Speaks here call → MaySend prog (model .view) (w .client .self) call
+        by-client call speaks = speaks-sent laws (w .client .self) call (holds .joint .fine) speaks
+
+        by-server : (call : Call) → Speaks there call → MaySend prog (model .view) (w .server .self) call
+        by-server call speaks = speaks-sent laws (w .server .self) call (holds .joint .fine-across) speaks
+
+        in-batch : here .phase ≡ batch → (end : End) → producer-end ≡ end → MaySend prog (model .view) (side w end .self) (DATA 0 false [])
+        in-batch batching Client mine =
+            by-client (DATA 0 false []) (gives-data Client here (linked .here .sound) (linked .here .role) mine batching)
         in-batch batching Server mine =
-            speaks-sent laws (w .server .self) (DATA 0 false []) (holds .fine-server)
-            (gives-data Server (view (w .server .self)) (linked .there .sound) (linked .there .role)
-            (linked .there .terms (omega (arith, rests .same-phase), omega (arith, rests .same-phase)) .produced ∙ ap (producing Client) (sym (linked .here .flows)) ∙ mine)
-            (sym (rests .same-phase) ∙ batching))
+            let settled = linked .there .settled (omega (arith, same-phase), omega (arith, same-phase)) in
+            by-server (DATA 0 false [])
+            (gives-data Server there (linked .there .sound) (linked .there .role)
+            (settled .produced ∙ ap (producing Client) (sym (linked .here .flows)) ∙ mine) (sym same-phase ∙ batching))
 
-        from-batch : (t : Bool) → eqb phase batch ≡ t → (phase ≡ fresh → ⊥) → (phase ≡ offer → ⊥) → spoken false false t
-        from-batch true batching later neither = in-batch (eqb-true phase batch batching) producer-end refl
+        from-batch : (t : Bool) → eqb (here .phase) batch ≡ t → (here .phase ≡ fresh → ⊥) → (here .phase ≡ offer → ⊥) → spoken false false t
+        from-batch true batching later neither = in-batch (eqb-true (here .phase) batch batching) producer-end refl
         from-batch false other later neither =
-            let not-batch = eqb-false phase batch other in
-            speaks-sent laws (w .server .self) (READY 1) (holds .fine-server)
-            (offers-one Server (view (w .server .self)) (linked .there .sound) (linked .there .role) refl
-            (omega (arith, rests .same-phase, one-or-two phase (rests .low) later neither not-batch .0))
-            (omega (arith, rests .same-phase, one-or-two phase (rests .low) later neither not-batch .1)))
+            let among = one-or-two (here .phase) low later neither (eqb-false (here .phase) batch other) in
+            by-server (READY 1)
+            (offers-one Server there (linked .there .sound) (linked .there .role) refl (omega (arith, among .0, same-phase))
+            (omega (arith, among .1, same-phase)))
 
-        from-offer : (t : Bool) → eqb phase offer ≡ t → (phase ≡ fresh → ⊥) → spoken false t (eqb phase batch)
-        from-offer true offered later = speaks-sent laws (w .client .self) (READY n) (holds .fine) (takes-all Client (view (w .client .self)) (linked .here .sound) (linked .here .role) refl (eqb-true phase offer offered))
-        from-offer false other later = from-batch (eqb phase batch) refl later (eqb-false phase offer other)
+        from-offer : (t : Bool) → eqb (here .phase) offer ≡ t → (here .phase ≡ fresh → ⊥) → spoken false t (eqb (here .phase) batch)
+        from-offer true offered later =
+            by-client (READY (here .n)) (takes-all Client here (linked .here .sound) (linked .here .role) refl (eqb-true (here .phase) offer offered))
+        from-offer false other later = from-batch (eqb (here .phase) batch) refl later (eqb-false (here .phase) offer other)
 
-        from-fresh : (t : Bool) → eqb phase fresh ≡ t → spoken t (eqb phase offer) (eqb phase batch)
-        from-fresh true begins = speaks-sent laws (w .client .self) (OPEN (97 ∷ []) []) (holds .fine) (opens-first Client (view (w .client .self)) (linked .here .sound) (linked .here .role) refl (eqb-true phase fresh begins))
-        from-fresh false other = from-offer (eqb phase offer) refl (eqb-false phase fresh other)
+        from-fresh : (t : Bool) → eqb (here .phase) fresh ≡ t → spoken t (eqb (here .phase) offer) (eqb (here .phase) batch)
+        from-fresh true begins =
+            by-client (OPEN (97 ∷ []) []) (opens-first Client here (linked .here .sound) (linked .here .role) refl (eqb-true (here .phase) fresh begins))
+        from-fresh false other = from-offer (eqb (here .phase) offer) refl (eqb-false (here .phase) fresh other)
 
-    pub invariant-holds : Holds prog view w
-    invariant-holds =
-        record {
-          answers = λ end s rest queued.
-              head-answered end (side w end) (side w (across end)) (joint end .from-here) (joint end .from-across) (joint end .linked) (joint end .fine) (joint end .fine-across) s rest (sym (joint end .linked .there .queued) ∙ queued);
-          waits = short-answered;
-          nothing-after-close = λ end closing.
-              joint end .linked .there .queued
-              ∙ ap (map bytesIn) (shut-meets (source flow) end (rw (ap (λ (ending : Ending). stands ending (view (side w end .self))) closing) at (joint end .linked .meets)));
-          closed-by-phase = λ end. joint end .linked .here .ends;
-          data-leads = λ end. let there = joint end .linked .delivers-across in (there .rest, sym (there .whole));
-          readies-lead = λ end. let there = joint end .linked .readies-across in (there .rest, sym (there .whole));
-          within = all-within;
-          within-newest = λ end. omega (arith, joint end .linked .here .counted .in-newest);
-          may-send = λ going server-going none none-back. speaking (resting going server-going none none-back);
-        }
+pub invariant-holds : InvariantHolds
+invariant-holds A O prog model laws w holds =
+    record {
+      stays-good = λ end. joint prog model laws w holds end .linked .here .sound .is-good;
+      answers = λ end m rest queued.
+          let at = joint prog model laws w holds end in
+          head-answered prog model laws w holds end (at .from-across) refl m rest (sym (at .linked .there .queued) ∙ queued);
+      waits = short-answered prog model laws w holds;
+      nothing-after-close = λ end closing.
+          let at = joint prog model laws w holds end in
+          let seen : Side Endpoint = viewedSide (model .view .endpoint) (side w end) in
+          let gone = ap (λ (ending : Ending). stands ending (seen .self)) closing in
+          at .linked .there .queued ∙ ap (map queuedIn) (shut-converge (source (holds .terms)) end (rw gone at (at .linked .converge)));
+      closed-by-phase = λ end. joint prog model laws w holds end .linked .here .ends;
+      data-leads = λ end. let back = joint prog model laws w holds end .linked .delivers-across in (back .rest, sym (back .whole));
+      readies-lead = λ end. let back = joint prog model laws w holds end .linked .readies-across in (back .rest, sym (back .whole));
+      nothing-lost = all-arrived prog model laws w holds;
+      within = all-within prog model laws w holds;
+      within-own = λ end. omega (arith, joint prog model laws w holds end .linked .here .counted .within .in-all);
+      within-newest = λ end. omega (arith, joint prog model laws w holds end .linked .here .counted .within .in-newest);
+      within-offers = λ end. joint prog model laws w holds end .linked .here .counted .taken .each;
+      none-awaited = none-awaited prog model laws w holds;
+      may-send = speaking prog model laws w holds;
+    }
 
-  -- and so demand 3 holds of what holds a client and a server that were made
-  pub demand-from : (client server : A) → Keeps prog view Fine Made confirming laws flow limit serverFlow (record { client = made client; server = made server }) → DemandFrom prog view client server
-  demand-from client server begun events fit =
-      invariant-holds (run prog (record { client = made client; server = made server }) events) (run-keeps (record { client = made client; server = made server }) events fit begun)
+-- and every list of calls keeps the invariant
+run-keeps : {A O : Type 0} (prog : Program A O) (model : Model A) → Laws prog model → (w : World A) (events : List (Event O)) → AllFit prog w events
+    → Invariant model w → Invariant model (run prog w events)
+unfolding run
+run-keeps prog model laws w [] fit holds = holds
+run-keeps prog model laws w (event ∷ rest) fit holds =
+    run-keeps prog model laws (step prog w event) rest (fit .1) (step-keeps _ _ prog model laws w event (fit .0) holds)
+
+pub laws-suffice : LawsSuffice
+laws-suffice A O prog model laws terms client server accepts server-accepts events fit =
+    let begins = begun prog terms client server in
+    invariant-holds A O prog model laws (run prog begins events)
+    (run-keeps prog model laws begins events fit (start-keeps A O prog model laws terms client server accepts server-accepts))
 
 -- demand 3
 pub demand : Demand
-unfolding freshOf
-demand flow limit serverFlow given server-given =
-    let begun = start-keeps flow limit serverFlow given server-given ByTables (atOnce .pick) in
-    demand-from tables (λ e. e) Sound ByTables atOnce tables-laws flow limit serverFlow (freshClient flow limit) (freshServer serverFlow) (record { invariant = begun; fine = begun .linked .here .sound; fine-server = begun .linked .there .sound })
+demand = laws-suffice Endpoint ℕ tables onRecords tables-laws

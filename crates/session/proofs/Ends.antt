@@ -4,24 +4,37 @@ use Prim.Native.Nat.{ℕ, _≤_, _<_, _^_}
 use mathlib.Core.List.{List, [], _∷_, _++_, map, map-append}
 use mathlib.Core.Bool.{Bool, true, false, cond}
 use native.Mathlib.Omega.{arith}
+use Rattle.bytes_be.proofs.Tests.{clash}
 use Rattle.control.specs.declared.MessageType.{MessageType}
 use Rattle.control.specs.declared.MessageType.the-variants.{Noop, Data}
 use Rattle.endpoint.specs.declared.Endpoint.{Endpoint}
 use Rattle.endpoint.specs.Record.{opening, batch, shut, closed}
 use Rattle.table.specs.Table.{other}
 use Rattle.sending.specs.Calls.{Call, OPEN, READY, DATA, NOOP, CLOSE, messageOf, typeDataOf}
-use Rattle.machine.specs.Good.{Fits}
 use Rattle.machine.proofs.Rows.{closed-sound}
-use Rattle.session.specs.World.{End, across, Ending, SendOutcome, Side, endedBy, wrote, took, Client, Server, Going, HeardClose, WroteClose}
-use Rattle.session.specs.Packets.{Packet, bytesIn, rowMessage, typeDataIn, dataIn, readyIn, Called, Confirms, Closes}
+use Rattle.machine.specs.Programs.{Queued, SendOutcome}
+use Rattle.session.specs.World.{End, across, Terms, Datum, Ending, Side, endedBy, afterCall, afterMessage, Client, Server, Going, HeardClose, WroteClose}
+use Rattle.session.specs.Packets.{Packet, queuedIn, rowMessage, typeDataIn, dataIn, readyIn, Called, Confirms, Closes}
 use Rattle.session.specs.Turns.{roleOf, producing}
-use Rattle.session.specs.Confirmations.{Confirming, Ledger}
-use Rattle.session.specs.Demand.{PhaseFits}
-use Rattle.session.specs.Invariant.{Knows, source, Settled, Proper, AllProper, OneEnd}
+use Rattle.session.specs.Demand.{Ledger, PhaseFits}
+use Rattle.session.specs.Invariant.{Knows, Model, source, Settled, Proper, AllProper, OneEnd}
 use Rattle.session.proofs.Table.{Moved, opens, offers, takes, gives, rests, closes, row-moved, moved-low, Landed, goes-on, closes-both, moved-lands}
 use Rattle.session.proofs.Counts.{sent-counted, heard-counted, closed-counted}
 use Rattle.session.specs.Laws.{answersIn, Comes, limitAfter, SentOn}
 use Rattle.session.proofs.Packets.{isOpenMessage, OpenOrOther, an-open, another, open-or-other}
+
+-- an end that wrote a message by a call; one that heard these data and READYs, has ended so and replied these; and one that heard a packet
+
+abbrev pub wrote : End → Side Endpoint → Call → Queued → Endpoint → Side Endpoint
+wrote end x call m next = record { self = next; queue = x .queue ++ (m ∷ []); past = afterCall end (x .past) call }
+
+abbrev pub took : End → Side Endpoint → List Datum → List ℕ → Ending → List Queued → Endpoint → Side Endpoint
+took end x heard readies ending replies next =
+    record { self = next; queue = x .queue ++ replies; past = afterMessage end (x .past) heard readies ending }
+
+abbrev pub tookIn : (MessageType → Bool) → End → Side Endpoint → Packet → Endpoint → Side Endpoint
+tookIn prompt end x m next =
+    took end x (dataIn m) (readyIn m) (endedBy HeardClose (rowMessage m) Going) (map queuedIn (answersIn prompt m)) next
 
 -- an end that is not in phase 5 has not closed
 pub is-going : (ending : Ending) (phase : ℕ) → PhaseFits ending phase → phase ≤ batch → ending ≡ Going
@@ -31,14 +44,15 @@ is-going WroteClose phase ends low = absurd (omega (arith, ends))
 
 -- where a row leads, the writer and the hearer of its message have closed in phase 5 and nowhere else
 
-landed-ends : (how : Ending) → PhaseFits how shut → {message : MessageType} {next count : ℕ} → Landed message next count → PhaseFits (endedBy how message Going) next
+landed-ends : (how : Ending) → PhaseFits how shut → {message : MessageType} {next count : ℕ} → Landed message next count
+    → PhaseFits (endedBy how message Going) next
 landed-ends how closing (goes-on stays low) = rw (stays how) low
 landed-ends how closing closes-both = closing
 
 -- a message other than OPEN leads on only an open server
-server-knows : {role flow phase n type-data next count : ℕ} {message : MessageType} → isOpenMessage message ≡ false → Moved role flow phase n message type-data next count
-    → (opening ≤ phase) × (phase ≤ batch)
-server-knows other (opens role begins) = let z : _≡_ {A = ℕ} 0 1 = cc in absurd (omega arith)
+server-knows : {role flow phase n type-data next count : ℕ} {message : MessageType} → isOpenMessage message ≡ false
+    → Moved role flow phase n message type-data next count → (opening ≤ phase) × (phase ≤ batch)
+server-knows other (opens role begins) = clash cc
 server-knows other (offers differs low high begins) = (low, omega arith)
 server-knows other (takes role offered few begins) = (omega arith, omega arith)
 server-knows other (gives produces batched begins) = (omega arith, omega arith)
@@ -46,7 +60,8 @@ server-knows other (rests low high) = (omega arith, high)
 server-knows other (closes low high) = (low, high)
 
 -- and a server sends no OPEN
-server-sends : {flow phase n type-data next count : ℕ} {message : MessageType} → Moved (roleOf Server) flow phase n message type-data next count → isOpenMessage message ≡ false
+server-sends : {flow phase n type-data next count : ℕ} {message : MessageType} → Moved (roleOf Server) flow phase n message type-data next count
+    → isOpenMessage message ≡ false
 server-sends (opens role begins) = absurd (omega (arith, role))
 server-sends (offers differs low high begins) = refl
 server-sends (takes role offered few begins) = refl
@@ -55,30 +70,32 @@ server-sends (rests low high) = refl
 server-sends (closes low high) = refl
 
 -- who sends knows the terms
-pub sender-knows : (end : End) {flow phase n type-data next count : ℕ} {message : MessageType} → Moved (roleOf end) flow phase n message type-data next count → Knows end phase
+pub sender-knows : (end : End) {flow phase n type-data next count : ℕ} {message : MessageType}
+    → Moved (roleOf end) flow phase n message type-data next count → Knows end phase
 sender-knows Client moves = tt
 sender-knows Server moves = server-knows (server-sends moves) moves
 
 -- and so does who hears anything but an OPEN
-pub hearer-knows : (end : End) {role flow phase n type-data next count : ℕ} {message : MessageType} → isOpenMessage message ≡ false → Moved role flow phase n message type-data next count
-    → Knows end phase
+pub hearer-knows : (end : End) {role flow phase n type-data next count : ℕ} {message : MessageType} → isOpenMessage message ≡ false
+    → Moved role flow phase n message type-data next count → Knows end phase
 hearer-knows Client other moves = tt
 hearer-knows Server other moves = server-knows other moves
 
-module _ (flow limit serverFlow : ℕ) (Made : Endpoint → Call → Type 0) where
-  pub proper-append : (end : End) (p q : List Packet) → AllProper flow limit serverFlow Made end p → AllProper flow limit serverFlow Made end q → AllProper flow limit serverFlow Made end (p ++ q)
+module _ {A : Type 0} (terms : Terms) (model : Model A) where
+  pub proper-append : (end : End) (p q : List Packet) → AllProper terms (model .rules) end p → AllProper terms (model .rules) end q → AllProper terms (model .rules) end (p ++ q)
   proper-append end [] q front back = back
   proper-append end (m ∷ p) q front back = (front .0, proper-append end p q (front .1) back)
 
-  queued-append : (x : Side Endpoint) (p r : List Packet) (bytes : List (List ℕ)) → x .queue ≡ map bytesIn p → bytes ≡ map bytesIn r → x .queue ++ bytes ≡ map bytesIn (p ++ r)
-  queued-append x p r bytes queued writes = rw (queued, writes) (sym (map-append bytesIn p r))
+  queued-append : (x : Side Endpoint) (p r : List Packet) → x .queue ≡ map queuedIn p → x .queue ++ map queuedIn r ≡ map queuedIn (p ++ r)
+  queued-append x p r queued = rw queued (sym (map-append queuedIn p r))
 
-  proper-if : (end : End) (m : Packet) (t : Bool) → Proper flow limit serverFlow Made end m → AllProper flow limit serverFlow Made end (cond t (m ∷ []) [])
+  proper-if : (end : End) (m : Packet) (t : Bool) → Proper terms (model .rules) end m → AllProper terms (model .rules) end (cond t (m ∷ []) [])
   proper-if end m true proper = (proper, tt)
   proper-if end m false proper = tt
 
   -- the confirmation of a proper packet is proper
-  answers-proper : (prompt : MessageType → Bool) (end : End) (m : Packet) → Proper flow limit serverFlow Made (across end) m → AllProper flow limit serverFlow Made end (answersIn prompt m)
+  answers-proper : (prompt : MessageType → Bool) (end : End) (m : Packet) → Proper terms (model .rules) (across end) m
+      → AllProper terms (model .rules) end (answersIn prompt m)
   answers-proper prompt end (Called e (OPEN name format)) made = tt
   answers-proper prompt end (Called e (READY count)) made = tt
   answers-proper prompt end (Called e (DATA type-data true body)) made = proper-if end (Confirms Data type-data) (prompt Data) (refl, made .fits)
@@ -90,18 +107,19 @@ module _ (flow limit serverFlow : ℕ) (Made : Endpoint → Call → Type 0) whe
   answers-proper prompt end (Closes code) made = tt
 
   -- a closed client has its limit and flow still
-  closed-terms : (end : End) {e : Endpoint} → Knows end shut → (Knows end (e .phase) → Settled flow limit serverFlow end e) → Settled flow limit serverFlow end (closed e)
+  closed-settled : (end : End) {e : Endpoint} → Knows end shut → (Knows end (e .phase) → Settled terms end e) → Settled terms end (closed e)
   unfolding closed
-  closed-terms Client still terms = record { limited = terms tt .limited; produced = terms tt .produced }
-  closed-terms Server still terms = absurd (omega (arith, still .1))
+  closed-settled Client still settled = record { limited = settled tt .limited; produced = settled tt .produced }
+  closed-settled Server still settled = absurd (omega (arith, still .1))
 
-  module _ (end : End) (x : Side Endpoint) (p : List Packet) (here : OneEnd flow limit serverFlow Made end x p) where
+  module _ (end : End) (x : Side Endpoint) (p : List Packet) (here : OneEnd terms (model .rules) end x p) where
     -- an end that sent a call
-    pub sent-sides : {A : Type 0} (view : A → Endpoint) (Fine : A → Type 0) (confirming : Confirming A) (dues : Ledger) (call : Call) (result : SendOutcome A) → (sent : SentOn view Fine Made confirming (x .self) dues call result)
-        → OneEnd flow limit serverFlow Made end (wrote end x call (result .bytes) (view (result .next))) (p ++ (sent .packet ∷ []))
-    sent-sides view Fine confirming dues call result sent =
+    pub sent-sides : (dues : Ledger) (call : Call) (result : SendOutcome A) → (sent : SentOn model (x .self) dues call result)
+        → OneEnd terms (model .rules) end (wrote end x call (queuedIn (sent .packet)) (model .view .endpoint (result .next))) (p ++ (sent .packet ∷ []))
+    sent-sides dues call result sent =
         let comes = sent .comes in
-        let moves = row-moved (roleOf end) (x .self .flow) (x .self .phase) (x .self .n) (messageOf call) (typeDataOf call) (sent .phase) (sent .n) (rw (here .role) at (sent .leads)) in
+        let leads = rw (here .role) at (sent .leads) in
+        let moves = row-moved (roleOf end) (x .self .flow) (x .self .phase) (x .self .n) (messageOf call) (typeDataOf call) (sent .phase) (sent .n) leads in
         let knows = sender-knows end moves in
         let going = is-going (x .past .ending) (x .self .phase) (here .ends) (moved-low moves) in
         record {
@@ -109,48 +127,52 @@ module _ (flow limit serverFlow : ℕ) (Made : Endpoint → Call → Type 0) whe
           role = comes .role ∙ here .role;
           flows = comes .flow ∙ here .flows;
           ends = rw (going, comes .phased) (landed-ends WroteClose refl (moved-lands moves));
-          queued = queued-append x p (sent .packet ∷ []) (result .bytes ∷ []) (here .queued) (rw (sent .bytes) refl);
-          proper =
-              proper-append end p (sent .packet ∷ []) (here .proper)
-              (sent .proper flow limit serverFlow end (here .flows) (here .terms knows .limited), tt);
-          terms =
+          queued = queued-append x p (sent .packet ∷ []) (here .queued);
+          proper = proper-append end p (sent .packet ∷ []) (here .proper) (sent .proper terms end (here .flows) (here .settled knows .limited), tt);
+          settled =
               λ still. record {
-                limited = comes .limited ∙ here .terms knows .limited;
-                produced = ap (producing end) (comes .flow) ∙ here .terms knows .produced;
+                limited = comes .limited ∙ here .settled knows .limited;
+                produced = ap (producing end) (comes .flow) ∙ here .settled knows .produced;
               };
-          counted = sent-counted end (x .self) (here .sound) (x .past) (here .counted) (view (result .next)) (sent .phase) (sent .n) (comes .phased) (comes .counted) (x .self .flow) call moves;
+          counted =
+              sent-counted end (x .self) (here .sound) (x .past) (here .counted) (model .view .endpoint (result .next)) (sent .phase) (sent .n)
+              (comes .phased) (comes .counted) (x .self .flow) call moves;
         }
 
     -- an end that has not closed heard a packet, whose row leads to this phase and n; an OPEN only where it is for who produces
-    pub heard-sides : (prompt : MessageType → Bool) (m : Packet) (phase n : ℕ) (next : Endpoint) → Proper flow limit serverFlow Made (across end) m
+    pub heard-sides : (m : Packet) (phase n : ℕ) (next : Endpoint) → Proper terms (model .rules) (across end) m
         → Moved (roleOf (across end)) (other (x .self .flow)) (x .self .phase) (x .self .n) (rowMessage m) (typeDataIn m) phase n
-        → (isOpenMessage (rowMessage m) ≡ true → producing end (x .self .flow) ≡ source flow) → Comes (x .self) phase n (limitAfter m (x .self .limit)) next
-        → OneEnd flow limit serverFlow Made end
-        (took end x (dataIn m) (readyIn m) (endedBy HeardClose (rowMessage m) Going) (map bytesIn (answersIn prompt m)) next)
-        (p ++ answersIn prompt m)
-    heard-sides prompt m phase n next proper moves produces comes =
+        → (isOpenMessage (rowMessage m) ≡ true → producing end (x .self .flow) ≡ source terms)
+        → Comes (x .self) phase n (limitAfter m (x .self .limit)) next
+        → OneEnd terms (model .rules) end (tookIn (model .rules .prompt) end x m next) (p ++ answersIn (model .rules .prompt) m)
+    heard-sides m phase n next proper moves produces comes =
         record {
           sound = comes .sound;
           role = comes .role ∙ here .role;
           flows = comes .flow ∙ here .flows;
           ends = rw (comes .phased) (landed-ends HeardClose refl (moved-lands moves));
-          queued = queued-append x p (answersIn prompt m) (map bytesIn (answersIn prompt m)) (here .queued) refl;
-          proper = proper-append end p (answersIn prompt m) (here .proper) (answers-proper prompt end m proper);
-          terms = λ known. record { limited = comes .limited ∙ terms-there .0; produced = ap (producing end) (comes .flow) ∙ terms-there .1 };
-          counted = heard-counted end (x .self) (here .sound) (x .past) (here .counted) next phase n (comes .phased) (comes .counted) (other (x .self .flow)) m (endedBy HeardClose (rowMessage m) Going) moves;
+          queued = queued-append x p (answersIn (model .rules .prompt) m) (here .queued);
+          proper = proper-append end p (answersIn (model .rules .prompt) m) (here .proper) (answers-proper (model .rules .prompt) end m proper);
+          settled = λ known. record { limited = comes .limited ∙ agreed-on .0; produced = ap (producing end) (comes .flow) ∙ agreed-on .1 };
+          counted =
+              heard-counted end (x .self) (here .sound) (x .past) (here .counted) next phase n (comes .phased) (comes .counted)
+              (other (x .self .flow)) m (endedBy HeardClose (rowMessage m) Going) moves;
         }
       where
         -- an OPEN brings the terms, and any other packet comes to an end that knows them
-        by-sort : (m : Packet) → OpenOrOther m → Proper flow limit serverFlow Made (across end) m → (isOpenMessage (rowMessage m) ≡ true → producing end (x .self .flow) ≡ source flow)
-            → (isOpenMessage (rowMessage m) ≡ false → Settled flow limit serverFlow end (x .self)) → (limitAfter m (x .self .limit) ≡ limit) × (producing end (x .self .flow) ≡ source flow)
+        by-sort : (m : Packet) → OpenOrOther m → Proper terms (model .rules) (across end) m
+            → (isOpenMessage (rowMessage m) ≡ true → producing end (x .self .flow) ≡ source terms)
+            → (isOpenMessage (rowMessage m) ≡ false → Settled terms end (x .self))
+            → (limitAfter m (x .self .limit) ≡ terms .limit) × (producing end (x .self .flow) ≡ source terms)
         by-sort _ (an-open e asked wanted) made brings knows = (made .limited, brings refl)
         by-sort _ (another later offered stays) made brings knows = (stays (x .self .limit) ∙ knows later .limited, knows later .produced)
 
-        terms-there : (limitAfter m (x .self .limit) ≡ limit) × (producing end (x .self .flow) ≡ source flow)
-        terms-there = by-sort m (open-or-other m) proper produces (λ later. here .terms (hearer-knows end later moves))
+        agreed-on : (limitAfter m (x .self .limit) ≡ terms .limit) × (producing end (x .self .flow) ≡ source terms)
+        agreed-on = by-sort m (open-or-other m) proper produces (λ later. here .settled (hearer-knows end later moves))
 
     -- an end that refused an OPEN
-    pub refused-sides : (code : ℕ) → code < 256 ^ 2 → OneEnd flow limit serverFlow Made end (took end x [] [] WroteClose (map bytesIn (Closes code ∷ [])) (closed (x .self))) (p ++ (Closes code ∷ []))
+    pub refused-sides : (code : ℕ) → code < 256 ^ 2
+        → OneEnd terms (model .rules) end (took end x [] [] WroteClose (queuedIn (Closes code) ∷ []) (closed (x .self))) (p ++ (Closes code ∷ []))
     unfolding closed
     refused-sides code few =
         record {
@@ -158,8 +180,8 @@ module _ (flow limit serverFlow : ℕ) (Made : Endpoint → Call → Type 0) whe
           role = here .role;
           flows = here .flows;
           ends = refl;
-          queued = queued-append x p (Closes code ∷ []) (bytesIn (Closes code) ∷ []) (here .queued) refl;
+          queued = queued-append x p (Closes code ∷ []) (here .queued);
           proper = proper-append end p (Closes code ∷ []) (here .proper) (few, tt);
-          terms = λ still. closed-terms end still (here .terms);
+          settled = λ still. closed-settled end still (here .settled);
           counted = closed-counted end (x .self) (x .past) (here .counted) WroteClose;
         }

@@ -1,43 +1,18 @@
 -- Three sessions, by computing them on their bytes: the theorem does not speak of nothing. Assumes nothing.
 use mathlib.Core.Path.{_≡_, refl}
-use mathlib.Core.List.{List, [], _∷_, flatMap, flatten}
+use mathlib.Core.List.{List, [], _∷_}
 use Prim.Native.Nat.{ℕ}
 use mathlib.Core.Bool.{true, false}
 use lib.ListN.{length}
-use lib.Ieee.{inUnsigned, ofBits, ofInt, toBits, toUnsigned, whole}
-use Rattle.bytes_be.specs.Number.{fromBytesBehind, fromBytes, toBytes, numberAt}
-use Rattle.bytes_be.specs.Part.{same, putAt}
-use Rattle.bundle.specs.Reading.{countOf, lengthOf, lengthsBefore, startOf, good, sizeOf, contentsOf, frameOf}
-use Rattle.bundle.specs.Writing.{bundleOf}
-use Rattle.control.specs.Frame.{signedOf, versionOf, knownTypeOf, bytesOf}
-use Rattle.utf8.specs.Text.{table, dueBehind, rest, wellFormed}
-use Rattle.wire.specs.Fields.{payloadAt, fieldAt, fieldsWithin, fieldsOf}
-use Rattle.wire.specs.Varint.{saidAt, varintAt, shortestWithin, shortestOf}
-use Rattle.wire.specs.Written.{tagOf, varintField, eightField, bytesField}
-use Rattle.double.specs.Double.{bitsAt, bytesOf as Double·bytesOf}
-use Rattle.double.specs.Limit.{limitOf}
-use Rattle.params.specs.Keys.{keyOf, valuePlace, findIn}
-use Rattle.params.specs.Message.{walk, firstOf, placeIn}
-use Rattle.params.specs.Rules.{valueWire, valueText, valueAllowed, valueRule, valueField, valueCheck, bytesRule, keyRule, seenOf, entryField, entryDone, entryCheck, itemField, itemsCheck, inside, structCheck}
-use Rattle.terms.specs.Announced.{limitIn}
-use Rattle.terms.specs.Value.{heldBy, valueAt}
-use Rattle.open.specs.Frame.{oversized, frameWire, isThere, frameText, frameRule, frameField, placeIf, socketIf, keep, kept, frameCheck, partsOf}
-use Rattle.open.specs.Open.{openingOf, readable, outOfRange, inRange, knownSocket, offeredPipe, offeredFormat, openOf, offered}
-use Rattle.open_write.specs.Frame.{goodName, goodFormat, isGood, formatField, parametersField, frameFor}
-use Rattle.message.specs.Reading.{strangeFlags, bodyOf, readAs, readingOf}
-use Rattle.endpoint.specs.Record.{entryBytes, entryAt, inRanges, countFits, waitFits, awaitable, isNone, entryFits, entriesFit, good as Record·good, freshOf, closed, atPhase, asked, confirmed, limited}
-use Rattle.table.specs.Table.{begun, openRow, readyRow, dataRow, noopRow, closeRow, atRow}
-use Rattle.receiving.specs.Hearing.{movesAs, hearRow, tooLarge, openAt, carriedBy, matchesOldest, unmatched, confirmedBy, replyTo, accepted, hearContent, hearMessage, hearOf}
-use Rattle.receiving.specs.Receiving.{replied, receivedOf}
-use Rattle.receiving.specs.Refusing.{versionCode, closeCode, silent, refused, unchanged}
-use Rattle.sending.specs.Calls.{goodCode, bundleWith}
-use Rattle.sending.specs.Sending.{sendRow, isFull, numberFor, askedBy, sentBy}
-use Rattle.sending.specs.Calls.{OPEN, READY, DATA, NOOP, CLOSE}
 use Rattle.endpoint.specs.declared.Endpoint.{Endpoint}
-use Rattle.session.specs.World.{Datum, Ending, World, Event, start, afterReceive, step, run, tables, Client, Server, Going, HeardClose, WroteClose, sends, receives}
+use Rattle.endpoint.specs.Record.{freshOf}
+use Rattle.sending.specs.Calls.{OPEN, READY, DATA, NOOP, CLOSE}
+use Rattle.machine.specs.Programs.{tables}
+use Rattle.machine.proofs.Computing.{computing}
+use Rattle.session.specs.World.{Datum, Ending, World, Event, begun, afterReceive, step, run, Client, Server, Going, HeardClose, WroteClose, sends, receives}
 
 -- what is looked at afterwards: data sent and accepted, batches agreed, how each end ended, and how many bundles are on their way
-record Noted : Type 0 where
+record Summary : Type 0 where
   from-client : List Datum
   from-server : List Datum
   at-client : List Datum
@@ -48,8 +23,8 @@ record Noted : Type 0 where
   to-server : ℕ
   to-client : ℕ
 
-abbrev noted : World Endpoint → Noted
-noted w =
+abbrev summary : World Endpoint → Summary
+summary w =
     record {
       from-client = w .client .past .sent;
       from-server = w .server .past .sent;
@@ -61,6 +36,11 @@ noted w =
       to-server = length (w .client .queue);
       to-client = length (w .server .queue);
     }
+
+-- a client and a server that were made on these terms, on blank records
+abbrev start : ℕ → ℕ → ℕ → World Endpoint
+start flow limit server-flow =
+    begun tables (record { flow = flow; limit = limit; server-flow = server-flow }) (freshOf 0 0 0) (freshOf 0 0 0)
 
 -- the client produces: of an offer of five it takes two, asks for a confirmation of the second, and is refused a third; one receive has no room
 -- for a reply; the server closes, and the client's NOOP comes after that
@@ -111,7 +91,10 @@ abbrev report : List Datum
 report = record { type-data = 7; body = [] } ∷ []
 
 sessions :
-    noted (run tables (start 1 1000000 2) client-produces) ∷ noted (run tables (start 2 50000000 1) server-produces) ∷ noted (run tables (start 1 50000000 1) both-produce) ∷ []
+    summary (run tables (start 1 1000000 2) client-produces)
+    ∷ summary (run tables (start 2 50000000 1) server-produces)
+    ∷ summary (run tables (start 1 50000000 1) both-produce)
+    ∷ []
     ≡ record {
       from-client = pages;
       from-server = [];
@@ -146,5 +129,5 @@ sessions :
       to-client = 0;
     }
     ∷ []
-unfolding flatMap flatten inUnsigned ofBits ofInt toBits toUnsigned whole fromBytesBehind fromBytes toBytes numberAt same putAt countOf lengthOf lengthsBefore startOf good sizeOf contentsOf frameOf bundleOf signedOf versionOf knownTypeOf bytesOf table dueBehind rest wellFormed payloadAt fieldAt fieldsWithin fieldsOf saidAt varintAt shortestWithin shortestOf tagOf varintField eightField bytesField bitsAt Double·bytesOf limitOf keyOf valuePlace findIn walk firstOf placeIn valueWire valueText valueAllowed valueRule valueField valueCheck bytesRule keyRule seenOf entryField entryDone entryCheck itemField itemsCheck inside structCheck limitIn heldBy valueAt oversized frameWire isThere frameText frameRule frameField placeIf socketIf keep kept frameCheck partsOf openingOf readable outOfRange inRange knownSocket offeredPipe offeredFormat openOf offered goodName goodFormat isGood formatField parametersField frameFor strangeFlags bodyOf readAs readingOf entryBytes entryAt inRanges countFits waitFits awaitable isNone entryFits entriesFit Record·good freshOf closed atPhase asked confirmed limited begun openRow readyRow dataRow noopRow closeRow atRow movesAs hearRow tooLarge openAt carriedBy matchesOldest unmatched confirmedBy replyTo accepted hearContent hearMessage hearOf replied receivedOf versionCode closeCode silent refused unchanged goodCode bundleWith sendRow isFull numberFor askedBy sentBy afterReceive step run client-produces server-produces both-produce
+unfolding computing afterReceive step run client-produces server-produces both-produce
 sessions = refl

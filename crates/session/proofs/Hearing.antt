@@ -1,6 +1,6 @@
 -- Two ends, of which one receives: a packet that is heard, an OPEN that is refused, and a packet that comes after an own close, keep what links
 -- them. Assumes nothing.
-use mathlib.Core.Path.{_≡_, refl, sym, _∙_, ap, subst}
+use mathlib.Core.Path.{_≡_, refl, sym, _∙_, ap}
 use Prim.Native.Nat.{ℕ, _+_, _≤_, _<_, _^_}
 use mathlib.Core.List.{List, [], _∷_, _++_, map, append-assoc, append-nil, flatMap}
 use mathlib.Core.Bool.{Bool, true, false, cond, _&&_, _||_}
@@ -9,9 +9,10 @@ use lib.Dec.{eqb}
 use lib.ListN.{length, length-append}
 use borrow.Author.Tests.{eqb-true}
 use Rattle.bytes_be.specs.Part.{same}
-use Rattle.bytes_be.proofs.Tests.{both-true}
+use Rattle.bytes_be.proofs.Tests.{both-true, clash}
 use Rattle.control.specs.declared.MessageType.{MessageType}
 use Rattle.control.specs.declared.MessageType.the-variants.{Open, Ready, Noop, Data, Close}
+use Rattle.receiving.specs.Hearing.{confirmable}
 use Rattle.open.specs.Open.{offeredSocket}
 use Rattle.open_write.specs.Frame.{socketOf}
 use Rattle.endpoint.specs.declared.Endpoint.{Endpoint}
@@ -20,17 +21,20 @@ use Rattle.endpoint.specs.Record.{producer, idle, batch, capacity, shut, closed
 use Rattle.table.specs.declared.Row.the-variants.{To}
 use Rattle.table.specs.Table.{other, rowOf}
 use Rattle.sending.specs.Calls.{Call, OPEN, READY, DATA, NOOP, CLOSE, askOf, messageOf, typeDataOf}
-use Rattle.session.specs.World.{End, across, Ending, Side, endedBy, withQueue, took, ReceiveOutcome, Client, Server, Going, HeardClose, WroteClose}
-use Rattle.session.specs.Packets.{Packet, bytesIn, rowMessage, typeDataIn, dataIn, readyIn, Called, Confirms, Closes}
-use Rattle.session.specs.Turns.{roleOf, producing, turn, Kind, kindOf, Stage, stageOf, Standing, stands, standing, IsOpen, Hears, Meets, Moves, Stays, Ends, At, ClosedByItself, moved, rested, closed as Hears·closed}
-use Rattle.session.specs.Confirmations.{askedIn, confirmedIn, Confirming, Ledger}
-use Rattle.session.specs.Invariant.{Knows, source, Proper, OneEnd, Linked}
+use Rattle.machine.specs.Programs.{Queued, nothingTold, ReceiveOutcome}
+use Rattle.machine.specs.Runs.{asReply}
+use Rattle.session.specs.World.{End, across, Terms, Ending, Side, dataTold, readyTold, endedBy, endedAfter, withQueue, viewedSide, Client, Server, Going, HeardClose, WroteClose}
+use Rattle.session.specs.Packets.{Packet, queuedIn, bytesIn, toldIn, rowMessage, typeDataIn, dataIn, readyIn, Called, Confirms, Closes}
+use Rattle.session.specs.Turns.{roleOf, producing, turn, Kind, kindOf, Stage, stageOf, Standing, stands, standing, IsOpen, Hears, Converge, Moves, Stays, Ends, At, ClosedByItself, moved, rested, closed as Hears·closed}
+use Rattle.session.specs.Demand.{Ledger}
+use Rattle.session.specs.Confirmations.{askedIn, confirmedIn}
+use Rattle.session.specs.Invariant.{Knows, Model, source, Proper, OneEnd, Linked}
 use Rattle.session.proofs.Table.{Sends, calms, Moved, opens, gives, row-moved, row-hears, other-role, phaseIn, nIn, leads-alive, leads-active}
-use Rattle.session.proofs.Turns.{across-differs, sends-meets, refuses-meets}
+use Rattle.session.proofs.Turns.{across-differs, sends-converge, refuses-converge}
 use Rattle.session.proofs.Streams.{hears-awaits, gone-awaits, across-hears-awaits, across-gone-awaits, writes-delivers, hears-delivers, gone-delivers}
-use Rattle.session.specs.Laws.{answersIn, Comes, limitAfter, MayTake, offeredIn, Taken}
+use Rattle.session.specs.Laws.{answersIn, MayTake, offeredIn, Heard}
 use Rattle.session.proofs.Packets.{isOpenMessage, OpenOrOther, an-open, another, open-or-other}
-use Rattle.session.proofs.Ends.{hearer-knows, heard-sides, refused-sides}
+use Rattle.session.proofs.Ends.{took, tookIn, hearer-knows, heard-sides, refused-sides}
 
 -- where an end stands that heard a message
 
@@ -82,28 +86,28 @@ data-active : {role flow phase n type-data next count : ℕ} → Moved role flow
 data-active (gives produces batching begins) = (omega arith, omega arith)
 
 -- a packet that is sent or not
-meets-if : (from end : End) {a b : Standing} {p q : List Packet} {m : Packet} (t : Bool) → Sends from end a m a → Meets from end a p b q → Meets from end a (p ++ cond t (m ∷ []) []) b q
-meets-if from end true sends meets = sends-meets from end meets sends
-meets-if from end false sends meets = rw append-nil meets
+converge-if : (from end : End) {a b : Standing} {p q : List Packet} {m : Packet} (t : Bool) → Sends from end a m a → Converge from end a p b q → Converge from end a (p ++ cond t (m ∷ []) []) b q
+converge-if from end true sends converge = sends-converge from end converge sends
+converge-if from end false sends converge = rw append-nil converge
 
 -- the confirmation of a packet is a quiet message
-answers-meets : (prompt : MessageType → Bool) (from end : End) {s : Stage} {a b : Standing} {p q : List Packet} (m : Packet) → Hears from end (At s) m a
-    → Meets from end a p b q → Meets from end a (p ++ answersIn prompt m) b q
-answers-meets prompt from end (Called e (OPEN name format)) hears meets = rw append-nil meets
-answers-meets prompt from end (Called e (READY count)) hears meets = rw append-nil meets
-answers-meets prompt from end {s} (Called e (DATA type-data true body)) (moved {t = t} moving theirs leads) meets =
+answers-converge : (prompt : MessageType → Bool) (from end : End) {s : Stage} {a b : Standing} {p q : List Packet} (m : Packet) → Hears from end (At s) m a
+    → Converge from end a p b q → Converge from end a (p ++ answersIn prompt m) b q
+answers-converge prompt from end (Called e (OPEN name format)) hears converge = rw append-nil converge
+answers-converge prompt from end (Called e (READY count)) hears converge = rw append-nil converge
+answers-converge prompt from end {s} (Called e (DATA type-data true body)) (moved {t = t} moving theirs leads) converge =
     let move = row-moved (roleOf (turn from (s .phase))) producer (s .phase) (s .n) Data type-data (t .phase) (t .n) leads in
-    meets-if from end (prompt Data) (calms refl (leads-active from s (Called e (DATA type-data true body)) t moving leads (data-active move))) meets
-answers-meets prompt from end (Called e (DATA type-data true body)) (rested still active) meets = let z : _≡_ {A = ℕ} 0 1 = cc in absurd (omega arith)
-answers-meets prompt from end (Called e (DATA type-data true body)) (Hears·closed closing alive) meets = let z : _≡_ {A = ℕ} 0 1 = cc in absurd (omega arith)
-answers-meets prompt from end (Called e (DATA type-data false body)) hears meets = rw append-nil meets
-answers-meets prompt from end (Called e (NOOP type-data true)) (moved moving theirs leads) meets = let z : _≡_ {A = ℕ} 0 1 = cc in absurd (omega arith)
-answers-meets prompt from end (Called e (NOOP type-data true)) (rested still active) meets = meets-if from end (prompt Noop) (calms refl active) meets
-answers-meets prompt from end (Called e (NOOP type-data true)) (Hears·closed closing alive) meets = let z : _≡_ {A = ℕ} 0 1 = cc in absurd (omega arith)
-answers-meets prompt from end (Called e (NOOP type-data false)) hears meets = rw append-nil meets
-answers-meets prompt from end (Called e (CLOSE code)) hears meets = rw append-nil meets
-answers-meets prompt from end (Confirms message type-data) hears meets = rw append-nil meets
-answers-meets prompt from end (Closes code) hears meets = rw append-nil meets
+    converge-if from end (prompt Data) (calms refl (leads-active from s (Called e (DATA type-data true body)) t moving leads (data-active move))) converge
+answers-converge prompt from end (Called e (DATA type-data true body)) (rested still active) converge = clash cc
+answers-converge prompt from end (Called e (DATA type-data true body)) (Hears·closed closing alive) converge = clash cc
+answers-converge prompt from end (Called e (DATA type-data false body)) hears converge = rw append-nil converge
+answers-converge prompt from end (Called e (NOOP type-data true)) (moved moving theirs leads) converge = clash cc
+answers-converge prompt from end (Called e (NOOP type-data true)) (rested still active) converge = converge-if from end (prompt Noop) (calms refl active) converge
+answers-converge prompt from end (Called e (NOOP type-data true)) (Hears·closed closing alive) converge = clash cc
+answers-converge prompt from end (Called e (NOOP type-data false)) hears converge = rw append-nil converge
+answers-converge prompt from end (Called e (CLOSE code)) hears converge = rw append-nil converge
+answers-converge prompt from end (Confirms message type-data) hears converge = rw append-nil converge
+answers-converge prompt from end (Closes code) hears converge = rw append-nil converge
 
 -- who hears data is of the other flow than who produces
 hearer-consumes : (end : End) (own : ℕ) → producing end own ≡ across end → other own ≡ producer
@@ -130,24 +134,28 @@ offered-source own theirs sockets = go (eqb own producer) (eqb theirs producer) 
 pub clients-open : {flow phase n type-data next count : ℕ} → Moved (roleOf Server) flow phase n Open type-data next count → ⊥
 clients-open (opens role begins) = omega (arith, role)
 
-module _ (flow limit serverFlow : ℕ) (Made : Endpoint → Call → Type 0) where
+module _ {A : Type 0} (terms : Terms) (model : Model A) where
   -- and so agrees on who produces
-  open-source : (end : End) (r : Endpoint) (m : Packet) → OpenOrOther m → (name format : List ℕ) {seen phase n next count : ℕ} → Proper flow limit serverFlow Made (across end) m
-      → Moved (roleOf (across end)) seen phase n (rowMessage m) (typeDataIn m) next count → offeredIn m r name format ≡ true → isOpenMessage (rowMessage m) ≡ true → producing end (r .flow) ≡ source flow
-  open-source Client r _ (an-open e asked wanted) name format made moves offered is = absurd (clients-open moves)
-  open-source Server r _ (an-open e asked wanted) name format made moves offered is =
-      let all = both-true (same asked name && eqb (socketOf (e .flow)) (offeredSocket (r .flow))) (eqb (length wanted) 0 || same wanted format) offered in
+  open-source : (end : End) (r : Endpoint) (m : Packet) → OpenOrOther m → (name format : List ℕ) {seen phase n next count : ℕ}
+      → Proper terms (model .rules) (across end) m → Moved (roleOf (across end)) seen phase n (rowMessage m) (typeDataIn m) next count
+      → offeredIn m r name format ≡ true → isOpenMessage (rowMessage m) ≡ true → producing end (r .flow) ≡ source terms
+  open-source Client r _ (an-open e asked wanted) name format made moves offers is = absurd (clients-open moves)
+  open-source Server r _ (an-open e asked wanted) name format made moves offers is =
+      let all = both-true (same asked name && eqb (socketOf (e .flow)) (offeredSocket (r .flow))) (eqb (length wanted) 0 || same wanted format) offers in
       let pipe = both-true (same asked name) (eqb (socketOf (e .flow)) (offeredSocket (r .flow))) (all .0) in
       offered-source (r .flow) (e .flow) (eqb-true _ _ (pipe .1)) ∙ ap (producing Client) (made .flows)
-  open-source end r m (another later offers stays) name format made moves offered is = let z : _≡_ {A = ℕ} 0 1 = cc in absurd (omega arith)
+  open-source end r m (another later always stays) name format made moves offers is = clash cc
 
-  module _ {A : Type 0} (view : A → Endpoint) (Fine : A → Type 0) (confirming : Confirming A) (nothing : (line : ℕ) → confirming .pick line [] ≡ []) (end : End) (x y : Side Endpoint) (p q : List Packet) (m : Packet)
-      (dues dues-across : Ledger) (linked : Linked flow limit serverFlow Made (confirming .pick) end x y p (m ∷ q) dues dues-across) where
+  module _ (nothing : (line : ℕ) → model .rules .pick line [] ≡ []) (end : End) (x y : Side Endpoint) (p q : List Packet) (m : Packet)
+      (dues dues-across : Ledger) (linked : Linked terms (model .rules) end x y p (m ∷ q) dues dues-across) where
+    abbrev e : Endpoint
+    e = x .self
+
     abbrev stage : Stage
-    stage = stageOf (x .self)
+    stage = stageOf e
 
     -- the writer of a packet that was received
-    left-sides : OneEnd flow limit serverFlow Made (across end) (withQueue y (map bytesIn q)) q
+    left-sides : OneEnd terms (model .rules) (across end) (withQueue y (map queuedIn q)) q
     left-sides =
         let there = linked .there in
         record {
@@ -157,43 +165,47 @@ module _ (flow limit serverFlow : ℕ) (Made : Endpoint → Call → Type 0) whe
           ends = there .ends;
           queued = refl;
           proper = there .proper .1;
-          terms = there .terms;
+          settled = there .settled;
           counted = there .counted;
         }
 
     module _ (going : x .past .ending ≡ Going) where
       was : standing x ≡ At stage
-      was = ap (λ (ending : Ending). stands ending (x .self)) going
+      was = ap (λ (ending : Ending). stands ending e) going
 
       -- the entries awaited, but for those that the packet confirms
       abbrev pub later : ℕ → List Entry
-      later line = flatMap (λ (packet : Packet). confirming .pick line (confirmedIn packet)) q ++ linked .awaits line .rest
+      later line = flatMap (λ (packet : Packet). model .rules .pick line (confirmedIn packet)) q ++ linked .awaits line .rest
 
-      awaited-first : (line : ℕ) → dues .waits line ≡ confirming .pick line (confirmedIn m) ++ later line
+      awaited-first : (line : ℕ) → dues .waits line ≡ model .rules .pick line (confirmedIn m) ++ later line
       unfolding flatMap
       awaited-first line =
           linked .awaits line .held (rw was tt)
-          ∙ append-assoc (confirming .pick line (confirmedIn m)) (flatMap (λ (packet : Packet). confirming .pick line (confirmedIn packet)) q) (linked .awaits line .rest)
+          ∙ append-assoc (model .rules .pick line (confirmedIn m)) (flatMap (λ (packet : Packet). model .rules .pick line (confirmedIn packet)) q)
+          (linked .awaits line .rest)
 
-      few-owed : (line : ℕ) → length (dues .owes line) + length (confirming .pick line (askedIn m)) ≤ capacity
+      few-owed : (line : ℕ) → length (dues .owes line) + length (model .rules .pick line (askedIn m)) ≤ capacity
       unfolding flatMap
       few-owed line =
-          let asked : Packet → List Entry = λ packet. confirming .pick line (askedIn packet) in
-          omega (arith, linked .awaits-across line .few (rw was tt), length-append (confirming .pick line (askedIn m)) (flatMap asked q))
+          let asked : Packet → List Entry = λ packet. model .rules .pick line (askedIn packet) in
+          omega (arith, linked .awaits-across line .few (rw was tt), length-append (model .rules .pick line (askedIn m)) (flatMap asked q))
 
-      module _ (a : Standing) (hears : Hears (source flow) end (At stage) m a) where
-        pub leads : rowOf (other (roleOf end)) (other (x .self .flow)) (x .self .phase) (x .self .n) (rowMessage m) (typeDataIn m) ≡ To (phaseIn a) (nIn a)
+      module _ (a : Standing) (hears : Hears (source terms) end (At stage) m a) where
+        pub leads : rowOf (other (roleOf end)) (other (e .flow)) (e .phase) (e .n) (rowMessage m) (typeDataIn m) ≡ To (phaseIn a) (nIn a)
         leads =
-            row-hears (source flow) end (x .self .flow) stage m a hears
-            (λ theirs batching. hearer-consumes end (x .self .flow) (linked .here .terms (batch-known end (x .self .phase) batching) .produced ∙ theirs))
+            row-hears (source terms) end (e .flow) stage m a hears
+            (λ theirs batching. hearer-consumes end (e .flow) (linked .here .settled (batch-known end (e .phase) batching) .produced ∙ theirs))
 
-        pub moves : Moved (roleOf (across end)) (other (x .self .flow)) (x .self .phase) (x .self .n) (rowMessage m) (typeDataIn m) (phaseIn a) (nIn a)
-        moves = row-moved (roleOf (across end)) (other (x .self .flow)) (x .self .phase) (x .self .n) (rowMessage m) (typeDataIn m) (phaseIn a) (nIn a) (rw (other-role end) leads)
+        pub moves : Moved (roleOf (across end)) (other (e .flow)) (e .phase) (e .n) (rowMessage m) (typeDataIn m) (phaseIn a) (nIn a)
+        moves =
+            row-moved (roleOf (across end)) (other (e .flow)) (e .phase) (e .n) (rowMessage m) (typeDataIn m) (phaseIn a) (nIn a)
+            (rw (other-role end) leads)
 
-        data-limit : rowMessage m ≡ Data → x .self .limit ≡ limit
-        data-limit bears = linked .here .terms (hearer-knows end (ap isOpenMessage bears) moves) .limited
+        data-limit : rowMessage m ≡ Data → e .limit ≡ terms .limit
+        data-limit bears = linked .here .settled (hearer-knows end (ap isOpenMessage bears) moves) .limited
 
-        pub head-may : (name format : List ℕ) → offeredIn m (x .self) name format ≡ true → MayTake flow limit serverFlow Made (confirming .pick) end (x .self) dues m name format (phaseIn a) (nIn a) later
+        pub head-may : (name format : List ℕ) → offeredIn m e name format ≡ true
+            → MayTake (model .rules) terms end e dues m name format (phaseIn a) (nIn a) later
         head-may name format offers =
             record {
               sound = linked .here .sound;
@@ -206,55 +218,52 @@ module _ (flow limit serverFlow : ℕ) (Made : Endpoint → Call → Type 0) whe
             }
 
         -- a packet that was heard
-        taken-linked : (result : ReceiveOutcome A) → Taken view Fine Made confirming (x .self) dues m (phaseIn a) (nIn a) later result → Meets (source flow) end a p (standing y) q
-            → (isOpenMessage (rowMessage m) ≡ true → producing end (x .self .flow) ≡ source flow)
-            → Linked flow limit serverFlow Made (confirming .pick) end
-            (took end x (dataIn m) (readyIn m) (endedBy HeardClose (rowMessage m) Going) (map bytesIn (answersIn (confirming .prompt) m)) (view (result .next)))
-            (withQueue y (map bytesIn q)) (p ++ answersIn (confirming .prompt) m) q (confirming .ledger (result .next)) dues-across
-        taken-linked result taken meets produces =
+        pub heard-linked : (result : ReceiveOutcome A) → Heard model e dues m (phaseIn a) (nIn a) later result
+            → (name format : List ℕ) → offeredIn m e name format ≡ true → Converge (source terms) end a p (standing y) q
+            → Linked terms (model .rules) end (tookIn (model .rules .prompt) end x m (model .view .endpoint (result .next))) (withQueue y (map queuedIn q))
+            (p ++ answersIn (model .rules .prompt) m) q (model .view .ledger (result .next)) dues-across
+        heard-linked result taken name format offers converge =
             let comes = taken .comes in
-            let after = hearer-stands (source flow) end stage m a (view (result .next)) hears (comes .phased) (comes .counted) in
+            let next : Endpoint = model .view .endpoint (result .next) in
+            let answers : List Packet = answersIn (model .rules .prompt) m in
+            let produces = open-source end e m (open-or-other m) name format (linked .there .proper .0) moves offers in
+            let after = hearer-stands (source terms) end stage m a next hears (comes .phased) (comes .counted) in
             record {
-              here = heard-sides flow limit serverFlow Made end x p (linked .here) (confirming .prompt) m (phaseIn a) (nIn a) (view (result .next)) (linked .there .proper .0) moves produces comes;
+              here = heard-sides terms model end x p (linked .here) m (phaseIn a) (nIn a) next (linked .there .proper .0) moves produces comes;
               there = left-sides;
-              meets = rw after (answers-meets (confirming .prompt) (source flow) end m hears meets);
+              converge = rw after (answers-converge (model .rules .prompt) (source terms) end m hears converge);
               awaits = λ line.
+                  let asks : Packet → List Entry = λ packet. model .rules .pick line (askedIn packet) in
                   rw after
-                  (hears-awaits (confirming .pick line) (standing x) a m (answersIn (confirming .prompt) m) _
-                  (answers-none (confirming .prompt) (λ (packet : Packet). confirming .pick line (askedIn packet)) (λ message type-data. nothing line) m) (linked .awaits line)
-                  (λ is-open. taken .awaits line (hearer-low (source flow) end stage m a hears is-open)));
+                  (hears-awaits (model .rules .pick line) (standing x) a m answers _
+                  (answers-none (model .rules .prompt) asks (λ message type-data. nothing line) m) (linked .awaits line)
+                  (λ is-open. taken .awaits line (hearer-low (source terms) end stage m a hears is-open)));
               awaits-across = λ line.
                   rw after
-                  (across-hears-awaits (confirming .pick line) (standing y) a stage m (answersIn (confirming .prompt) m) (taken .left line) _ (taken .balance line)
-                  (λ is-open. taken .owes line (hearer-low (source flow) end stage m a hears is-open)) (rw was at (linked .awaits-across line)));
-              delivers = writes-delivers dataIn (standing y) (answersIn (confirming .prompt) m) (answers-none (confirming .prompt) dataIn (λ message type-data. refl) m) (linked .delivers);
+                  (across-hears-awaits (model .rules .pick line) (standing y) a stage m answers (taken .left line) _ (taken .balance line)
+                  (λ is-open. taken .owes line (hearer-low (source terms) end stage m a hears is-open))
+                  (rw was at (linked .awaits-across line)));
+              delivers =
+                  writes-delivers dataIn (standing y) answers (answers-none (model .rules .prompt) dataIn (λ message type-data. refl) m) (linked .delivers);
               delivers-across = rw after (hears-delivers dataIn stage a m (rw was at (linked .delivers-across)));
-              readies = writes-delivers readyIn (standing y) (answersIn (confirming .prompt) m) (answers-none (confirming .prompt) readyIn (λ message type-data. refl) m) (linked .readies);
+              readies =
+                  writes-delivers readyIn (standing y) answers (answers-none (model .rules .prompt) readyIn (λ message type-data. refl) m) (linked .readies);
               readies-across = rw after (hears-delivers readyIn stage a m (rw was at (linked .readies-across)));
             }
 
-        -- what the world notes of it
-        pub heard-linked : (result : ReceiveOutcome A) → Taken view Fine Made confirming (x .self) dues m (phaseIn a) (nIn a) later result
-            → (name format : List ℕ) → offeredIn m (x .self) name format ≡ true → Meets (source flow) end a p (standing y) q
-            → Linked flow limit serverFlow Made (confirming .pick) end
-            (took end x (result .heard) (result .readies) (result .ended (x .past .ending)) (result .replied) (view (result .next)))
-            (withQueue y (map bytesIn q)) (p ++ answersIn (confirming .prompt) m) q (confirming .ledger (result .next)) dues-across
-        heard-linked result taken name format offered meets =
-            rw (taken .carried, taken .readied, taken .replied, going, taken .ends Going)
-            (taken-linked result taken meets (open-source end (x .self) m (open-or-other m) name format (linked .there .proper .0) moves offered))
-
       -- an OPEN that was refused, with the code of its CLOSE
       pub refused-linked : (code : ℕ) (after : Ledger) → code < 256 ^ 2 → kindOf (rowMessage m) ≡ Moves
-          → Linked flow limit serverFlow Made (confirming .pick) end (took end x [] [] WroteClose (map bytesIn (Closes code ∷ [])) (closed (x .self))) (withQueue y (map bytesIn q)) (p ++ (Closes code ∷ [])) q
-          after dues-across
+          → Linked terms (model .rules) end (took end x [] [] WroteClose (queuedIn (Closes code) ∷ []) (closed e)) (withQueue y (map queuedIn q))
+          (p ++ (Closes code ∷ [])) q after dues-across
       unfolding flatMap
       refused-linked code after few moving =
           record {
-            here = refused-sides flow limit serverFlow Made end x p (linked .here) code few;
+            here = refused-sides terms model end x p (linked .here) code few;
             there = left-sides;
-            meets = refuses-meets (source flow) end (Closes code) moving refl (rw was at (linked .meets));
-            awaits = λ line. gone-awaits (confirming .pick line) (standing x) m (Closes code ∷ []) _ (rw (nothing line) refl) (linked .awaits line);
-            awaits-across = λ line. across-gone-awaits (confirming .pick line) (standing y) m (Closes code ∷ []) _ (rw (nothing line) refl) (linked .awaits-across line);
+            converge = refuses-converge (source terms) end (Closes code) moving refl (rw was at (linked .converge));
+            awaits = λ line. gone-awaits (model .rules .pick line) (standing x) m (Closes code ∷ []) _ (rw (nothing line) refl) (linked .awaits line);
+            awaits-across = λ line.
+                across-gone-awaits (model .rules .pick line) (standing y) m (Closes code ∷ []) _ (rw (nothing line) refl) (linked .awaits-across line);
             delivers = writes-delivers dataIn (standing y) (Closes code ∷ []) refl (linked .delivers);
             delivers-across = rw append-nil (gone-delivers dataIn (standing x) m (linked .delivers-across));
             readies = writes-delivers readyIn (standing y) (Closes code ∷ []) refl (linked .readies);
@@ -262,17 +271,94 @@ module _ (flow limit serverFlow : ℕ) (Made : Endpoint → Call → Type 0) whe
           }
 
     -- a packet that came after the own close
-    pub late-linked : x .past .ending ≡ WroteClose → Meets (source flow) end ClosedByItself p (standing y) q → Linked flow limit serverFlow Made (confirming .pick) end x (withQueue y (map bytesIn q)) p q dues dues-across
-    late-linked wrote meets =
-        let gone : standing x ≡ ClosedByItself = ap (λ (ending : Ending). stands ending (x .self)) wrote in
+    pub late-linked : x .past .ending ≡ WroteClose → Converge (source terms) end ClosedByItself p (standing y) q
+        → Linked terms (model .rules) end x (withQueue y (map queuedIn q)) p q dues dues-across
+    late-linked wrote converge =
+        let gone : standing x ≡ ClosedByItself = ap (λ (ending : Ending). stands ending e) wrote in
         record {
           here = linked .here;
           there = left-sides;
-          meets = rw gone meets;
-          awaits = λ line. record { rest = linked .awaits line .rest; held = λ is-open. absurd (rw gone at is-open); due = linked .awaits line .due; few = linked .awaits line .few };
-          awaits-across = λ line. record { rest = linked .awaits-across line .rest; held = linked .awaits-across line .held; due = λ is-open. absurd (rw gone at is-open); few = λ is-open. absurd (rw gone at is-open) };
+          converge = rw gone converge;
+          awaits = λ line.
+              let waits = linked .awaits line in
+              record { rest = waits .rest; held = λ is-open. absurd (rw gone at is-open); due = waits .due; few = waits .few };
+          awaits-across = λ line.
+              let waits = linked .awaits-across line in
+              record {
+                rest = waits .rest;
+                held = waits .held;
+                due = λ is-open. absurd (rw gone at is-open);
+                few = λ is-open. absurd (rw gone at is-open);
+              };
           delivers = linked .delivers;
           delivers-across = rw gone (gone-delivers dataIn (standing x) m (linked .delivers-across));
           readies = linked .readies;
           readies-across = rw gone (gone-delivers readyIn (standing x) m (linked .readies-across));
         }
+
+-- ---- what the world notes of a packet that is told
+
+-- its data, its READY, and how the end has ended
+record NotedAs (m : Packet) : Type 0 where
+  carries : dataTold (toldIn m) ≡ dataIn m
+  readies : readyTold (toldIn m) ≡ readyIn m
+  ends : (replied : List Queued) (before : Ending) → endedAfter 0 (toldIn m) replied before ≡ endedBy HeardClose (rowMessage m) before
+
+called-noted : (e : Endpoint) (call : Call) → NotedAs (Called e call)
+called-noted e (OPEN name format) = record { carries = refl; readies = refl; ends = λ replied before. refl }
+called-noted e (READY count) = record { carries = refl; readies = refl; ends = λ replied before. refl }
+called-noted e (DATA type-data true body) = record { carries = refl; readies = refl; ends = λ replied before. refl }
+called-noted e (DATA type-data false body) = record { carries = refl; readies = refl; ends = λ replied before. refl }
+called-noted e (NOOP type-data ask) = record { carries = refl; readies = refl; ends = λ replied before. refl }
+called-noted e (CLOSE code) = record { carries = refl; readies = refl; ends = λ replied before. refl }
+
+confirmation-noted : (message : MessageType) (type-data : ℕ) → confirmable message ≡ true → NotedAs (Confirms message type-data)
+confirmation-noted Open type-data can = clash cc
+confirmation-noted Ready type-data can = clash cc
+confirmation-noted Noop type-data can = record { carries = refl; readies = refl; ends = λ replied before. refl }
+confirmation-noted Data type-data can = record { carries = refl; readies = refl; ends = λ replied before. refl }
+confirmation-noted Close type-data can = clash cc
+
+told-noted : {A : Type 0} (terms : Terms) (model : Model A) (end : End) (m : Packet) → Proper terms (model .rules) end m → NotedAs m
+told-noted terms model end (Called e call) proper = called-noted e call
+told-noted terms model end (Confirms message type-data) proper = confirmation-noted message type-data (proper .0)
+told-noted terms model end (Closes code) proper = record { carries = refl; readies = refl; ends = λ replied before. refl }
+
+-- the confirmation is told nothing
+answers-queued : (prompt : MessageType → Bool) (m : Packet) → map asReply (map bytesIn (answersIn prompt m)) ≡ map queuedIn (answersIn prompt m)
+answers-queued prompt (Called e call) = go (askOf call) (prompt (messageOf call))
+  where
+    answers : Bool → Bool → List Packet
+    answers ask at-once = cond ask (cond at-once (Confirms (messageOf call) (typeDataOf call) ∷ []) []) []
+
+    go : (ask at-once : Bool) → map asReply (map bytesIn (answers ask at-once)) ≡ map queuedIn (answers ask at-once)
+    go true true = refl
+    go true false = refl
+    go false at-once = refl
+answers-queued prompt (Confirms message type-data) = refl
+answers-queued prompt (Closes code) = refl
+
+module _ {A : Type 0} (model : Model A) (end : End) (x : Side A) (m : Packet) (result : ReceiveOutcome A) where
+  abbrev seen : Side Endpoint
+  seen = viewedSide (model .view .endpoint) x
+
+  abbrev next : Endpoint
+  next = model .view .endpoint (result .next)
+
+  abbrev pub noted-side : Side Endpoint
+  noted-side =
+      took end seen (dataTold (result .told)) (readyTold (result .told))
+      (endedAfter (result .number) (result .told) (map asReply (result .replied)) (x .past .ending)) (map asReply (result .replied)) next
+
+  -- what is told of a packet that is heard is what it carries
+  pub heard-noted : (terms : Terms) → Proper terms (model .rules) (across end) m → result .number ≡ 0 → result .told ≡ toldIn m
+      → result .replied ≡ map bytesIn (answersIn (model .rules .prompt) m) → x .past .ending ≡ Going → noted-side ≡ tookIn (model .rules .prompt) end seen m next
+  heard-noted terms proper answered told replied going =
+      let noted = told-noted terms model (across end) m proper in
+      let answers = answers-queued (model .rules .prompt) m in
+      rw (answered, told, replied, going, answers, noted .carries, noted .readies, noted .ends (map queuedIn (answersIn (model .rules .prompt) m)) Going) refl
+
+  -- of an OPEN that is refused nothing is told, and its CLOSE is an ending
+  pub refused-noted : (code : ℕ) → eqb (result .number) 0 ≡ false → result .told ≡ nothingTold → result .replied ≡ bytesIn (Closes code) ∷ []
+      → noted-side ≡ took end seen [] [] WroteClose (queuedIn (Closes code) ∷ []) next
+  refused-noted code refused told replied = rw (refused, told, replied) refl

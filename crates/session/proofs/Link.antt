@@ -8,20 +8,19 @@ use mathlib.Core.List.{List, [], _∷_, _++_, flatMap}
 use borrow.Author.Tests.{eq-eqb, eqb-true}
 use Rattle.control.specs.declared.MessageType.{MessageType}
 use Rattle.endpoint.specs.declared.Endpoint.{Endpoint}
-use Rattle.endpoint.specs.declared.Entry.{Entry}
 use Rattle.endpoint.specs.Record.{capacity, producer, shut}
 use Rattle.sending.specs.Calls.{Call, messageOf, typeDataOf}
-use Rattle.machine.specs.Good.{Fits}
-use Rattle.session.specs.World.{End, across, Ending, SendOutcome, Side, endedBy, wrote, Going, WroteClose}
-use Rattle.session.specs.Packets.{Packet, dataIn, readyIn, Called}
-use Rattle.session.specs.Turns.{roleOf, producing, stageOf, stands, standing, IsOpen, At, ClosedByItself}
-use Rattle.session.specs.Confirmations.{Confirming, Ledger}
-use Rattle.session.specs.Invariant.{source, OneEnd, Linked}
+use Rattle.machine.specs.Programs.{SendOutcome}
+use Rattle.session.specs.World.{End, across, Terms, Ending, Side, endedBy, Going, WroteClose}
+use Rattle.session.specs.Packets.{Packet, queuedIn, dataIn, readyIn}
+use Rattle.session.specs.Turns.{roleOf, producing, stageOf, stands, standing, IsOpen, Listens, At, ClosedByItself}
+use Rattle.session.specs.Demand.{Ledger}
+use Rattle.session.specs.Invariant.{Model, source, OneEnd, Linked}
 use Rattle.session.specs.Laws.{SentOn}
 use Rattle.session.proofs.Table.{row-moved, moved-low, Landed, goes-on, closes-both, moved-lands, landing, landing-at, row-sends}
-use Rattle.session.proofs.Turns.{across-meets, across-twice, sends-meets}
+use Rattle.session.proofs.Turns.{across-converge, across-twice, sends-converge}
 use Rattle.session.proofs.Streams.{sends-awaits, across-sends-awaits, sends-delivers, across-delivers}
-use Rattle.session.proofs.Ends.{is-going, sender-knows, sent-sides}
+use Rattle.session.proofs.Ends.{wrote, is-going, sender-knows, sent-sides}
 
 -- where an end stands that sent a message
 
@@ -41,15 +40,19 @@ lands-shut next count closed = go (eqb next shut) refl closed
     go true is shut-down = eqb-true next shut is
     go false is shut-down = absurd (shut-down tt)
 
-module _ (flow limit serverFlow : ℕ) (Made : Endpoint → Call → Type 0) where
+-- who produces, seen from an end that does
+own-source : (terms : Terms) (end : End) (own : ℕ) → producing end own ≡ source terms → own ≡ producer → source terms ≡ end
+own-source terms end own agreed is-producer = sym agreed ∙ rw is-producer refl
+
+module _ {A : Type 0} (terms : Terms) (model : Model A) (end : End) (x y : Side Endpoint) (p q : List Packet) (dues dues-across : Ledger)
+    (linked : Linked terms (model .rules) end x y p q dues dues-across) where
   -- the same two ends, seen from the other
-  pub across-linked : (pick : ℕ → List Entry → List Entry) (end : End) (x y : Side Endpoint) (p q : List Packet) (dues dues-across : Ledger)
-      → Linked flow limit serverFlow Made pick end x y p q dues dues-across → Linked flow limit serverFlow Made pick (across end) y x q p dues-across dues
-  across-linked pick end x y p q dues dues-across linked =
+  pub across-linked : Linked terms (model .rules) (across end) y x q p dues-across dues
+  across-linked =
       record {
         here = linked .there;
-        there = subst (λ (e : End). OneEnd flow limit serverFlow Made e x p) (across-twice end) (linked .here);
-        meets = across-meets (source flow) end (linked .meets);
+        there = subst (λ (e : End). OneEnd terms (model .rules) e x p) (across-twice end) (linked .here);
+        converge = across-converge (source terms) end (linked .converge);
         awaits = linked .awaits-across;
         awaits-across = linked .awaits;
         delivers = linked .delivers-across;
@@ -58,47 +61,44 @@ module _ (flow limit serverFlow : ℕ) (Made : Endpoint → Call → Type 0) whe
         readies-across = linked .readies;
       }
 
-  -- who produces, seen from an end that does
-  own-source : (end : End) (own : ℕ) → producing end own ≡ source flow → own ≡ producer → source flow ≡ end
-  own-source end own agreed is-producer = sym agreed ∙ rw is-producer refl
-
-  module _ {A : Type 0} (view : A → Endpoint) (Fine : A → Type 0) (confirming : Confirming A) (end : End) (x y : Side Endpoint) (p q : List Packet) (dues dues-across : Ledger)
-      (linked : Linked flow limit serverFlow Made (confirming .pick) end x y p q dues dues-across) where
-    -- an accepted send
-    pub sent-linked : (call : Call) (result : SendOutcome A) → (sent : SentOn view Fine Made confirming (x .self) dues call result)
-        → ((line : ℕ) → length (confirming .ledger (result .next) .waits line) ≤ capacity)
-        → Linked flow limit serverFlow Made (confirming .pick) end (wrote end x call (result .bytes) (view (result .next))) y (p ++ (sent .packet ∷ [])) q
-        (confirming .ledger (result .next)) dues-across
-    unfolding flatMap
-    sent-linked call result sent bounded =
-        let here = linked .here in
-        let m : Packet = sent .packet in
-        let leads = rw (here .role) at (sent .leads) in
-        let moves = row-moved (roleOf end) (x .self .flow) (x .self .phase) (x .self .n) (messageOf call) (typeDataOf call) (sent .phase) (sent .n) leads in
-        let going = is-going (x .past .ending) (x .self .phase) (here .ends) (moved-low moves) in
-        let knows = here .terms (sender-knows end moves) in
-        let after : stands (endedBy WroteClose (messageOf call) (x .past .ending)) (view (result .next)) ≡ landing (sent .phase) (sent .n) =
-        rw going (writer-stands (view (result .next)) (sent .comes .phased) (sent .comes .counted) (moved-lands moves)) in
-        let was : standing x ≡ At (stageOf (x .self)) = ap (λ (ending : Ending). stands ending (x .self)) going in
-        let was-open : IsOpen (standing x) = rw was tt in
-        record {
-          here = sent-sides flow limit serverFlow Made end x p here view Fine confirming dues call result sent;
-          there = linked .there;
-          meets =
-              rw after
-              (sends-meets (source flow) end (rw was at (linked .meets))
-              (row-sends (source flow) end (x .self .flow) (x .self .phase) (x .self .n) m (sent .phase) (sent .n) (rw (here .role) at (sent .sends)) (λ produces batching. own-source end (x .self .flow) (knows .produced) produces)));
-          awaits = λ line.
-              rw after
-              (sends-awaits (confirming .pick line) (stageOf (x .self)) (landing (sent .phase) (sent .n)) m _
-              (λ is-open. sent .awaits line (lands-low (sent .phase) (sent .n) is-open)) (bounded line) (λ shut-down. sent .silent (lands-shut (sent .phase) (sent .n) shut-down) line)
-              (rw was at (linked .awaits line)));
-          awaits-across = λ line.
-              rw after
-              (across-sends-awaits (confirming .pick line) (standing y) (landing (sent .phase) (sent .n)) (stageOf (x .self)) m (sent .left line) _ (sent .files line)
-              (λ is-open. sent .owes line (lands-low (sent .phase) (sent .n) is-open)) (rw was at (linked .awaits-across line)));
-          delivers = rw (sent .carried) (sends-delivers dataIn (standing y) m (linked .delivers));
-          delivers-across = across-delivers dataIn (standing x) _ (λ is-open. was-open) (linked .delivers-across);
-          readies = rw (sent .readied) (sends-delivers readyIn (standing y) m (linked .readies));
-          readies-across = across-delivers readyIn (standing x) _ (λ is-open. was-open) (linked .readies-across);
-        }
+  -- an accepted send
+  pub sent-linked : (call : Call) (result : SendOutcome A) → (sent : SentOn model (x .self) dues call result)
+      → ((line : ℕ) → length (model .view .ledger (result .next) .waits line) ≤ capacity)
+      → Linked terms (model .rules) end (wrote end x call (queuedIn (sent .packet)) (model .view .endpoint (result .next))) y (p ++ (sent .packet ∷ [])) q
+      (model .view .ledger (result .next)) dues-across
+  unfolding flatMap
+  sent-linked call result sent bounded =
+      let here = linked .here in
+      let m : Packet = sent .packet in
+      let e : Endpoint = x .self in
+      let leads = rw (here .role) at (sent .leads) in
+      let moves = row-moved (roleOf end) (e .flow) (e .phase) (e .n) (messageOf call) (typeDataOf call) (sent .phase) (sent .n) leads in
+      let going = is-going (x .past .ending) (e .phase) (here .ends) (moved-low moves) in
+      let knows = here .settled (sender-knows end moves) in
+      let next : Endpoint = model .view .endpoint (result .next) in
+      let after : stands (endedBy WroteClose (messageOf call) (x .past .ending)) next ≡ landing (sent .phase) (sent .n) =
+      rw going (writer-stands next (sent .comes .phased) (sent .comes .counted) (moved-lands moves)) in
+      let was : standing x ≡ At (stageOf e) = ap (λ (ending : Ending). stands ending e) going in
+      let listened : Listens (standing x) = rw was tt in
+      record {
+        here = sent-sides terms model end x p here dues call result sent;
+        there = linked .there;
+        converge =
+            rw after
+            (sends-converge (source terms) end (rw was at (linked .converge))
+            (row-sends (source terms) end (e .flow) (e .phase) (e .n) m (sent .phase) (sent .n) (rw (here .role) at (sent .sends))
+            (λ produces batching. own-source terms end (e .flow) (knows .produced) produces)));
+        awaits = λ line.
+            rw after
+            (sends-awaits (model .rules .pick line) (stageOf e) (landing (sent .phase) (sent .n)) m _
+            (λ is-open. sent .awaits line (lands-low (sent .phase) (sent .n) is-open)) (bounded line)
+            (λ shut-down. sent .silent (lands-shut (sent .phase) (sent .n) shut-down) line) (rw was at (linked .awaits line)));
+        awaits-across = λ line.
+            rw after
+            (across-sends-awaits (model .rules .pick line) (standing y) (landing (sent .phase) (sent .n)) (stageOf e) m (sent .left line) _
+            (sent .files line) (λ is-open. sent .owes line (lands-low (sent .phase) (sent .n) is-open)) (rw was at (linked .awaits-across line)));
+        delivers = rw (sent .carried) (sends-delivers dataIn (standing y) m (linked .delivers));
+        delivers-across = across-delivers dataIn (standing x) _ (λ listens. listened) (linked .delivers-across);
+        readies = rw (sent .readied) (sends-delivers readyIn (standing y) m (linked .readies));
+        readies-across = across-delivers readyIn (standing x) _ (λ listens. listened) (linked .readies-across);
+      }

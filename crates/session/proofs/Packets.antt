@@ -1,11 +1,12 @@
 -- Which packets are OPENs; where a row leads, and what a call of the tables puts on its way. Assumes nothing.
 use mathlib.Core.Path.{_≡_, _∙_, ap, refl, subst, sym}
 use Prim.Native.Nat.{ℕ, _+_, _*_, _<_, _^_}
-use mathlib.Core.List.{List, [], _∷_, _++_, append-nil, map}
+use mathlib.Core.List.{List, [], _∷_, _++_, append-nil}
 use mathlib.Core.Bool.{Bool, true, false, cond, _&&_}
 use native.Mathlib.Omega.{arith}
 use lib.Dec.{eqb, leb, ltb}
 use borrow.Author.Tests.{eqb-true, leb-false, ne-eqb}
+use Rattle.bytes_be.proofs.Tests.{clash}
 use Rattle.bytes_be.specs.Part.{putAt}
 use Rattle.control.specs.declared.MessageType.{MessageType}
 use Rattle.control.specs.declared.MessageType.the-variants.{Open, Ready, Noop, Data, Close}
@@ -24,10 +25,11 @@ use Rattle.sending.proofs.Decided.{accepted-passed, accepted-sent}
 use Rattle.machine.specs.Good.{Sound, Fits}
 use Rattle.machine.proofs.Good.{sent-good}
 use Rattle.machine.proofs.Rows.{row-sound}
-use Rattle.session.specs.World.{tables}
+use Rattle.machine.specs.Programs.{tables}
 use Rattle.session.specs.Packets.{Packet, rowMessage, Called, Confirms, Closes}
 use Rattle.session.specs.Confirmations.{entryFor}
-use Rattle.session.specs.Laws.{atOnce, ByTables, limitAfter, Comes, SentOn, offeredIn}
+use Rattle.session.specs.Demand.{promptLedger}
+use Rattle.session.specs.Laws.{onRecords, limitAfter, Comes, SentOn, offeredIn}
 use Rattle.session.proofs.Table.{row-moved, Landed, goes-on, closes-both, moved-lands}
 
 -- a packet is an OPEN, or another one, which is always offered and leaves the limit as it is
@@ -41,8 +43,8 @@ isOpenMessage Close = false
 
 pub data OpenOrOther : Packet → Type 0 where
   an-open : (e : Endpoint) (asked wanted : List ℕ) → OpenOrOther (Called e (OPEN asked wanted))
-  another : {m : Packet} → isOpenMessage (rowMessage m) ≡ false → ((r : Endpoint) (name format : List ℕ) → offeredIn m r name format ≡ true) → ((limit : ℕ) → limitAfter m limit ≡ limit)
-      → OpenOrOther m
+  another : {m : Packet} → isOpenMessage (rowMessage m) ≡ false → ((r : Endpoint) (name format : List ℕ) → offeredIn m r name format ≡ true)
+      → ((limit : ℕ) → limitAfter m limit ≡ limit) → OpenOrOther m
 
 pub open-or-other : (m : Packet) → OpenOrOther m
 open-or-other (Called e (OPEN name format)) = an-open e name format
@@ -67,7 +69,8 @@ module _ (e : Endpoint) (sound : Sound e) (role flow : ℕ) (message : MessageTy
   unfolding atRow closed atPhase
   row-comes = go (eqb phase shut) refl (subst (λ (row : Row). Sound (moved e row)) leads (row-sound e sound role flow message type-data few))
     where
-      go : (t : Bool) → eqb phase shut ≡ t → Sound (cond t (closed e) (atPhase e phase n)) → Comes e phase n (e .limit) (cond t (closed e) (atPhase e phase n))
+      go : (t : Bool) → eqb phase shut ≡ t → Sound (cond t (closed e) (atPhase e phase n))
+          → Comes e phase n (e .limit) (cond t (closed e) (atPhase e phase n))
       go true ends good =
           let same = eqb-true phase shut ends in
           let none = landed-empty (moved-lands (row-moved role flow (e .phase) (e .n) message type-data phase n leads)) same in
@@ -93,8 +96,8 @@ record LeadsOn (row : Row) : Type 0 where
   leads : row ≡ To phase n
 
 leads-on : (row : Row) → notAllowed row ≡ false → aboveOffer row ≡ false → LeadsOn row
-leads-on NotAllowed barred below = let z : _≡_ {A = ℕ} 0 1 = cc in absurd (omega arith)
-leads-on AboveOffer passes above = let z : _≡_ {A = ℕ} 0 1 = cc in absurd (omega arith)
+leads-on NotAllowed barred below = clash cc
+leads-on AboveOffer passes above = clash cc
 leads-on (To phase n) passes below = record { phase = phase; n = n; leads = refl }
 
 module _ (e after : Endpoint) (phase n limit : ℕ) (comes : Comes e phase n limit after) (entry : Entry) where
@@ -104,10 +107,27 @@ module _ (e after : Endpoint) (phase n limit : ℕ) (comes : Comes e phase n lim
   asked-comes = go (ltb (after .w) capacity)
     where
       more : Endpoint
-      more = record { role = after .role; flow = after .flow; phase = after .phase; w = after .w + 1; n = after .n; limit = after .limit; entries = putAt (after .entries) (3 * after .w) (entryBytes entry) }
+      more =
+          record {
+            role = after .role;
+            flow = after .flow;
+            phase = after .phase;
+            w = after .w + 1;
+            n = after .n;
+            limit = after .limit;
+            entries = putAt (after .entries) (3 * after .w) (entryBytes entry);
+          }
 
       go : (t : Bool) → Sound (cond t more after) → Comes e phase n limit (cond t more after)
-      go true sound = record { sound = sound; phased = comes .phased; counted = comes .counted; role = comes .role; flow = comes .flow; limited = comes .limited }
+      go true sound =
+          record {
+            sound = sound;
+            phased = comes .phased;
+            counted = comes .counted;
+            role = comes .role;
+            flow = comes .flow;
+            limited = comes .limited;
+          }
       go false sound = comes
 
   ask-comes : (ask : Bool) → Sound (cond ask (asked after entry) after) → Comes e phase n limit (cond ask (asked after entry) after)
@@ -115,19 +135,22 @@ module _ (e after : Endpoint) (phase n limit : ℕ) (comes : Comes e phase n lim
   ask-comes false sound = comes
 
   -- and adds its entry to them
-  ask-awaited : (ask : Bool) → entry .«type_data» < 256 ^ 2 → ask && leb capacity (after .w) ≡ false → awaited (cond ask (asked after entry) after) ≡ awaited after ++ cond ask (entry ∷ []) []
+  ask-awaited : (ask : Bool) → entry .«type_data» < 256 ^ 2 → ask && leb capacity (after .w) ≡ false
+      → awaited (cond ask (asked after entry) after) ≡ awaited after ++ cond ask (entry ∷ []) []
   ask-awaited true few room = asked-awaited after (comes .sound .sized .full) entry few (leb-false capacity (after .w) room)
   ask-awaited false few room = sym (append-nil (awaited after))
 
 -- what leads to phase 5 is a CLOSE, which asks for nothing
-shut-asks : (call : Call) {next count : ℕ} → Landed (messageOf call) next count → next ≡ shut → cond (askOf call) (entryFor (messageOf call) (typeDataOf call) ∷ []) [] ≡ []
+shut-asks : (call : Call) {next count : ℕ} → Landed (messageOf call) next count → next ≡ shut
+    → cond (askOf call) (entryFor (messageOf call) (typeDataOf call) ∷ []) [] ≡ []
 shut-asks (OPEN name format) landed is-shut = refl
 shut-asks (READY count) landed is-shut = refl
 shut-asks (DATA type-data ask body) (goes-on stays low) is-shut = absurd (omega (arith, is-shut, low))
 shut-asks (NOOP type-data ask) (goes-on stays low) is-shut = absurd (omega (arith, is-shut, low))
 shut-asks (CLOSE code) landed is-shut = refl
 
-pub sent-on : (e : Endpoint) (call : Call) (room : ℕ) → Sound e → Fits call → sendOf e call room .number ≡ 0 → SentOn (λ after. after) Sound ByTables atOnce e (atOnce .ledger e) call (tables .send e call room)
+pub sent-on : (e : Endpoint) (call : Call) (room : ℕ) → Sound e → Fits call → sendOf e call room .number ≡ 0
+    → SentOn onRecords e (promptLedger e) call (tables .send e call room)
 unfolding sendRow askedBy isFull
 sent-on e call room sound fits zero-number =
     let o : Outgoing = outgoing e call in
@@ -138,15 +161,22 @@ sent-on e call room sound fits zero-number =
     let next : sendOf e call room .next ≡ cond (askOf call) (asked after entry) after =
     ap (λ (s : Sent). s .next) (accepted-sent e o room zero-number) ∙ ap (λ (row : Row). askedBy (moved e row) o) (on .leads) in
     let comes = row-comes e sound (e .role) (e .flow) (messageOf call) (typeDataOf call) (on .phase) (on .n) fits (on .leads) in
+    let moves = row-moved (e .role) (e .flow) (e .phase) (e .n) (messageOf call) (typeDataOf call) (on .phase) (on .n) (on .leads) in
     record {
       fine = sent-good e sound call fits room;
       packet = Called e call;
-      bytes = refl;
-      proper = λ flow limit serverFlow end flows limited. record { fits = fits; accepted = record { room = room; accepted = zero-number }; flows = flows; limited = limited };
+      queued = refl;
+      proper =
+          λ terms end flows limited. record {
+            fits = fits;
+            accepted = record { room = room; accepted = zero-number };
+            flows = flows;
+            limited = limited;
+          };
       carried = refl;
       readied = refl;
       sends = on .leads;
-      silent = λ is-shut line. shut-asks call (moved-lands (row-moved (e .role) (e .flow) (e .phase) (e .n) (messageOf call) (typeDataOf call) (on .phase) (on .n) (on .leads))) is-shut;
+      silent = λ is-shut line. shut-asks call (moved-lands moves) is-shut;
       phase = on .phase;
       n = on .n;
       leads = on .leads;

@@ -10,19 +10,18 @@ use Rattle.utf8.specs.Text.{table, dueBehind, rest, wellFormed}
 use Rattle.open_write.specs.Frame.{goodName, goodFormat, isGood}
 use Rattle.endpoint.specs.declared.Endpoint.{Endpoint}
 use Rattle.endpoint.specs.Record.{producer, fresh, opening, idle, offer, batch, shut}
-use Rattle.table.specs.declared.Row.the-variants.{To}
-use Rattle.table.specs.Table.{rowOf}
 use Rattle.sending.specs.Calls.{Call, OPEN, READY, DATA, messageOf, typeDataOf, askOf, aboveLimit, misgiven, miscoded}
 use Rattle.machine.specs.Good.{Fits, Sound}
 use Rattle.machine.proofs.Rows.{n-small}
-use Rattle.session.specs.World.{End, across, Program, Client, Server}
+use Rattle.machine.specs.Programs.{Program}
+use Rattle.session.specs.World.{End, across, Client, Server}
 use Rattle.session.specs.Turns.{roleOf, producing}
-use Rattle.session.specs.Confirmations.{Confirming}
 use Rattle.session.specs.Demand.{MaySend, movesOn}
+use Rattle.session.specs.Invariant.{Model}
 use Rattle.session.specs.Laws.{Laws, MayCall}
 use Rattle.session.proofs.Turns.{across-differs}
 use Rattle.session.proofs.Taking.{limit-least}
-use Rattle.session.proofs.Table.{Begun, nothing, something, opens, offers, takes, gives, moved-row}
+use Rattle.session.proofs.Table.{Begun, nothing, something, Moved, opens, offers, takes, gives, moved-row}
 
 -- a call that moves on and that no test refuses
 pub record Speaks (e : Endpoint) (call : Call) : Type 0 where
@@ -31,8 +30,10 @@ pub record Speaks (e : Endpoint) (call : Call) : Type 0 where
   pub may : MayCall e call
 
 -- is sent by a program that has the laws
-pub speaks-sent : {A O : Type 0} {prog : Program A O} {view : A → Endpoint} {Fine : A → Type 0} {Made : Endpoint → Call → Type 0} {confirming : Confirming A} → Laws prog view Fine Made confirming → (self : A) (call : Call) → Fine self → Speaks (view self) call → MaySend prog view self call
-speaks-sent laws self call fine speaks = record { fits = speaks .fits; moves-on = speaks .moves-on; sent = laws .sends self call fine (speaks .may) (speaks .fits) }
+pub speaks-sent : {A O : Type 0} {prog : Program A O} {model : Model A} → Laws prog model → (self : A) (call : Call) → model .Fine self
+    → Speaks (model .view .endpoint self) call → MaySend prog (model .view) self call
+speaks-sent laws self call fine speaks =
+    record { fits = speaks .fits; moves-on = speaks .moves-on; accepted = laws .sends self call fine (speaks .may) (speaks .fits) }
 
 -- where any count begins
 begun-any : (phase count : ℕ) → (next : ℕ) × (m : ℕ) × Begun phase count next m
@@ -52,19 +53,28 @@ unfolding isGood goodName goodFormat wellFormed rest dueBehind table
 named-well = refl
 
 module _ (end : End) (e : Endpoint) (sound : Sound e) (role : e .role ≡ roleOf end) where
-  may-call : eqb (e .phase) shut ≡ false → (call : Call) (phase n : ℕ) → rowOf (e .role) (e .flow) (e .phase) (e .n) (messageOf call) (typeDataOf call) ≡ To phase n
+  -- the row of a call leads on, and no test refuses it
+  may-call : eqb (e .phase) shut ≡ false → (call : Call) {phase n : ℕ} → Moved (e .role) (e .flow) (e .phase) (e .n) (messageOf call) (typeDataOf call) phase n
       → askOf call ≡ false → aboveLimit e call ≡ false → misgiven call ≡ false → miscoded e call ≡ false → MayCall e call
-  may-call alive call phase n leads askless small given coded =
-      record { sound = sound; alive = alive; phase = phase; n = n; leads = leads; askless = askless; small = small; given = given; coded = coded }
+  may-call alive call {phase} {n} moves askless small given coded =
+      record {
+        sound = sound;
+        alive = alive;
+        phase = phase;
+        n = n;
+        leads = moved-row moves;
+        askless = askless;
+        small = small;
+        given = given;
+        coded = coded;
+      }
 
   pub opens-first : end ≡ Client → e .phase ≡ fresh → Speaks e (OPEN (97 ∷ []) [])
   opens-first mine begins =
       record {
         fits = lit< tt;
         moves-on = refl;
-        may =
-            may-call (rw begins refl) (OPEN (97 ∷ []) []) opening 0
-            (moved-row {role = e .role} {flow = e .flow} {phase = e .phase} {n = e .n} {type-data = 0} (opens (role ∙ rw mine refl) begins)) refl refl (simp named-well) refl;
+        may = may-call (rw begins refl) (OPEN (97 ∷ []) []) (opens (role ∙ rw mine refl) begins) refl refl (simp named-well) refl;
       }
 
   pub offers-one : end ≡ Server → opening ≤ e .phase → e .phase ≤ idle → Speaks e (READY 1)
@@ -73,8 +83,8 @@ module _ (end : End) (e : Endpoint) (sound : Sound e) (role : e .role ≡ roleOf
         fits = lit< tt;
         moves-on = refl;
         may =
-            may-call (ne-eqb (e .phase) shut (λ same. omega arith)) (READY 1) offer 1
-            (moved-row {role = e .role} {flow = e .flow} {phase = e .phase} {n = e .n} {type-data = 1} (offers (λ same. not-client mine (sym role ∙ same)) low high (something (omega arith)))) refl refl refl refl;
+            may-call (ne-eqb (e .phase) shut (λ same. omega arith)) (READY 1)
+            (offers (λ same. not-client mine (sym role ∙ same)) low high (something (omega arith))) refl refl refl refl;
       }
     where
       not-client : end ≡ Server → roleOf end ≡ 1 → ⊥
@@ -82,22 +92,20 @@ module _ (end : End) (e : Endpoint) (sound : Sound e) (role : e .role ≡ roleOf
 
   pub takes-all : end ≡ Client → e .phase ≡ offer → Speaks e (READY (e .n))
   takes-all mine offered =
-      let begins = begun-any batch (e .n) in
       record {
         fits = n-small e sound;
         moves-on = refl;
         may =
-            may-call (rw offered refl) (READY (e .n)) (begins .0) (begins .1)
-            (moved-row {role = e .role} {flow = e .flow} {phase = e .phase} {n = e .n} {type-data = e .n} (takes (role ∙ rw mine refl) offered (omega arith) (begins .2))) refl refl refl refl;
+            may-call (rw offered refl) (READY (e .n)) (takes (role ∙ rw mine refl) offered (omega arith) (begun-any batch (e .n) .2))
+            refl refl refl refl;
       }
 
   pub gives-data : producing end (e .flow) ≡ end → e .phase ≡ batch → Speaks e (DATA 0 false [])
   gives-data mine batching =
-      let begins = begun-any batch (e .n - 1) in
       record {
         fits = lit< tt;
         moves-on = refl;
         may =
-            may-call (rw batching refl) (DATA 0 false []) (begins .0) (begins .1)
-            (moved-row {role = e .role} {flow = e .flow} {phase = e .phase} {n = e .n} {type-data = 0} (gives (is-producer end (e .flow) mine) batching (begins .2))) refl (le-ltb (e .limit) 8 (omega (arith, limit-least e sound))) refl refl;
+            may-call (rw batching refl) (DATA 0 false []) (gives (is-producer end (e .flow) mine) batching (begun-any batch (e .n - 1) .2))
+            refl (le-ltb (e .limit) 8 (omega (arith, limit-least e sound))) refl refl;
       }

@@ -1,27 +1,29 @@
 -- Every call of a program that has the laws keeps the invariant. Assumes nothing.
-use mathlib.Core.Path.{_≡_, refl, sym, _∙_, ap, subst}
+use mathlib.Core.Path.{_≡_, refl, sym, _∙_, subst}
 use Prim.Native.Nat.{ℕ, _≤_}
 use mathlib.Core.List.{List, [], _∷_, _++_, map, append-nil}
-use mathlib.Core.Bool.{Bool, true, false, cond}
-use native.Mathlib.Omega.{arith}
+use mathlib.Core.Bool.{Bool, true, false}
 use lib.Dec.{eqb, ltb}
 use borrow.Author.Tests.{eqb-true, eqb-false, ltb-false, ltb-true}
+use Rattle.bytes_be.proofs.Tests.{clash}
 use Rattle.endpoint.specs.declared.Endpoint.{Endpoint}
 use Rattle.endpoint.specs.Record.{shut}
-use Rattle.sending.specs.Calls.{Call, OPEN, written}
-use Rattle.machine.specs.Good.{Sound, Fits}
-use Rattle.session.specs.World.{End, across, Ending, Side, World, Program, Event, EventFits, ReceiveOutcome, ignored, side, joined, became, withQueue, wrote, sentBy, tookBy, isKept, afterReceive, step, viewed, viewedSide, Client, Server, Going, HeardClose, WroteClose, sends, receives}
-use Rattle.session.specs.Packets.{Packet, bytesIn, rowMessage, Called, Closes}
-use Rattle.session.specs.Turns.{kindOf, Moves, stageOf, Standing, stands, standing, Hears, Meets, At, ClosedByItself, late}
-use Rattle.session.specs.Confirmations.{Confirming}
+use Rattle.sending.specs.Calls.{Call, OPEN}
+use Rattle.machine.specs.Good.{Fits}
+use Rattle.machine.specs.Programs.{Program, SendOutcome, ReceiveOutcome}
+use Rattle.machine.specs.Runs.{Sends, Receives}
+use Rattle.session.specs.World.{End, across, Terms, Ending, Side, World, EventFits, side, joined, made, withQueue, isKept, acted, afterReceive, step, viewedSide, Client, Server, Going, HeardClose, WroteClose, sends, receives, makes}
+use Rattle.session.specs.Packets.{Packet, queuedIn, bytesIn, rowMessage, Closes}
+use Rattle.session.specs.Turns.{kindOf, Moves, stageOf, Standing, stands, standing, Hears, Converge, At, ClosedByItself, late}
 use Rattle.session.specs.Demand.{MayAnswer, PhaseFits, heard, other-pipe, other-format, after-own-close}
-use Rattle.session.specs.Invariant.{source, Linked, Invariant}
-use Rattle.session.specs.Laws.{Laws, answersIn, offeredIn, OpenRefused}
+use Rattle.session.specs.Invariant.{Model, source, Linked, Joint, Invariant}
+use Rattle.session.specs.Laws.{Laws, answersIn, offeredIn, OpenRefused, StartKeeps, StepKeeps}
 use Rattle.session.proofs.Table.{phaseIn, nIn}
-use Rattle.session.proofs.Turns.{shut-hears, hears-meets}
+use Rattle.session.proofs.Turns.{shut-hears, hears-converge}
 use Rattle.session.proofs.Packets.{OpenOrOther, an-open, another, open-or-other}
+use Rattle.session.proofs.Start.{fresh-joint}
 use Rattle.session.proofs.Link.{across-linked, sent-linked}
-use Rattle.session.proofs.Hearing.{leads, clients-open, later, moves, head-may, heard-linked, refused-linked, late-linked}
+use Rattle.session.proofs.Hearing.{leads, clients-open, moves, head-may, heard-linked, refused-linked, late-linked, heard-noted, refused-noted}
 
 -- what an end may answer to a message takes it from its queue
 answer-takes : {x y : Side Endpoint} {s name format : List ℕ} {number : ℕ} → MayAnswer x y s name format number → isKept number ≡ false
@@ -33,200 +35,213 @@ answer-takes (after-own-close wrote) = refl
 gone-hears : (from end : End) {m : Packet} {a : Standing} → Hears from end ClosedByItself m a → a ≡ ClosedByItself
 gone-hears from end late = refl
 
-module _ {A O : Type 0} (prog : Program A O) (view : A → Endpoint) (Fine : A → Type 0) (Made : Endpoint → Call → Type 0) (confirming : Confirming A) (laws : Laws prog view Fine Made confirming) (flow limit serverFlow : ℕ) where
-  abbrev LinkedAs : End → Side A → Side A → List Packet → List Packet → Type 0
-  LinkedAs end x y p q = Linked flow limit serverFlow Made (confirming .pick) end (viewedSide view x) (viewedSide view y) p q (confirming .ledger (x .self)) (confirming .ledger (y .self))
+-- the same two ends, seen from the other
+joint-across : {A : Type 0} (terms : Terms) (model : Model A) (end : End) (x y : Side A) → Joint terms model end x y → Joint terms model (across end) y x
+joint-across terms model end x y joint =
+    record {
+      from-here = joint .from-across;
+      from-across = joint .from-here;
+      linked = across-linked terms model end _ _ (joint .from-here) (joint .from-across) _ _ (joint .linked);
+      fine = joint .fine-across;
+      fine-across = joint .fine;
+    }
 
-  -- the invariant of the endpoints and the ledgers that a world holds, whose states are fine
-  pub record Keeps (w : World A) : Type 0 where
-    pub invariant : Invariant flow limit serverFlow Made (confirming .pick) (viewed view w) (confirming .ledger (w .client .self)) (confirming .ledger (w .server .self))
-    pub fine : Fine (w .client .self)
-    pub fine-server : Fine (w .server .self)
+pub seen-from : {A : Type 0} {model : Model A} (end : End) (w : World A) (holds : Invariant model w)
+    → Joint (holds .terms) model end (side w end) (side w (across end))
+seen-from Client w holds = holds .joint
+seen-from {model = model} Server w holds = joint-across (holds .terms) model Client (w .client) (w .server) (holds .joint)
 
-  -- two ends with what is on its way between them
-  pub record Joint (end : End) (x y : Side A) : Type 0 where
-    pub from-here : List Packet
-    pub from-across : List Packet
-    pub linked : LinkedAs end x y from-here from-across
-    pub fine : Fine (x .self)
-    pub fine-across : Fine (y .self)
+seen-as : {A : Type 0} (terms : Terms) (model : Model A) (end : End) (x y : Side A) → Joint terms model end x y → Invariant model (joined end x y)
+seen-as terms model Client x y joint = record { terms = terms; joint = joint }
+seen-as terms model Server x y joint = record { terms = terms; joint = joint-across terms model Server x y joint }
 
-  pub seen-from : (end : End) (w : World A) → Keeps w → Joint end (side w end) (side w (across end))
-  seen-from Client w holds = record { from-here = holds .invariant .from-client; from-across = holds .invariant .from-server; linked = holds .invariant .linked; fine = holds .fine; fine-across = holds .fine-server }
-  seen-from Server w holds =
-      record {
-        from-here = holds .invariant .from-server;
-        from-across = holds .invariant .from-client;
-        linked = across-linked flow limit serverFlow Made (confirming .pick) Client (viewedSide view (w .client)) (viewedSide view (w .server)) (holds .invariant .from-client) (holds .invariant .from-server) _ _ (holds .invariant .linked);
-        fine = holds .fine-server;
-        fine-across = holds .fine;
-      }
+module _ {A O : Type 0} (prog : Program A O) (model : Model A) (laws : Laws prog model) where
+  abbrev seen : Side A → Side Endpoint
+  seen x = viewedSide (model .view .endpoint) x
 
-  seen-as : (end : End) (x y : Side A) → Joint end x y → Keeps (joined end x y)
-  seen-as Client x y joint =
-      record {
-        invariant = record { from-client = joint .from-here; from-server = joint .from-across; linked = joint .linked };
-        fine = joint .fine;
-        fine-server = joint .fine-across;
-      }
-  seen-as Server x y joint =
-      record {
-        invariant =
-            record {
-              from-client = joint .from-across;
-              from-server = joint .from-here;
-              linked = across-linked flow limit serverFlow Made (confirming .pick) Server (viewedSide view x) (viewedSide view y) (joint .from-here) (joint .from-across) _ _ (joint .linked);
-            };
-        fine = joint .fine-across;
-        fine-server = joint .fine;
-      }
+  module _ (terms : Terms) where
+    abbrev LinkedAs : End → Side A → Side A → List Packet → List Packet → Type 0
+    LinkedAs end x y p q = Linked terms (model .rules) end (seen x) (seen y) p q (model .view .ledger (x .self)) (model .view .ledger (y .self))
 
-  -- the head of a queue is heard, refused as an OPEN for what is not offered, or passed over after an own close
-  pub record Delivered (end : End) (x y : Side A) (m : Packet) (q : List Packet) (name format : List ℕ) (out : O) : Type 0 where
-    pub may : MayAnswer (viewedSide view x) (viewedSide view y) (bytesIn m) name format (prog .receive (x .self) (bytesIn m) name format out .number)
-    pub after : Joint end (tookBy end x (prog .receive (x .self) (bytesIn m) name format out)) (withQueue y (map bytesIn q))
+    -- the head of a queue is heard, refused as an OPEN for what is not offered, or passed over after an own close
+    pub record Delivered (end : End) (x y : Side A) (m : Packet) (q : List Packet) (name format : List ℕ) (out : O) : Type 0 where
+      pub may : MayAnswer (seen x) (seen y) (bytesIn m) name format (prog .receive (x .self) (queuedIn m) name format out .number)
+      pub delivered : Joint terms model end (acted prog end x (Receives (queuedIn m) name format out)) (withQueue y (map queuedIn q))
 
-  module _ (end : End) (x y : Side A) (p q : List Packet) (m : Packet) (linked : LinkedAs end x y p (m ∷ q)) (fine : Fine (x .self)) (fine-across : Fine (y .self))
-      (name format : List ℕ) (out : O) (enough : 14 ≤ prog .room out) where
-    abbrev result : ReceiveOutcome A
-    result = prog .receive (x .self) (bytesIn m) name format out
+    module _ (end : End) (x y : Side A) (p q : List Packet) (m : Packet) (linked : LinkedAs end x y p (m ∷ q)) (fine : model .Fine (x .self))
+        (fine-across : model .Fine (y .self)) (name format : List ℕ) (out : O) (enough : 14 ≤ prog .room out) where
+      abbrev result : ReceiveOutcome A
+      result = prog .receive (x .self) (queuedIn m) name format out
 
-    -- an OPEN for what is not offered
-    refused-delivered : x .past .ending ≡ Going → kindOf (rowMessage m) ≡ Moves → OpenRefused view Fine (viewedSide view x) (viewedSide view y) (bytesIn m) name format result → Delivered end x y m q name format out
-    refused-delivered going moving refusal =
-        record {
-          may = refusal .may;
-          after =
-              record {
-                from-here = p ++ (Closes (refusal .code) ∷ []);
-                from-across = q;
-                linked =
-                    rw (refusal .carried, refusal .readied, refusal .replied, refusal .ends (x .past .ending), refusal .after)
-                    (refused-linked flow limit serverFlow Made view Fine confirming (laws .none) end (viewedSide view x) (viewedSide view y) p q m _ _ linked going (refusal .code) _ (refusal .small) moving);
-                fine = refusal .fine;
-                fine-across = fine-across;
-              };
-        }
+      -- an OPEN for what is not offered
+      refused-delivered : x .past .ending ≡ Going → kindOf (rowMessage m) ≡ Moves → OpenRefused model (seen x) (seen y) (bytesIn m) name format result
+          → Delivered end x y m q name format out
+      refused-delivered going moving refusal =
+          let noted = refused-noted model end x m result (refusal .code) (refusal .refused) (refusal .told) (refusal .replied) in
+          record {
+            may = refusal .may;
+            delivered =
+                record {
+                  from-here = p ++ (Closes (refusal .code) ∷ []);
+                  from-across = q;
+                  linked =
+                      rw (noted, refusal .after)
+                      (refused-linked terms model (laws .none) end (seen x) (seen y) p q m _ _ linked going (refusal .code) _ (refusal .small) moving);
+                  fine = refusal .fine;
+                  fine-across = fine-across;
+                };
+          }
 
-    heard-delivered : x .past .ending ≡ Going → (a : Standing) → Hears (source flow) end (At (stageOf (view (x .self)))) m a → Meets (source flow) end a p (standing (viewedSide view y)) q
-        → offeredIn m (view (x .self)) name format ≡ true → Delivered end x y m q name format out
-    heard-delivered going a hears meets offered =
-        let may = head-may flow limit serverFlow Made view Fine confirming (laws .none) end (viewedSide view x) (viewedSide view y) p q m _ _ linked going a hears name format offered in
-        let taken = laws .taken flow limit serverFlow end (x .self) m name format out (phaseIn a) (nIn a) _ fine enough may in
-        record {
-          may = rw (taken .answered) heard;
-          after =
-              record {
-                from-here = p ++ answersIn (confirming .prompt) m;
-                from-across = q;
-                linked = heard-linked flow limit serverFlow Made view Fine confirming (laws .none) end (viewedSide view x) (viewedSide view y) p q m _ _ linked going a hears result taken name format offered meets;
-                fine = taken .fine;
-                fine-across = fine-across;
-              };
-        }
+      heard-delivered : x .past .ending ≡ Going → (a : Standing) → Hears (source terms) end (At (stageOf (seen x .self))) m a
+          → Converge (source terms) end a p (standing (seen y)) q → offeredIn m (seen x .self) name format ≡ true
+          → Delivered end x y m q name format out
+      heard-delivered going a hears converge offers =
+          let may = head-may terms model (laws .none) end (seen x) (seen y) p q m _ _ linked going a hears name format offers in
+          let taken = laws .hears terms end (x .self) m name format out (phaseIn a) (nIn a) _ fine enough may in
+          let noted = heard-noted model end x m result terms (linked .there .proper .0) (taken .answered) (taken .told) (taken .replied) going in
+          record {
+            may = rw (taken .answered) heard;
+            delivered =
+                record {
+                  from-here = p ++ answersIn (model .rules .prompt) m;
+                  from-across = q;
+                  linked =
+                      rw noted
+                      (heard-linked terms model (laws .none) end (seen x) (seen y) p q m _ _ linked going a hears result taken name format offers converge);
+                  fine = taken .fine;
+                  fine-across = fine-across;
+                };
+          }
 
-    late-delivered : x .past .ending ≡ WroteClose → (a : Standing) → a ≡ ClosedByItself → Meets (source flow) end a p (standing (viewedSide view y)) q → Delivered end x y m q name format out
-    late-delivered wrote a gone meets =
-        let is-shut : view (x .self) .phase ≡ shut = subst (λ (ending : Ending). PhaseFits ending (view (x .self) .phase)) wrote (linked .here .ends) in
-        let passed = laws .late (x .self) (bytesIn m) name format out fine enough is-shut in
-        record {
-          may = rw passed (after-own-close wrote);
-          after =
-              record {
-                from-here = p;
-                from-across = q;
-                linked = simp (passed, append-nil) (late-linked flow limit serverFlow Made view Fine confirming (laws .none) end (viewedSide view x) (viewedSide view y) p q m _ _ linked wrote (rw gone at meets));
-                fine = rw passed fine;
-                fine-across = fine-across;
-              };
-        }
+      late-delivered : x .past .ending ≡ WroteClose → (a : Standing) → a ≡ ClosedByItself → Converge (source terms) end a p (standing (seen y)) q
+          → Delivered end x y m q name format out
+      late-delivered wrote a gone converge =
+          let is-shut : seen x .self .phase ≡ shut = subst (λ (ending : Ending). PhaseFits ending (seen x .self .phase)) wrote (linked .here .ends) in
+          let passed = laws .late (x .self) (queuedIn m) name format out fine enough is-shut in
+          record {
+            may = rw passed (after-own-close wrote);
+            delivered =
+                record {
+                  from-here = p;
+                  from-across = q;
+                  linked =
+                      simp (passed, append-nil)
+                      (late-linked terms model (laws .none) end (seen x) (seen y) p q m _ _ linked wrote (rw gone at converge));
+                  fine = subst (λ (after : ReceiveOutcome A). model .Fine (after .next)) (sym passed) fine;
+                  fine-across = fine-across;
+                };
+          }
 
-  -- a packet that is not offered is an OPEN to a server
-  unoffered-delivered : (end : End) (x y : Side A) (p q : List Packet) (m : Packet) → OpenOrOther m
-      → (linked : LinkedAs end x y p (m ∷ q)) (fine : Fine (x .self)) (fine-across : Fine (y .self)) (name format : List ℕ) (out : O) → 14 ≤ prog .room out
-      → (going : x .past .ending ≡ Going) → (a : Standing) → Hears (source flow) end (At (stageOf (view (x .self)))) m a
-      → offeredIn m (view (x .self)) name format ≡ false → Delivered end x y m q name format out
-  unoffered-delivered Client x y p q m (an-open e asked wanted) linked fine fine-across name format out enough going a hears other =
-      absurd (clients-open (moves flow limit serverFlow Made view Fine confirming (laws .none) Client (viewedSide view x) (viewedSide view y) p q m _ _ linked going a hears))
-  unoffered-delivered Server x y p q m (an-open e asked wanted) linked fine fine-across name format out enough going a hears other =
-      refused-delivered Server x y p q m linked fine fine-across name format out enough going refl
-      (laws .unoffered flow limit serverFlow x (viewedSide view y) e asked wanted name format out fine enough
-      (record {
-        sound = linked .here .sound;
-        serves = linked .here .role;
-        made = linked .there .proper .0;
-        same-flow = linked .there .flows ∙ sym (linked .there .proper .0 .flows);
-        same-limit = linked .there .terms tt .limited ∙ sym (linked .there .proper .0 .limited);
-        phase = phaseIn a;
-        n = nIn a;
-        leads = rw (linked .here .role) (leads flow limit serverFlow Made view Fine confirming (laws .none) Server (viewedSide view x) (viewedSide view y) p q m _ _ linked going a hears);
-        differs = other;
-      }))
-  unoffered-delivered end x y p q m (another later offers stays) linked fine fine-across name format out enough going a hears other =
-      let clash : true ≡ false = sym (offers (view (x .self)) name format) ∙ other in
-      let z : _≡_ {A = ℕ} 0 1 = cc in
-      absurd (omega arith)
+    -- a packet that is not offered is an OPEN to a server
+    unoffered-delivered : (end : End) (x y : Side A) (p q : List Packet) (m : Packet) → OpenOrOther m
+        → (linked : LinkedAs end x y p (m ∷ q)) (fine : model .Fine (x .self)) (fine-across : model .Fine (y .self)) (name format : List ℕ) (out : O)
+        → 14 ≤ prog .room out → (going : x .past .ending ≡ Going) → (a : Standing) → Hears (source terms) end (At (stageOf (seen x .self))) m a
+        → offeredIn m (seen x .self) name format ≡ false → Delivered end x y m q name format out
+    unoffered-delivered Client x y p q m (an-open e asked wanted) linked fine fine-across name format out enough going a hears differs =
+        absurd (clients-open (moves terms model (laws .none) Client (seen x) (seen y) p q m _ _ linked going a hears))
+    unoffered-delivered Server x y p q m (an-open e asked wanted) linked fine fine-across name format out enough going a hears differs =
+        refused-delivered Server x y p q m linked fine fine-across name format out enough going refl
+        (laws .refuses terms x (seen y) e asked wanted name format out fine enough
+        (record {
+          sound = linked .here .sound;
+          serves = linked .here .role;
+          accepted = linked .there .proper .0;
+          same-flow = linked .there .flows ∙ sym (linked .there .proper .0 .flows);
+          same-limit = linked .there .settled tt .limited ∙ sym (linked .there .proper .0 .limited);
+          phase = phaseIn a;
+          n = nIn a;
+          leads = rw (linked .here .role) (leads terms model (laws .none) Server (seen x) (seen y) p q m _ _ linked going a hears);
+          differs = differs;
+        }))
+    unoffered-delivered end x y p q m (another later always stays) linked fine fine-across name format out enough going a hears differs =
+        let both : true ≡ false = sym (always (seen x .self) name format) ∙ differs in
+        clash cc
 
-  module _ (end : End) (x y : Side A) (p q : List Packet) (m : Packet) (linked : LinkedAs end x y p (m ∷ q)) (fine : Fine (x .self)) (fine-across : Fine (y .self))
-      (name format : List ℕ) (out : O) (enough : 14 ≤ prog .room out) where
-    pub head-delivered : Delivered end x y m q name format out
-    head-delivered =
-        let step = hears-meets (source flow) end (linked .meets) in
-        by-ending (x .past .ending) refl (step .0) (step .1) (step .2)
+    module _ (end : End) (x y : Side A) (p q : List Packet) (m : Packet) (linked : LinkedAs end x y p (m ∷ q)) (fine : model .Fine (x .self))
+        (fine-across : model .Fine (y .self)) (name format : List ℕ) (out : O) (enough : 14 ≤ prog .room out) where
+      pub head-delivered : Delivered end x y m q name format out
+      head-delivered =
+          let step = hears-converge (source terms) end (linked .converge) in
+          by-ending (x .past .ending) refl (step .0) (step .1) (step .2)
+        where
+          by-offer : x .past .ending ≡ Going → (a : Standing) → Hears (source terms) end (At (stageOf (seen x .self))) m a
+              → Converge (source terms) end a p (standing (seen y)) q
+              → (t : Bool) → offeredIn m (seen x .self) name format ≡ t → Delivered end x y m q name format out
+          by-offer going a hears converge true offers =
+              heard-delivered end x y p q m linked fine fine-across name format out enough going a hears converge offers
+          by-offer going a hears converge false differs =
+              unoffered-delivered end x y p q m (open-or-other m) linked fine fine-across name format out enough going a hears differs
+
+          by-ending : (ending : Ending) → x .past .ending ≡ ending → (a : Standing) → Hears (source terms) end (stands ending (seen x .self)) m a
+              → Converge (source terms) end a p (standing (seen y)) q → Delivered end x y m q name format out
+          by-ending Going going a hears converge = by-offer going a hears converge (offeredIn m (seen x .self) name format) refl
+          by-ending HeardClose shut-down a hears converge = absurd (shut-hears (source terms) hears)
+          by-ending WroteClose wrote a hears converge =
+              late-delivered end x y p q m linked fine fine-across name format out enough wrote a (gone-hears (source terms) end hears) converge
+
+    -- the queue of y, as the packets that it holds, is received by x
+    received-keeps : (end : End) (x y : Side A) (p q : List Packet) → y .queue ≡ map queuedIn q → LinkedAs end x y p q → model .Fine (x .self)
+        → model .Fine (y .self) → (name format : List ℕ) (out : O) → Invariant model (afterReceive prog end x y (map queuedIn q) name format out)
+    unfolding afterReceive
+    received-keeps end x y p [] queued linked fine fine-across name format out =
+        seen-as terms model end x y (record { from-here = p; from-across = []; linked = linked; fine = fine; fine-across = fine-across })
+    received-keeps end x y p (m ∷ q) queued linked fine fine-across name format out = go (ltb (prog .room out) 14) refl
       where
-        by-offer : x .past .ending ≡ Going → (a : Standing) → Hears (source flow) end (At (stageOf (view (x .self)))) m a → Meets (source flow) end a p (standing (viewedSide view y)) q
-            → (t : Bool) → offeredIn m (view (x .self)) name format ≡ t → Delivered end x y m q name format out
-        by-offer going a hears meets true offered = heard-delivered end x y p q m linked fine fine-across name format out enough going a hears meets offered
-        by-offer going a hears meets false other = unoffered-delivered end x y p q m (open-or-other m) linked fine fine-across name format out enough going a hears other
+        go : (t : Bool) → ltb (prog .room out) 14 ≡ t → Invariant model (afterReceive prog end x y (map queuedIn (m ∷ q)) name format out)
+        go true short =
+            simp (laws .short (x .self) (queuedIn m) name format out fine (ltb-true _ _ short), append-nil, ← queued)
+            (seen-as terms model end x y (record { from-here = p; from-across = m ∷ q; linked = linked; fine = fine; fine-across = fine-across }))
+        go false room =
+            let head = head-delivered end x y p q m linked fine fine-across name format out (ltb-false _ _ room) in
+            rw (answer-takes (head .may)) (seen-as terms model end _ _ (head .delivered))
 
-        by-ending : (ending : Ending) → x .past .ending ≡ ending → (a : Standing) → Hears (source flow) end (stands ending (view (x .self))) m a
-            → Meets (source flow) end a p (standing (viewedSide view y)) q → Delivered end x y m q name format out
-        by-ending Going going a hears meets = by-offer going a hears meets (offeredIn m (view (x .self)) name format) refl
-        by-ending HeardClose shut-down a hears meets = absurd (shut-hears (source flow) hears)
-        by-ending WroteClose wrote a hears meets = late-delivered end x y p q m linked fine fine-across name format out enough wrote a (gone-hears (source flow) end hears) meets
+    -- a send, accepted or refused
+    sent-keeps : (end : End) (x y : Side A) (p q : List Packet) → LinkedAs end x y p q → model .Fine (x .self) → model .Fine (y .self)
+        → (call : Call) (out : O) → Fits call → Invariant model (joined end (acted prog end x (Sends call out)) y)
+    sent-keeps end x y p q linked fine fine-across call out fits = go (eqb (result .number) 0) refl
+      where
+        result : SendOutcome A
+        result = prog .send (x .self) call out
 
-  -- the queue of y, as the packets that it holds, is received by x
-  received-keeps : (end : End) (x y : Side A) (p q : List Packet) → LinkedAs end x y p q → Fine (x .self) → Fine (y .self) → (name format : List ℕ) (out : O)
-      → Keeps (afterReceive prog end x y (map bytesIn q) name format out)
-  unfolding afterReceive
-  received-keeps end x y p [] linked fine fine-across name format out = seen-as end x y (record { from-here = p; from-across = []; linked = linked; fine = fine; fine-across = fine-across })
-  received-keeps end x y p (m ∷ q) linked fine fine-across name format out = go (ltb (prog .room out) 14) refl
-    where
-      go : (t : Bool) → ltb (prog .room out) 14 ≡ t → Keeps (afterReceive prog end x y (map bytesIn (m ∷ q)) name format out)
-      go true short =
-          simp (laws .short (x .self) (bytesIn m) name format out fine (ltb-true _ _ short))
-          (seen-as end x y (record { from-here = p; from-across = m ∷ q; linked = linked; fine = fine; fine-across = fine-across }))
-      go false room =
-          let delivered = head-delivered end x y p q m linked fine fine-across name format out (ltb-false _ _ room) in
-          rw (answer-takes (delivered .may)) (seen-as end _ _ (delivered .after))
+        go : (t : Bool) → eqb (result .number) 0 ≡ t → Invariant model (joined end (acted prog end x (Sends call out)) y)
+        go true accepts =
+            let sent = laws .moves (x .self) call out fine fits (eqb-true _ _ accepts) in
+            rw accepts
+            (seen-as terms model end _ y
+            (record {
+              from-here = p ++ (sent .packet ∷ []);
+              from-across = q;
+              linked =
+                  rw (sent .queued)
+                  (sent-linked terms model end (seen x) (seen y) p q _ _ linked call result sent (laws .bounded (result .next) (sent .fine)));
+              fine = sent .fine;
+              fine-across = fine-across;
+            }))
+        go false refuses =
+            simp (refuses, laws .stays (x .self) call out fine fits (eqb-false _ _ refuses), append-nil)
+            (seen-as terms model end x y (record { from-here = p; from-across = q; linked = linked; fine = fine; fine-across = fine-across }))
 
-  -- a send, accepted or refused
-  sent-keeps : (end : End) (x y : Side A) (p q : List Packet) → LinkedAs end x y p q → Fine (x .self) → Fine (y .self) → (call : Call) (out : O) → Fits call
-      → Keeps (joined end (sentBy end x call (prog .send (x .self) call out)) y)
-  sent-keeps end x y p q linked fine fine-across call out fits = go (eqb (prog .send (x .self) call out .number) 0) refl
-    where
-      go : (t : Bool) → eqb (prog .send (x .self) call out .number) 0 ≡ t
-          → Keeps (joined end (cond t (wrote end x call (prog .send (x .self) call out .bytes) (prog .send (x .self) call out .next)) (became x (prog .send (x .self) call out .next))) y)
-      go true number =
-          let sent = laws .sent (x .self) call out fine fits (eqb-true _ _ number) in
-          seen-as end _ y
-          (record {
-            from-here = p ++ (sent .packet ∷ []);
-            from-across = q;
-            linked = sent-linked flow limit serverFlow Made view Fine confirming end (viewedSide view x) (viewedSide view y) p q _ _ linked call (prog .send (x .self) call out) sent
-                (laws .bounded (prog .send (x .self) call out .next) (sent .fine));
-            fine = sent .fine;
-            fine-across = fine-across;
-          })
-      go false number =
-          rw (laws .unsent (x .self) call out fine fits (eqb-false _ _ number))
-          (seen-as end x y (record { from-here = p; from-across = q; linked = linked; fine = fine; fine-across = fine-across }))
-
-  pub step-keeps : (w : World A) (event : Event O) → EventFits event → Keeps w → Keeps (step prog w event)
+  -- both ends made again
+  made-keeps : (terms : Terms) (w : World A) → EventFits prog w (makes terms) → Invariant model (step prog w (makes terms))
   unfolding step
-  step-keeps w (sends end call out) fits holds =
-      let joint = seen-from end w holds in
-      sent-keeps end (side w end) (side w (across end)) (joint .from-here) (joint .from-across) (joint .linked) (joint .fine) (joint .fine-across) call out fits
-  step-keeps w (receives end name format out) fits holds =
-      let joint = seen-from end w holds in
-      rw (joint .linked .there .queued) (received-keeps end (side w end) (side w (across end)) (joint .from-here) (joint .from-across) (joint .linked) (joint .fine) (joint .fine-across) name format out)
+  made-keeps terms w may =
+      let fresh = fresh-joint terms model _ _ (laws .makes _ _ (may .accepts Client)) (laws .makes _ _ (may .accepts Server)) in
+      let quiet : (end : End) → side w end .queue ++ [] ≡ [] = λ end. rw (may .none-coming end) refl in
+      record { terms = terms; joint = rw (may .accepts Client, may .accepts Server, quiet Client, quiet Server) fresh }
+
+pub start-keeps : StartKeeps
+start-keeps A O prog model laws terms client server accepts server-accepts =
+    record { terms = terms; joint = fresh-joint terms model _ _ (laws .makes _ _ accepts) (laws .makes _ _ server-accepts) }
+
+pub step-keeps : StepKeeps
+unfolding step
+step-keeps A O prog model laws w (sends end call out) fits holds =
+    let joint = seen-from end w holds in
+    sent-keeps prog model laws (holds .terms) end (side w end) (side w (across end)) (joint .from-here) (joint .from-across) (joint .linked)
+    (joint .fine) (joint .fine-across) call out fits
+step-keeps A O prog model laws w (receives end name format out) fits holds =
+    let joint = seen-from end w holds in
+    rw (joint .linked .there .queued)
+    (received-keeps prog model laws (holds .terms) end (side w end) (side w (across end)) (joint .from-here) (joint .from-across)
+    (joint .linked .there .queued) (joint .linked) (joint .fine) (joint .fine-across) name format out)
+step-keeps A O prog model laws w (makes terms) fits holds = made-keeps prog model laws terms w fits

@@ -7,7 +7,7 @@ use lib.ListN.{length, length-append}
 use Rattle.endpoint.specs.declared.Entry.{Entry}
 use Rattle.endpoint.specs.Record.{capacity}
 use Rattle.session.specs.Packets.{Packet}
-use Rattle.session.specs.Turns.{Stage, Standing, IsOpen, At, ClosedByItself, ClosedByOther}
+use Rattle.session.specs.Turns.{Stage, Standing, IsOpen, Listens, At, ClosedByItself, ClosedByOther}
 use Rattle.session.specs.Confirmations.{askedIn, confirmedIn, Awaits}
 use Rattle.session.specs.Invariant.{Delivers}
 
@@ -36,13 +36,16 @@ module _ (pick : List Entry → List Entry) where
 
   module _ {entries owes : List Entry} {p q : List Packet} {b : Standing} where
     -- an end sends, and awaits what it asks for
-    pub sends-awaits : (s : Stage) (a : Standing) (m : Packet) (after : List Entry) → (IsOpen a → after ≡ entries ++ asks m) → length after ≤ capacity → ((IsOpen a → ⊥) → asks m ≡ [])
-        → Awaits pick (At s) entries p b owes q → Awaits pick a after (p ++ (m ∷ [])) b owes q
+    pub sends-awaits : (s : Stage) (a : Standing) (m : Packet) (after : List Entry) → (IsOpen a → after ≡ entries ++ asks m) → length after ≤ capacity
+        → ((IsOpen a → ⊥) → asks m ≡ []) → Awaits pick (At s) entries p b owes q → Awaits pick a after (p ++ (m ∷ [])) b owes q
     sends-awaits s a m after asked bounded silent c =
         record {
           rest = c .rest ++ asks m;
           held = held-so;
-          due = λ is-open. ap (λ (l : List Entry). l ++ asks m) (c .due is-open) ∙ append-assoc owes (flatMap asks p) (asks m) ∙ ap (λ (l : List Entry). owes ++ l) (sym (flat-last asks p m));
+          due =
+              λ is-open. ap (λ (l : List Entry). l ++ asks m) (c .due is-open)
+              ∙ append-assoc owes (flatMap asks p) (asks m)
+              ∙ ap (λ (l : List Entry). owes ++ l) (sym (flat-last asks p m));
           few = λ is-open. few-so a is-open held-so silent;
         }
       where
@@ -52,7 +55,8 @@ module _ (pick : List Entry → List Entry) where
         quiet : IsOpen b → asks m ≡ [] → length owes + length (flatMap asks (p ++ (m ∷ []))) ≤ capacity
         quiet is-open none = rw (flat-last asks p m, none, append-nil) (c .few is-open)
 
-        few-so : (stands : Standing) → IsOpen b → (IsOpen stands → after ≡ flatMap confirms q ++ (c .rest ++ asks m)) → ((IsOpen stands → ⊥) → asks m ≡ []) → length owes + length (flatMap asks (p ++ (m ∷ []))) ≤ capacity
+        few-so : (stands : Standing) → IsOpen b → (IsOpen stands → after ≡ flatMap confirms q ++ (c .rest ++ asks m))
+            → ((IsOpen stands → ⊥) → asks m ≡ []) → length owes + length (flatMap asks (p ++ (m ∷ []))) ≤ capacity
         few-so (At t) is-open holds none =
             let whole = ap length (holds tt) ∙ length-append (flatMap confirms q) (c .rest ++ asks m) in
             let more = length-append (c .rest) (asks m) in
@@ -98,7 +102,8 @@ module _ (pick : List Entry → List Entry) where
   module _ {entries owes : List Entry} {before p q : List Packet} where
     -- the other end has heard packets that ask for more, and wrote packets that confirm the oldest that it owed then, which leaves it these
     across-awaits : (a b : Standing) (s : Stage) (r : List Packet) (more left after : List Entry) → flatMap asks before ≡ more ++ flatMap asks p
-        → flatMap confirms r ++ left ≡ owes ++ more → (IsOpen b → after ≡ left) → Awaits pick a entries before (At s) owes q → Awaits pick a entries p b after (q ++ r)
+        → flatMap confirms r ++ left ≡ owes ++ more → (IsOpen b → after ≡ left)
+        → Awaits pick a entries before (At s) owes q → Awaits pick a entries p b after (q ++ r)
     across-awaits a b s r more left after asked balance keeps c =
         record {
           rest = left ++ flatMap asks p;
@@ -130,8 +135,8 @@ module _ (pick : List Entry → List Entry) where
         (ap (λ (l : List Entry). l ++ left) (append-nil (confirms m)) ∙ sym files ∙ sym (append-nil owes)) keeps c
 
     -- the other end hears a packet, and confirms or owes what it asks for
-    pub across-hears-awaits : (a b : Standing) (s : Stage) (m : Packet) (r : List Packet) (left after : List Entry) → flatMap confirms r ++ left ≡ owes ++ asks m → (IsOpen b → after ≡ left)
-        → Awaits pick a entries (m ∷ p) (At s) owes q → Awaits pick a entries p b after (q ++ r)
+    pub across-hears-awaits : (a b : Standing) (s : Stage) (m : Packet) (r : List Packet) (left after : List Entry)
+        → flatMap confirms r ++ left ≡ owes ++ asks m → (IsOpen b → after ≡ left) → Awaits pick a entries (m ∷ p) (At s) owes q → Awaits pick a entries p b after (q ++ r)
     unfolding flatMap
     across-hears-awaits a b s m r left after balance keeps c = across-awaits a b s r (asks m) left after refl balance keeps c
 
@@ -144,16 +149,16 @@ module _ {A : Type 0} (carried : Packet → List A) {sent heard : List A} {p : L
       record {
         rest = c .rest ++ carried m;
         whole = ap (λ (l : List A). l ++ carried m) (c .whole) ∙ append-assoc heard (c .rest) (carried m);
-        due = λ is-open. ap (λ (l : List A). l ++ carried m) (c .due is-open) ∙ sym (flat-last carried p m);
+        due = λ listens. ap (λ (l : List A). l ++ carried m) (c .due listens) ∙ sym (flat-last carried p m);
       }
 
   -- an end writes packets that carry nothing
   pub writes-delivers : (b : Standing) (r : List Packet) → flatMap carried r ≡ [] → Delivers carried sent p b heard → Delivers carried sent (p ++ r) b heard
-  writes-delivers b r none c = record { rest = c .rest; whole = c .whole; due = λ is-open. c .due is-open ∙ sym (flat-none carried p r none) }
+  writes-delivers b r none c = record { rest = c .rest; whole = c .whole; due = λ listens. c .due listens ∙ sym (flat-none carried p r none) }
 
-  -- the hearer stands elsewhere, and is open only where it was
-  pub across-delivers : (b c : Standing) → (IsOpen c → IsOpen b) → Delivers carried sent p b heard → Delivers carried sent p c heard
-  across-delivers b c stays d = record { rest = d .rest; whole = d .whole; due = λ is-open. d .due (stays is-open) }
+  -- the hearer stands elsewhere, and listens only where it did
+  pub across-delivers : (b c : Standing) → (Listens c → Listens b) → Delivers carried sent p b heard → Delivers carried sent p c heard
+  across-delivers b c stays d = record { rest = d .rest; whole = d .whole; due = λ listens. d .due (stays listens) }
 
   -- the hearer hears what a packet carries
   pub hears-delivers : (s : Stage) (b : Standing) (m : Packet) → Delivers carried sent (m ∷ p) (At s) heard → Delivers carried sent p b (heard ++ carried m)
@@ -162,9 +167,9 @@ module _ {A : Type 0} (carried : Packet → List A) {sent heard : List A} {p : L
       record {
         rest = flatMap carried p;
         whole = c .whole ∙ ap (λ (l : List A). heard ++ l) (c .due tt) ∙ sym (append-assoc heard (carried m) (flatMap carried p));
-        due = λ is-open. refl;
+        due = λ listens. refl;
       }
 
   -- the hearer has closed
   pub gone-delivers : (b : Standing) (m : Packet) → Delivers carried sent (m ∷ p) b heard → Delivers carried sent p ClosedByItself heard
-  gone-delivers b m c = record { rest = c .rest; whole = c .whole; due = λ is-open. absurd is-open }
+  gone-delivers b m c = record { rest = c .rest; whole = c .whole; due = λ listens. absurd listens }

@@ -5,7 +5,7 @@ use mathlib.Core.Bool.{Bool, true, false, cond, _&&_, _||_}
 use native.Mathlib.Omega.{arith}
 use lib.Dec.{eqb, leb}
 use borrow.Author.Tests.{eq-eqb, eqb-false, eqb-true, le-leb, leb-true, ne-eqb}
-use Rattle.bytes_be.proofs.Tests.{both-true}
+use Rattle.bytes_be.proofs.Tests.{both-true, clash}
 use Rattle.control.specs.declared.MessageType.{MessageType}
 use Rattle.control.specs.declared.MessageType.the-variants.{Open, Ready, Noop, Data, Close}
 use Rattle.endpoint.specs.Record.{client, producer, fresh, opening, idle, offer, batch, shut}
@@ -192,7 +192,7 @@ moves-onward moving (offers differs low high begins) = begun-onward (omega arith
 moves-onward moving (takes is-client offered few begins) = begun-onward (omega arith) (omega arith) begins
 moves-onward moving (gives produces batched begins) = begun-onward (omega arith) (omega arith) begins
 moves-onward moving (rests low high) = later low high
-moves-onward moving (closes low high) = let z : _≡_ {A = ℕ} 0 1 = cc in absurd (omega arith)
+moves-onward moving (closes low high) = clash cc
 
 onward-alive : {phase next : ℕ} → Onward phase next → (opening ≤ next) × (next ≤ batch)
 onward-alive (first begins opened) = (omega arith, omega arith)
@@ -241,8 +241,8 @@ module _ (source end : End) where
       simp (ne-eqb phase fresh (λ same. omega arith), ne-eqb phase offer (λ same. omega arith), ne-eqb phase batch (λ same. omega arith)) (is-server end differs)
   moves-turn moving there (takes role offered few begins) = simp offered (is-client end role)
   moves-turn {phase = phase} moving there (gives produces batched begins) = turn-batch source phase batched ∙ there produces batched
-  moves-turn moving there (rests low high) = let z : _≡_ {A = ℕ} 0 1 = cc in absurd (omega arith)
-  moves-turn moving there (closes low high) = let z : _≡_ {A = ℕ} 0 1 = cc in absurd (omega arith)
+  moves-turn moving there (rests low high) = clash cc
+  moves-turn moving there (closes low high) = clash cc
 
 -- where a row leads an end that sends
 abbrev pub landing : ℕ → ℕ → Standing

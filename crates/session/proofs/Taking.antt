@@ -8,7 +8,7 @@ use lib.ListN.{drop, length}
 use lib.Dec.{leb}
 use borrow.Author.Tests.{eq-eqb, le-ltb, leb-true, lt-ltb, ltb-false, not-false}
 use Rattle.bytes_be.specs.Part.{tabulate}
-use Rattle.bytes_be.proofs.Tests.{both-true}
+use Rattle.bytes_be.proofs.Tests.{both-true, clash}
 use Rattle.control.specs.declared.MessageType.{MessageType}
 use Rattle.control.specs.declared.MessageType.the-variants.{Open, Ready, Noop, Data, Close}
 use Rattle.control.specs.Frame.{ackReply, typeOf}
@@ -24,38 +24,43 @@ use Rattle.open_write.proofs.Fields.{frame-short}
 use Rattle.table.specs.declared.Row.the-variants.{To}
 use Rattle.table.specs.Table.{atRow, other, rowOf}
 use Rattle.receiving.specs.declared.Content.{Content}
-use Rattle.receiving.specs.declared.Content.the-variants.{Nothing}
 use Rattle.receiving.specs.declared.Received.{Received}
 use Rattle.receiving.specs.declared.Reply.the-variants.{Nothing as Reply·Nothing, Frame}
 use Rattle.receiving.specs.Hearing.{confirmable, confirms, hearOf, hearRow, matchesOldest, movesAs, tooLarge, unmatched}
 use Rattle.receiving.specs.Receiving.{answerNumber}
-use Rattle.sending.specs.Calls.{Call, OPEN, READY, DATA, NOOP, CLOSE, aboveLimit, askOf, dataFrames, flagsFor, messageOf, misgiven, outgoing, typeDataOf, written}
+use Rattle.sending.specs.Calls.{Call, OPEN, READY, DATA, NOOP, CLOSE, aboveLimit, askOf, messageOf, misgiven, outgoing, typeDataOf, written}
 use Rattle.sending.proofs.Decided.{accepted-passed}
 use Rattle.machine.specs.Good.{Sound}
 use Rattle.machine.specs.Round.{ContentSent, afterHearing, confirmation, isReply, messageSent, messageWith}
 use Rattle.machine.proofs.Replies.{replies-heard}
 use Rattle.machine.proofs.Round.{heard-as-sent, own-flags}
-use Rattle.session.specs.World.{End, Ending, dataHeard, dataSent, dataAt, readyCount, readyHeard, endedBy, endingReplied, outcomeOf, replies, HeardClose}
-use Rattle.session.specs.Packets.{Packet, bytesIn, Called, Confirms, Closes}
+use Rattle.machine.specs.Programs.{bodyAt, toldOf, replies, outcomeOf}
+use Rattle.session.specs.World.{End, Terms}
+use Rattle.session.specs.Packets.{Packet, bytesIn, bodySent, Called, Confirms, Closes}
+use Rattle.session.specs.Demand.{promptLedger}
 use Rattle.session.specs.Confirmations.{askedIn, confirmedIn, entryFor}
-use Rattle.session.specs.Laws.{answersIn, atOnce, ByTables, Comes, limitAfter, MayTake, Taken}
+use Rattle.session.specs.Laws.{answersIn, onRecords, Comes, limitAfter, MayTake, Heard}
 use Rattle.session.proofs.Packets.{row-awaited, row-comes}
 
 -- ---- a call
 
 -- the row of a call is that of its message
-pub call-leads : (e : Endpoint) (call : Call) (r : Endpoint) (phase n : ℕ) → rowOf (other (r .role)) (other (r .flow)) (r .phase) (r .n) (messageOf call) (typeDataOf call) ≡ To phase n →
-    hearRow r (messageSent e call) ≡ To phase n
+pub call-leads : (e : Endpoint) (call : Call) (r : Endpoint) (phase n : ℕ)
+    → rowOf (other (r .role)) (other (r .flow)) (r .phase) (r .n) (messageOf call) (typeDataOf call) ≡ To phase n
+    → hearRow r (messageSent e call) ≡ To phase n
 unfolding hearRow movesAs
 call-leads e call r phase n leads = simp (own-flags call .0) leads
 
 module _ (r : Endpoint) (sound : Sound r) where
   -- a good endpoint's limit is at least a million
   pub limit-least : leastLimit ≤ r .limit
-  limit-least = leb-true leastLimit (r .limit) (both-true (leb leastLimit (r .limit)) (leb (r .limit) mostLimit) (good-told r (sound .is-good) .bounded) .0)
+  limit-least =
+      leb-true leastLimit (r .limit)
+      (both-true (leb leastLimit (r .limit)) (leb (r .limit) mostLimit) (good-told r (sound .is-good) .bounded) .0)
 
   -- what an end may send is not too large for another of its limit, and only data can be
-  pub call-small : (e : Endpoint) (call : Call) → aboveLimit e call ≡ false → misgiven call ≡ false → (messageOf call ≡ Data → r .limit ≡ e .limit) → tooLarge r (messageSent e call) ≡ false
+  pub call-small : (e : Endpoint) (call : Call) → aboveLimit e call ≡ false → misgiven call ≡ false
+      → (messageOf call ≡ Data → r .limit ≡ e .limit) → tooLarge r (messageSent e call) ≡ false
   unfolding tooLarge
   call-small e (OPEN name format) within given same =
       let short = frame-short (e .flow) name format (e .limit) (not-false (isGood name format) given) in
@@ -67,39 +72,33 @@ module _ (r : Endpoint) (sound : Sound r) where
   call-small e (NOOP type-data ask) within given same = le-ltb (r .limit) 8 (omega (arith, limit-least))
   call-small e (CLOSE code) within given same = refl
 
--- the data that are heard are those sent
-call-data : (e : Endpoint) (call : Call) (content : Content) → ContentSent e call (written e call) content → dataAt (written e call) (typeDataOf call) content ≡ dataSent call
-call-data e (OPEN name format) content sent = simp (sent .is)
-call-data e (READY count) content sent = simp sent
-call-data e (DATA type-data ask body) content sent = simp (sent .is, sent .bytes)
-call-data e (NOOP type-data ask) content sent = simp sent
-call-data e (CLOSE code) content sent = simp sent
+-- the body that is heard is the one sent
+call-body : (e : Endpoint) (call : Call) (content : Content) → ContentSent e call (written e call) content → bodyAt (written e call) content ≡ bodySent call
+call-body e (OPEN name format) content sent = simp (sent .is)
+call-body e (READY count) content sent = simp sent
+call-body e (DATA type-data ask body) content sent = simp (sent .is, sent .bytes)
+call-body e (NOOP type-data ask) content sent = simp sent
+call-body e (CLOSE code) content sent = simp sent
 
--- a confirmation ends nothing
-
-confirming-ends : (call : Call) (ending : Ending) → endingReplied (confirmation call) (endedBy HeardClose (messageOf call) ending) ≡ endedBy HeardClose (messageOf call) ending
-confirming-ends (OPEN name format) ending = refl
-confirming-ends (READY count) ending = refl
-confirming-ends (DATA type-data true body) ending = refl
-confirming-ends (DATA type-data false body) ending = refl
-confirming-ends (NOOP type-data true) ending = refl
-confirming-ends (NOOP type-data false) ending = refl
-confirming-ends (CLOSE code) ending = refl
-
-confirming-replies : (e : Endpoint) (call : Call) (room : ℕ) → replies (confirmation call) ≡ map bytesIn (answersIn (λ message. true) (Called e call))
-confirming-replies e call room = go (askOf call)
+confirming-replies : (e : Endpoint) (call : Call) → replies (confirmation call) ≡ map bytesIn (answersIn (λ message. true) (Called e call))
+confirming-replies e call = go (askOf call)
   where
-    go : (t : Bool) → replies (cond t (Frame (messageOf call) ackReply (typeDataOf call)) Reply·Nothing) ≡ map bytesIn (cond t (Confirms (messageOf call) (typeDataOf call) ∷ []) [])
+    go : (t : Bool) → replies (cond t (Frame (messageOf call) ackReply (typeDataOf call)) Reply·Nothing)
+        ≡ map bytesIn (cond t (Confirms (messageOf call) (typeDataOf call) ∷ []) [])
     go true = refl
     go false = refl
 
 -- an OPEN brings its limit
-module _ (e r : Endpoint) (in-limits : inLimits (e .limit) ≡ true) (after : Endpoint) (phase n : ℕ) (comes : Comes r phase n (r .limit) after) (room : ℕ) where
+module _ (e r : Endpoint) (in-limits : inLimits (e .limit) ≡ true) (after : Endpoint) (phase n : ℕ) (comes : Comes r phase n (r .limit) after) where
   hearing-comes : (call : Call) → Comes r phase n (limitAfter (Called e call) (r .limit)) (afterHearing e call after)
   unfolding limited
   hearing-comes (OPEN name format) =
       record {
-        sound = record { sized = limited-sized after (comes .sound .sized) (e .limit); is-good = limited-good after (comes .sound .is-good) (e .limit) in-limits };
+        sound =
+            record {
+              sized = limited-sized after (comes .sound .sized) (e .limit);
+              is-good = limited-good after (comes .sound .is-good) (e .limit) in-limits;
+            };
         phased = comes .phased;
         counted = comes .counted;
         role = comes .role;
@@ -120,42 +119,43 @@ module _ (e r : Endpoint) (in-limits : inLimits (e .limit) ≡ true) (after : En
 
 -- ---- a reply
 
-reply-small : (r : Endpoint) → Sound r → (message : MessageType) (flags type-data : ℕ) → isReply message flags ≡ true → tooLarge r (messageWith message flags type-data []) ≡ false
+reply-small : (r : Endpoint) → Sound r → (message : MessageType) (flags type-data : ℕ) → isReply message flags ≡ true
+    → tooLarge r (messageWith message flags type-data []) ≡ false
 unfolding tooLarge
-reply-small r sound Open flags type-data reply = let z : _≡_ {A = ℕ} 0 1 = cc in absurd (omega arith)
-reply-small r sound Ready flags type-data reply = let z : _≡_ {A = ℕ} 0 1 = cc in absurd (omega arith)
+reply-small r sound Open flags type-data reply = clash cc
+reply-small r sound Ready flags type-data reply = clash cc
 reply-small r sound Noop flags type-data reply = le-ltb (r .limit) 8 (omega (arith, limit-least r sound))
 reply-small r sound Data flags type-data reply = le-ltb (r .limit) 8 (omega (arith, limit-least r sound))
 reply-small r sound Close flags type-data reply = refl
 
--- a confirmation is a reply that confirms, is no READY and ends nothing
+-- a confirmation is a reply that confirms
 record Quiets (message : MessageType) : Type 0 where
   confirming : confirms message ackReply ≡ true
   reply : isReply message ackReply ≡ true
-  readied : (type-data : ℕ) → readyCount message type-data ≡ []
-  ends : (ending : Ending) → endedBy HeardClose message ending ≡ ending
 
 confirmation-quiets : (message : MessageType) → confirmable message ≡ true → Quiets message
-confirmation-quiets Open reply = let z : _≡_ {A = ℕ} 0 1 = cc in absurd (omega arith)
-confirmation-quiets Ready reply = let z : _≡_ {A = ℕ} 0 1 = cc in absurd (omega arith)
-confirmation-quiets Noop reply = record { confirming = refl; reply = refl; readied = λ type-data. refl; ends = λ ending. refl }
-confirmation-quiets Data reply = record { confirming = refl; reply = refl; readied = λ type-data. refl; ends = λ ending. refl }
-confirmation-quiets Close reply = let z : _≡_ {A = ℕ} 0 1 = cc in absurd (omega arith)
+confirmation-quiets Open reply = clash cc
+confirmation-quiets Ready reply = clash cc
+confirmation-quiets Noop reply = record { confirming = refl; reply = refl }
+confirmation-quiets Data reply = record { confirming = refl; reply = refl }
+confirmation-quiets Close reply = clash cc
 
 -- where one is awaited, there is an oldest
 some-awaited : (w : ℕ) (entries : List ℕ) (entry : Entry) (rest : List Entry) → tabulate 0 w (entryAt entries) ≡ entry ∷ rest → 0 < w
-some-awaited zero entries entry rest awaits = let z : _≡_ {A = ℕ} 0 1 = cc in absurd (omega arith)
+some-awaited zero entries entry rest awaits = clash cc
 some-awaited (suc k) entries entry rest awaits = omega arith
 
 module _ (r : Endpoint) (message : MessageType) (type-data : ℕ) where
   -- it takes the row of NOOP
-  confirmation-leads : confirms message ackReply ≡ true → (phase n : ℕ) → rowOf (other (r .role)) (other (r .flow)) (r .phase) (r .n) Noop type-data ≡ To phase n →
-      hearRow r (messageWith message ackReply type-data []) ≡ To phase n
+  confirmation-leads : confirms message ackReply ≡ true → (phase n : ℕ)
+      → rowOf (other (r .role)) (other (r .flow)) (r .phase) (r .n) Noop type-data ≡ To phase n
+      → hearRow r (messageWith message ackReply type-data []) ≡ To phase n
   unfolding hearRow movesAs
   confirmation-leads confirming phase n leads = simp confirming leads
 
   -- it is that of the oldest entry
-  confirmation-matched : confirms message ackReply ≡ true → (rest : List Entry) → awaited r ≡ entryFor message type-data ∷ rest → unmatched r (messageWith message ackReply type-data []) ≡ false
+  confirmation-matched : confirms message ackReply ≡ true → (rest : List Entry) → awaited r ≡ entryFor message type-data ∷ rest
+      → unmatched r (messageWith message ackReply type-data []) ≡ false
   unfolding unmatched matchesOldest
   confirmation-matched confirming rest awaits =
       let some : 0 < r .w = some-awaited (r .w) (r .entries) (entryFor message type-data) rest awaits in
@@ -168,7 +168,11 @@ confirmed-comes : (r after : Endpoint) (phase n limit : ℕ) → Comes r phase n
 unfolding confirmed
 confirmed-comes r after phase n limit comes =
     record {
-      sound = record { sized = confirmed-sized after (comes .sound .sized); is-good = confirmed-good after (comes .sound .sized .full) (comes .sound .is-good) };
+      sound =
+          record {
+            sized = confirmed-sized after (comes .sound .sized);
+            is-good = confirmed-good after (comes .sound .sized .full) (comes .sound .is-good);
+          };
       phased = comes .phased;
       counted = comes .counted;
       role = comes .role;
@@ -177,7 +181,8 @@ confirmed-comes r after phase n limit comes =
     }
 
 -- a CLOSE asks and confirms nothing
-close-leads : (r : Endpoint) (code phase n : ℕ) → rowOf (other (r .role)) (other (r .flow)) (r .phase) (r .n) Close code ≡ To phase n → hearRow r (messageWith Close 0 code []) ≡ To phase n
+close-leads : (r : Endpoint) (code phase n : ℕ) → rowOf (other (r .role)) (other (r .flow)) (r .phase) (r .n) Close code ≡ To phase n
+    → hearRow r (messageWith Close 0 code []) ≡ To phase n
 unfolding hearRow movesAs
 close-leads r code phase n leads = leads
 
@@ -192,19 +197,23 @@ answers-confirm : (m : Packet) → flatMap confirmedIn (answersIn (λ message. t
 unfolding flatMap
 answers-confirm (Called e call) = go (askOf call)
   where
-    go : (ask : Bool) → flatMap confirmedIn (cond ask (Confirms (messageOf call) (typeDataOf call) ∷ []) []) ≡ cond ask (entryFor (messageOf call) (typeDataOf call) ∷ []) []
+    go : (ask : Bool) → flatMap confirmedIn (cond ask (Confirms (messageOf call) (typeDataOf call) ∷ []) [])
+        ≡ cond ask (entryFor (messageOf call) (typeDataOf call) ∷ []) []
     go true = refl
     go false = refl
 answers-confirm (Confirms message type-data) = refl
 answers-confirm (Closes code) = refl
 
+confirms-all : (m : Packet) → flatMap confirmedIn (answersIn (λ message. true) m) ++ [] ≡ askedIn m
+confirms-all m = append-nil (flatMap confirmedIn (answersIn (λ message. true) m)) ∙ answers-confirm m
+
 -- what comes of a packet by the tables
 abbrev pub TakenBy : Endpoint → Packet → List ℕ → List ℕ → ℕ → ℕ → (ℕ → List Entry) → Type 0
-TakenBy r m name format phase n rest = Taken (λ e. e) Sound ByTables atOnce r (atOnce .ledger r) m phase n rest (outcomeOf (bytesIn m) (hearOf r (bytesIn m) name format))
+TakenBy r m name format phase n rest = Heard onRecords r (promptLedger r) m phase n rest (outcomeOf (bytesIn m) (hearOf r (bytesIn m) name format))
 
-module _ (flow limit serverFlow : ℕ) (end : End) (r : Endpoint) where
-  call-taken : (e : Endpoint) (call : Call) (name format : List ℕ) (phase n : ℕ) (rest : ℕ → List Entry) →
-      MayTake flow limit serverFlow ByTables (atOnce .pick) end r (atOnce .ledger r) (Called e call) name format phase n rest → TakenBy r (Called e call) name format phase n rest
+module _ (terms : Terms) (end : End) (r : Endpoint) where
+  call-taken : (e : Endpoint) (call : Call) (name format : List ℕ) (phase n : ℕ) (rest : ℕ → List Entry)
+      → MayTake (onRecords .rules) terms end r (promptLedger r) (Called e call) name format phase n rest → TakenBy r (Called e call) name format phase n rest
   call-taken e call name format phase n rest may =
       let made = may .proper in
       let room = made .accepted .room in
@@ -220,20 +229,23 @@ module _ (flow limit serverFlow : ℕ) (end : End) (r : Endpoint) where
       let in-limits = good-told e (passed .is-good) .bounded in
       record {
         answered = ap answerNumber (back .answered);
-        carried = ap (dataHeard (bytesIn (Called e call))) (back .answered) ∙ call-data e call (back .content) (back .carried);
-        readied = ap readyHeard (back .answered);
-        ends = λ ending. simp (back .answered, back .replied) (confirming-ends call ending);
-        replied = ap replies (back .replied) ∙ confirming-replies e call room;
-        fine = subst Sound (sym (back .after)) (hearing-comes e r in-limits (atRow r phase n) phase n comes room call .sound);
-        comes = subst (Comes r phase n _) (sym (back .after)) (hearing-comes e r in-limits (atRow r phase n) phase n comes room call);
+        told = simp (back .answered, call-body e call (back .content) (back .carried));
+        replied = ap replies (back .replied) ∙ confirming-replies e call;
+        fine = subst Sound (sym (back .after)) (hearing-comes e r in-limits (atRow r phase n) phase n comes call .sound);
+        comes = subst (Comes r phase n _) (sym (back .after)) (hearing-comes e r in-limits (atRow r phase n) phase n comes call);
         left = λ line. [];
-        balance = λ line. append-nil (flatMap confirmedIn (answersIn (λ message. true) (Called e call))) ∙ answers-confirm (Called e call);
+        balance = λ line. confirms-all (Called e call);
         owes = λ line goes. refl;
-        awaits = λ line goes. ap awaited (back .after) ∙ hearing-awaited e r in-limits (atRow r phase n) phase n comes room call ∙ row-awaited r phase n goes ∙ may .awaits line;
+        awaits = λ line goes.
+            ap awaited (back .after)
+            ∙ hearing-awaited e r in-limits (atRow r phase n) phase n comes call
+            ∙ row-awaited r phase n goes
+            ∙ may .awaits line;
       }
 
-  confirmation-taken : (message : MessageType) (type-data : ℕ) (name format : List ℕ) (phase n : ℕ) (rest : ℕ → List Entry) →
-      MayTake flow limit serverFlow ByTables (atOnce .pick) end r (atOnce .ledger r) (Confirms message type-data) name format phase n rest → TakenBy r (Confirms message type-data) name format phase n rest
+  confirmation-taken : (message : MessageType) (type-data : ℕ) (name format : List ℕ) (phase n : ℕ) (rest : ℕ → List Entry)
+      → MayTake (onRecords .rules) terms end r (promptLedger r) (Confirms message type-data) name format phase n rest
+      → TakenBy r (Confirms message type-data) name format phase n rest
   confirmation-taken message type-data name format phase n rest may =
       let proper = may .proper in
       let quiet = confirmation-quiets message (proper .0) in
@@ -250,21 +262,19 @@ module _ (flow limit serverFlow : ℕ) (end : End) (r : Endpoint) where
       let comes = row-comes r (may .sound) (other (r .role)) (other (r .flow)) Noop type-data phase n (proper .1) (may .leads) in
       record {
         answered = ap (λ (x : Received). answerNumber (x .answer)) heard;
-        carried = ap (λ (x : Received). dataHeard (bytesIn (Confirms message type-data)) (x .answer)) heard;
-        readied = ap (λ (x : Received). readyHeard (x .answer)) heard ∙ quiet .readied type-data;
-        ends = λ ending. simp heard (quiet .ends ending);
+        told = ap (λ (x : Received). toldOf (bytesIn (Confirms message type-data)) (x .answer)) heard;
         replied = ap (λ (x : Received). replies (x .reply)) heard;
         fine = subst Sound (sym next) (confirmed-comes r after phase n (r .limit) comes .sound);
         comes = subst (Comes r phase n (r .limit)) (sym next) (confirmed-comes r after phase n (r .limit) comes);
         left = λ line. [];
-        balance = λ line. append-nil (flatMap confirmedIn (answersIn (λ message. true) (Confirms message type-data))) ∙ answers-confirm (Confirms message type-data);
+        balance = λ line. confirms-all (Confirms message type-data);
         owes = λ line goes. refl;
         awaits = λ line goes.
             ap awaited next ∙ confirmed-awaited after (comes .sound .sized .full) ∙ ap (drop 1) (row-awaited r phase n goes ∙ may .awaits line);
       }
 
-  close-taken : (code : ℕ) (name format : List ℕ) (phase n : ℕ) (rest : ℕ → List Entry) →
-      MayTake flow limit serverFlow ByTables (atOnce .pick) end r (atOnce .ledger r) (Closes code) name format phase n rest → TakenBy r (Closes code) name format phase n rest
+  close-taken : (code : ℕ) (name format : List ℕ) (phase n : ℕ) (rest : ℕ → List Entry)
+      → MayTake (onRecords .rules) terms end r (promptLedger r) (Closes code) name format phase n rest → TakenBy r (Closes code) name format phase n rest
   close-taken code name format phase n rest may =
       let after : Endpoint = atRow r phase n in
       let heard =
@@ -273,9 +283,7 @@ module _ (flow limit serverFlow : ℕ) (end : End) (r : Endpoint) where
       let next : hearOf r (bytesIn (Closes code)) name format .next ≡ after = ap (λ (x : Received). x .next) heard in
       record {
         answered = ap (λ (x : Received). answerNumber (x .answer)) heard;
-        carried = ap (λ (x : Received). dataHeard (bytesIn (Closes code)) (x .answer)) heard;
-        readied = ap (λ (x : Received). readyHeard (x .answer)) heard;
-        ends = λ ending. simp heard;
+        told = ap (λ (x : Received). toldOf (bytesIn (Closes code)) (x .answer)) heard;
         replied = ap (λ (x : Received). replies (x .reply)) heard;
         fine =
             subst Sound (sym next)
@@ -284,13 +292,14 @@ module _ (flow limit serverFlow : ℕ) (end : End) (r : Endpoint) where
             subst (Comes r phase n (r .limit)) (sym next)
             (row-comes r (may .sound) (other (r .role)) (other (r .flow)) Close code phase n (may .proper) (may .leads));
         left = λ line. [];
-        balance = λ line. append-nil (flatMap confirmedIn (answersIn (λ message. true) (Closes code))) ∙ answers-confirm (Closes code);
+        balance = λ line. confirms-all (Closes code);
         owes = λ line goes. refl;
         awaits = λ line goes. ap awaited next ∙ row-awaited r phase n goes ∙ may .awaits line;
       }
 
   -- a packet that an end may take is taken
-  pub packet-taken : (m : Packet) (name format : List ℕ) (phase n : ℕ) (rest : ℕ → List Entry) → MayTake flow limit serverFlow ByTables (atOnce .pick) end r (atOnce .ledger r) m name format phase n rest → TakenBy r m name format phase n rest
+  pub packet-taken : (m : Packet) (name format : List ℕ) (phase n : ℕ) (rest : ℕ → List Entry)
+      → MayTake (onRecords .rules) terms end r (promptLedger r) m name format phase n rest → TakenBy r m name format phase n rest
   packet-taken (Called e call) = call-taken e call
   packet-taken (Confirms message type-data) = confirmation-taken message type-data
   packet-taken (Closes code) = close-taken code

@@ -4,9 +4,10 @@ use mathlib.Core.Path.{_≡_, refl, sym, _∙_}
 use Prim.Native.Nat.{ℕ}
 use mathlib.Core.List.{List, [], _∷_, _++_}
 use native.Mathlib.Omega.{arith}
+use Rattle.bytes_be.proofs.Tests.{clash}
 use Rattle.session.specs.World.{End, across, Client, Server}
 use Rattle.session.specs.Packets.{Packet, rowMessage}
-use Rattle.session.specs.Turns.{turn, Kind, kindOf, Stage, Standing, IsOpen, Active, Alive, Still, Leads, Hears, Drains, Meets, Moves, Stays, Ends, At, ClosedByOther, ClosedByItself, nothing, quiet, moved, rested, closed, late, empty, head, ahead, behind, over, over-across}
+use Rattle.session.specs.Turns.{turn, Kind, kindOf, Stage, Standing, IsOpen, Active, Alive, Still, Leads, Hears, Drains, Converge, Moves, Stays, Ends, At, ClosedByOther, ClosedByItself, nothing, quiet, moved, rested, closed, late, empty, head, ahead, behind, over, over-across}
 use Rattle.session.proofs.Table.{Sends, moves, calms, ends, leads-active, leads-alive}
 
 pub across-twice : (end : End) → end ≡ across (across end)
@@ -14,14 +15,14 @@ across-twice Client = refl
 across-twice Server = refl
 
 pub across-differs : (end : End) → across end ≡ end → ⊥
-across-differs Client same = let z : _≡_ {A = ℕ} 0 1 = cc in omega arith
-across-differs Server same = let z : _≡_ {A = ℕ} 0 1 = cc in omega arith
+across-differs Client same = clash cc
+across-differs Server same = clash cc
 
 moves-not-stays : {kind : Kind} → kind ≡ Moves → kind ≡ Stays → ⊥
-moves-not-stays moving is-quiet = let z : _≡_ {A = ℕ} 0 1 = cc in omega arith
+moves-not-stays moving is-quiet = clash cc
 
 moves-not-ends : {kind : Kind} → kind ≡ Moves → kind ≡ Ends → ⊥
-moves-not-ends moving closing = let z : _≡_ {A = ℕ} 0 1 = cc in omega arith
+moves-not-ends moving closing = clash cc
 
 module _ (source : End) where
   across-drains : (end : End) {a b : Standing} {q : List Packet} → Drains source end a q b → Drains source (across (across end)) a q b
@@ -29,11 +30,11 @@ module _ (source : End) where
   across-drains Server drains = drains
 
   -- it is the same from the other end
-  pub across-meets : (end : End) {a b : Standing} {p q : List Packet} → Meets source end a p b q → Meets source (across end) b q a p
-  across-meets end (ahead still drains) = behind still drains
-  across-meets end (behind still drains) = ahead still (across-drains end drains)
-  across-meets end (over ended drains) = over-across ended drains
-  across-meets end (over-across ended drains) = over ended (across-drains end drains)
+  pub across-converge : (end : End) {a b : Standing} {p q : List Packet} → Converge source end a p b q → Converge source (across end) b q a p
+  across-converge end (ahead still drains) = behind still drains
+  across-converge end (behind still drains) = ahead still (across-drains end drains)
+  across-converge end (over ended drains) = over-across ended drains
+  across-converge end (over-across ended drains) = over ended (across-drains end drains)
 
   -- queues and one packet more
 
@@ -111,47 +112,47 @@ module _ (source : End) where
   theirs-too : (end : End) {s t : Stage} {m : Packet} → kindOf (rowMessage m) ≡ Moves → turn source (s .phase) ≡ end → Leads source s m t → Hears source (across end) (At s) m (At t)
   theirs-too end moving own leads = moved moving (own ∙ across-twice end) leads
 
-  waits-meets : (end : End) {s t u : Stage} {p q : List Packet} (m : Packet) → Still u p → Waits s q u → kindOf (rowMessage m) ≡ Moves → turn source (s .phase) ≡ end → Leads source s m t
-      → Meets source end (At t) (p ++ (m ∷ [])) (At u) q
-  waits-meets end {s = s} {t = t} m still (waits still-across) moving own leads =
+  waits-converge : (end : End) {s t u : Stage} {p q : List Packet} (m : Packet) → Still u p → Waits s q u → kindOf (rowMessage m) ≡ Moves → turn source (s .phase) ≡ end → Leads source s m t
+      → Converge source end (At t) (p ++ (m ∷ [])) (At u) q
+  waits-converge end {s = s} {t = t} m still (waits still-across) moving own leads =
       ahead (still-elsewhere (leads-active source s m t moving leads) still-across) (drains-last (still-drains still) (theirs-too end moving own leads))
 
-  pub sends-meets : (end : End) {a b c : Standing} {p q : List Packet} {m : Packet} → Meets source end a p b q → Sends source end a m c → Meets source end c (p ++ (m ∷ [])) b q
-  sends-meets end (ahead still drains) (moves {s = s} {t = t} {m = m} moving own leads) =
+  pub sends-converge : (end : End) {a b c : Standing} {p q : List Packet} {m : Packet} → Converge source end a p b q → Sends source end a m c → Converge source end c (p ++ (m ∷ [])) b q
+  sends-converge end (ahead still drains) (moves {s = s} {t = t} {m = m} moving own leads) =
       ahead (still-elsewhere (leads-active source s m t moving leads) still) (drains-last drains (theirs-too end moving own leads))
-  sends-meets end (ahead still drains) (calms is-quiet active) = ahead still (drains-last drains (rested is-quiet active))
-  sends-meets end (ahead still drains) (ends closing alive) = over (λ is-open. is-open) (drains-last drains (closed closing alive))
-  sends-meets end (behind still drains) (moves {m = m} moving own leads) = waits-meets end m still (own-waits end own drains) moving own leads
-  sends-meets end (behind still drains) (calms {m = m} is-quiet active) = behind (still-last m is-quiet (active-drains active drains) still) drains
-  sends-meets end (behind still drains) (ends closing alive) = over (λ is-open. is-open) (drains-last (still-drains still) (closed closing (alive-drains alive drains)))
-  sends-meets end (over-across ended drains) (moves {t = t} {m = m} moving own leads) = over-across ended (own-ended end m t moving own leads ended drains)
-  sends-meets end (over-across ended drains) (calms is-quiet active) = over-across ended drains
-  sends-meets end (over-across ended drains) (ends closing alive) = over-across (λ is-open. is-open) (gone-drains _)
+  sends-converge end (ahead still drains) (calms is-quiet active) = ahead still (drains-last drains (rested is-quiet active))
+  sends-converge end (ahead still drains) (ends closing alive) = over (λ is-open. is-open) (drains-last drains (closed closing alive))
+  sends-converge end (behind still drains) (moves {m = m} moving own leads) = waits-converge end m still (own-waits end own drains) moving own leads
+  sends-converge end (behind still drains) (calms {m = m} is-quiet active) = behind (still-last m is-quiet (active-drains active drains) still) drains
+  sends-converge end (behind still drains) (ends closing alive) = over (λ is-open. is-open) (drains-last (still-drains still) (closed closing (alive-drains alive drains)))
+  sends-converge end (over-across ended drains) (moves {t = t} {m = m} moving own leads) = over-across ended (own-ended end m t moving own leads ended drains)
+  sends-converge end (over-across ended drains) (calms is-quiet active) = over-across ended drains
+  sends-converge end (over-across ended drains) (ends closing alive) = over-across (λ is-open. is-open) (gone-drains _)
 
   -- an end receives the head of the other's queue
-  pub hears-meets : (end : End) {a b : Standing} {p q : List Packet} {m : Packet} → Meets source end a p b (m ∷ q) → (c : Standing) × Hears source end a m c × Meets source end c p b q
-  hears-meets end (ahead (quiet is-quiet active still) drains) = (_, rested is-quiet active, ahead still drains)
-  hears-meets end (behind still (head hears drains)) = (_, hears, behind still drains)
-  hears-meets end (over ended drains) = (_, late, over ended drains)
-  hears-meets end (over-across ended (head hears drains)) = (_, hears, over-across ended drains)
+  pub hears-converge : (end : End) {a b : Standing} {p q : List Packet} {m : Packet} → Converge source end a p b (m ∷ q) → (c : Standing) × Hears source end a m c × Converge source end c p b q
+  hears-converge end (ahead (quiet is-quiet active still) drains) = (_, rested is-quiet active, ahead still drains)
+  hears-converge end (behind still (head hears drains)) = (_, hears, behind still drains)
+  hears-converge end (over ended drains) = (_, late, over ended drains)
+  hears-converge end (over-across ended (head hears drains)) = (_, hears, over-across ended drains)
 
   -- an end refuses a message that moves the stage, and closes
-  pub refuses-meets : (end : End) {s : Stage} {b : Standing} {p q : List Packet} {m : Packet} (close : Packet) → kindOf (rowMessage m) ≡ Moves → kindOf (rowMessage close) ≡ Ends
-      → Meets source end (At s) p b (m ∷ q) → Meets source end ClosedByItself (p ++ (close ∷ [])) b q
-  refuses-meets end close moving closing (ahead (quiet is-quiet active still) drains) = absurd (moves-not-stays moving is-quiet)
-  refuses-meets end close moving closing (behind still (head (moved {s = s} {t = t} {m = m} _ theirs leads) drains)) =
+  pub refuses-converge : (end : End) {s : Stage} {b : Standing} {p q : List Packet} {m : Packet} (close : Packet) → kindOf (rowMessage m) ≡ Moves → kindOf (rowMessage close) ≡ Ends
+      → Converge source end (At s) p b (m ∷ q) → Converge source end ClosedByItself (p ++ (close ∷ [])) b q
+  refuses-converge end close moving closing (ahead (quiet is-quiet active still) drains) = absurd (moves-not-stays moving is-quiet)
+  refuses-converge end close moving closing (behind still (head (moved {s = s} {t = t} {m = m} _ theirs leads) drains)) =
       over (λ is-open. is-open) (drains-last (still-drains still) (closed closing (alive-drains (leads-alive source s m t moving leads) drains)))
-  refuses-meets end close moving closing (behind still (head (rested is-quiet active) drains)) = absurd (moves-not-stays moving is-quiet)
-  refuses-meets end close moving closing (behind still (head (closed also alive) drains)) = absurd (moves-not-ends moving also)
-  refuses-meets end close moving closing (over-across ended drains) = over-across (λ is-open. is-open) (gone-drains _)
+  refuses-converge end close moving closing (behind still (head (rested is-quiet active) drains)) = absurd (moves-not-stays moving is-quiet)
+  refuses-converge end close moving closing (behind still (head (closed also alive) drains)) = absurd (moves-not-ends moving also)
+  refuses-converge end close moving closing (over-across ended drains) = over-across (λ is-open. is-open) (gone-drains _)
 
   -- with nothing on its way both stand at one stage
-  pub rests-meets : (end : End) {s t : Stage} → Meets source end (At s) [] (At t) [] → s ≡ t
-  rests-meets end (ahead still empty) = refl
-  rests-meets end (behind still empty) = refl
+  pub rests-converge : (end : End) {s t : Stage} → Converge source end (At s) [] (At t) [] → s ≡ t
+  rests-converge end (ahead still empty) = refl
+  rests-converge end (behind still empty) = refl
 
   -- nothing is on its way to an end that heard a CLOSE
-  pub shut-meets : (end : End) {p q : List Packet} {b : Standing} → Meets source end ClosedByOther p b q → q ≡ []
-  shut-meets end (behind still drains) = absurd (shut-drains drains)
-  shut-meets end (over-across ended empty) = refl
-  shut-meets end (over-across ended (head hears drains)) = absurd (shut-hears hears)
+  pub shut-converge : (end : End) {p q : List Packet} {b : Standing} → Converge source end ClosedByOther p b q → q ≡ []
+  shut-converge end (behind still drains) = absurd (shut-drains drains)
+  shut-converge end (over-across ended empty) = refl
+  shut-converge end (over-across ended (head hears drains)) = absurd (shut-hears hears)

@@ -1,25 +1,22 @@
 -- The same for the C entries: two 64-byte blocks, each changed only by `fbdp_make_client`, `fbdp_make_server`, the sends and `fbdp_receive`, with
--- any outputs. What is queued are the bytes that an entry wrote to its output, and what is noted is read off the numbers that it gave.
+-- any outputs. What is queued are the bytes that an entry wrote to its output, and what is told is read off the numbers that it gave.
 use Prim.Native.Nat.{ℕ}
-use mathlib.Core.Path.{_≡_}
 use mathlib.Core.List.{List, [], _∷_}
-use mathlib.Core.Bool.{true, cond, not, _&&_, _||_}
+use mathlib.Core.Bool.{cond}
 use lib.ListN.{length, getD, take}
 use lib.Dec.{eqb}
 use Rattle.bytes_be.specs.Part.{part}
-use Rattle.control.specs.declared.MessageType.the-variants.{Ready, Data, Close}
-use Rattle.control.specs.Frame.{ackReply, typeOf}
-use Rattle.endpoint.specs.Record.{freshClient, freshServer}
-use Rattle.endpoint.specs.Block.{isGood, loadOf}
+use Rattle.endpoint.specs.declared.Endpoint.{Endpoint}
+use Rattle.endpoint.specs.Block.{loadOf}
 use Rattle.receiving.specs.declared.Received.{Received}
 use Rattle.receiving.specs.Receiving.{answerNumber, replied}
 use Rattle.sending.specs.declared.Sent.{Sent}
 use Rattle.sending.specs.Calls.{Call, written}
 use Rattle.sending.specs.Sending.{leftBy}
 use Rattle.machine.specs.Good.{Fits}
-use Rattle.fbdp.specs.Blocks.{MakeAnswer, SendOnBlock, ReceiveOnBlock, answerSlots, keptAfter, keptBy, receivedOn, replyLength, sentOn}
-use Rattle.session.specs.World.{End, Datum, Ending, HeardClose, WroteClose, World, side, made, Program, SendOutcome, ReceiveOutcome, Event, AllFit, run}
-use Rattle.session.specs.Demand.{Holds}
+use Rattle.machine.specs.Programs.{Making, freshBy, Told, MakeOutcome, SendOutcome, ReceiveOutcome, Program}
+use Rattle.fbdp.specs.Blocks.{MakeAnswer, SendOnBlock, ReceiveOnBlock, answerSlots, keptAfter, keptBy, makeNumber, receivedOn, replyLength, sentOn, stored}
+use Rattle.session.specs.Demand.{View, promptLedger, DemandOf}
 
 -- ---- the entries
 
@@ -37,21 +34,32 @@ pub record ReceiveResult : Type 0 where
   pub block : List ℕ
   pub out : List ℕ
 
--- a call on a block and an output; a message, the pipe name and the format on offer, on a block and an output
+-- a making on a block; a call on a block and an output; a message, the pipe name and the format on offer, on a block and an output
 pub record Entries : Type 0 where
+  pub makes : Making → List ℕ → MakeOutcome (List ℕ)
   pub sends : Call → List ℕ → List ℕ → SendResult
   pub receives : List ℕ → List ℕ → List ℕ → List ℕ → List ℕ → ReceiveResult
 
 -- whatever is called, with arguments of their types, the result meets the contract of the entry
 pub record Meets (entries : Entries) : Type 0 where
-  pub sent : (call : Call) → Fits call → (block out : List ℕ)
-      → SendOnBlock call block out (entries .sends call block out .number) (entries .sends call block out .count) (entries .sends call block out .block)
-      (entries .sends call block out .out)
-  pub received : (s name format block out : List ℕ)
-      → ReceiveOnBlock s name format block out (entries .receives s name format block out .number) (entries .receives s name format block out .slots)
-      (entries .receives s name format block out .block) (entries .receives s name format block out .out)
+  pub making : (making : Making) (block : List ℕ)
+      → MakeAnswer (freshBy making) block (entries .makes making block .number) (entries .makes making block .next)
+  pub calls : (call : Call) → Fits call → (block out : List ℕ)
+      → SendOnBlock call block out (entries .sends call block out .number) (entries .sends call block out .count)
+      (entries .sends call block out .block) (entries .sends call block out .out)
+  pub messages : (s name format block out : List ℕ)
+      → ReceiveOnBlock s name format block out (entries .receives s name format block out .number)
+      (entries .receives s name format block out .slots) (entries .receives s name format block out .block)
+      (entries .receives s name format block out .out)
 
--- what the tables make of a call and of a message
+-- what the tables make of a making, a call and a message
+abbrev pub makeResult : Endpoint → List ℕ → MakeOutcome (List ℕ)
+makeResult made block =
+    record {
+      number = makeNumber (made .flow) (made .limit) block;
+      next = cond (eqb (makeNumber (made .flow) (made .limit) block) 0) (stored made block) block;
+    }
+
 abbrev pub sendResult : Sent → Call → List ℕ → List ℕ → SendResult
 sendResult sent call block out =
     record {
@@ -74,6 +82,7 @@ receiveResult received block out =
 unfoldable pub byTables : Entries
 byTables =
     record {
+      makes = λ making block. makeResult (freshBy making) block;
       sends = λ call block out. sendResult (sentOn block call (length out)) call block out;
       receives = λ s name format block out. receiveResult (receivedOn block s name format (length out)) block out;
     }
@@ -88,24 +97,17 @@ TablesMeet = Meets byTables
 abbrev pub slot : List ℕ → ℕ → ℕ
 slot slots i = getD slots i 0
 
--- "DATA without ACK-REPLY .. Heard too is the place of its body."
-abbrev pub dataTold : List ℕ → List ℕ → List Datum
-dataTold s slots =
-    cond (eqb (slot slots 0) (typeOf Data) && not (eqb (slot slots 1) ackReply))
-    (record { type-data = slot slots 2; body = part s (slot slots 12) (slot slots 13) } ∷ [])
-    []
+abbrev pub toldBy : List ℕ → List ℕ → Told
+toldBy s slots =
+    record {
+      message = slot slots 0;
+      flags = slot slots 1;
+      type-data = slot slots 2;
+      body = part s (slot slots 12) (slot slots 13);
+    }
 
-abbrev pub readyTold : List ℕ → List ℕ
-readyTold slots = cond (eqb (slot slots 0) (typeOf Ready)) (slot slots 2 ∷ []) []
-
-abbrev pub repliesTold : List ℕ → List ℕ → List (List ℕ)
-repliesTold slots out = cond (eqb (slot slots 3) 0) [] (take (slot slots 3) out ∷ [])
-
--- a CLOSE is heard, or written as the reply of a refusal
-abbrev pub endingTold : ℕ → List ℕ → Ending → Ending
-endingTold number slots ending =
-    cond (eqb (slot slots 0) (typeOf Close)) HeardClose
-    (cond (eqb number 0 || eqb (slot slots 3) 0) ending WroteClose)
+abbrev pub repliesBy : List ℕ → List ℕ → List (List ℕ)
+repliesBy slots out = cond (eqb (slot slots 3) 0) [] (take (slot slots 3) out ∷ [])
 
 abbrev pub sendTold : SendResult → SendOutcome (List ℕ)
 sendTold result = record { number = result .number; bytes = take (result .count) (result .out); next = result .block }
@@ -114,10 +116,8 @@ abbrev pub receiveTold : List ℕ → ReceiveResult → ReceiveOutcome (List ℕ
 receiveTold s result =
     record {
       number = result .number;
-      heard = dataTold s (result .slots);
-      readies = readyTold (result .slots);
-      ended = endingTold (result .number) (result .slots);
-      replied = repliesTold (result .slots) (result .out);
+      told = toldBy s (result .slots);
+      replied = repliesBy (result .slots) (result .out);
       next = result .block;
     }
 
@@ -126,20 +126,14 @@ abbrev pub onBlocks : Entries → Program (List ℕ) (List ℕ)
 onBlocks entries =
     record {
       room = length;
+      make = λ block making. entries .makes making block;
       send = λ block call out. sendTold (entries .sends call block out);
-      receive = λ block s name format out. receiveTold s (entries .receives s name format block out);
+      receive = λ block m name format out. receiveTold (m .bytes) (entries .receives (m .bytes) name format block out);
     }
 
--- ---- what holds of two blocks: they are good, and demand 3 holds of the records in them
-pub record HoldsOnBlocks (entries : Entries) (w : World (List ℕ)) : Type 0 where
-  pub good : (end : End) → isGood (side w end .self) ≡ true
-  pub holds : Holds (onBlocks entries) loadOf w
+abbrev pub inBlocks : View (List ℕ)
+inBlocks = record { endpoint = loadOf; ledger = λ block. promptLedger (loadOf block) }
 
--- for every client and server that was made, and any calls of entries that meet their contracts
+-- demand 3, over any entries that meet their contracts
 abbrev pub DemandOnBlocks : Type 0
-DemandOnBlocks =
-    (entries : Entries) → Meets entries
-    → (flow limit serverFlow : ℕ) (memory client-block other-memory server-block : List ℕ)
-    → MakeAnswer (freshClient flow limit) memory 0 client-block → MakeAnswer (freshServer serverFlow) other-memory 0 server-block
-    → (events : List (Event (List ℕ))) → AllFit events
-    → HoldsOnBlocks entries (run (onBlocks entries) (record { client = made client-block; server = made server-block }) events)
+DemandOnBlocks = (entries : Entries) → Meets entries → DemandOf (onBlocks entries) inBlocks

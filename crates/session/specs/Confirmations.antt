@@ -3,7 +3,7 @@
 use Prim.Native.Nat.{ℕ, _+_, _≤_}
 use mathlib.Core.Path.{_≡_}
 use mathlib.Core.List.{List, [], _∷_, _++_, flatMap}
-use mathlib.Core.Bool.{Bool, cond}
+use mathlib.Core.Bool.{cond}
 use Rattle.control.specs.declared.MessageType.{MessageType}
 use Rattle.control.specs.Frame.{typeOf}
 use lib.ListN.{length}
@@ -12,6 +12,7 @@ use Rattle.endpoint.specs.Record.{capacity}
 use Rattle.sending.specs.Calls.{messageOf, typeDataOf, askOf}
 use Rattle.session.specs.Packets.{Packet, Called, Confirms, Closes}
 use Rattle.session.specs.Turns.{Standing, IsOpen}
+use Rattle.session.specs.Demand.{Ledger}
 
 abbrev pub entryFor : MessageType → ℕ → Entry
 entryFor message type-data = record { message = typeOf message; «type_data» = type-data }
@@ -27,24 +28,13 @@ confirmedIn (Called e call) = []
 confirmedIn (Confirms message type-data) = entryFor message type-data ∷ []
 confirmedIn (Closes code) = []
 
--- what an end awaits and what it owes, on each line of confirmations
-pub record Ledger : Type 0 where
-  pub waits : ℕ → List Entry
-  pub owes : ℕ → List Entry
-
 abbrev pub nothingDue : Ledger
 nothingDue = record { waits = λ line. []; owes = λ line. [] }
 
--- how the states of a program confirm: which messages at once, and which are owed first; which entries stand on a line, "oldest" being of one
--- line; and the ledger of a state
-pub record Confirming (A : Type 0) : Type 0 where
-  pub prompt : MessageType → Bool
-  pub pick : ℕ → List Entry → List Entry
-  pub ledger : A → Ledger
-
 -- on one line, an end at a that wrote p awaits these entries: first those that q confirms, which the one at b wrote, then those that it owes, and
 -- then those that p asks for; once the other has closed, the latter two are lost
-pub record Awaits (pick : List Entry → List Entry) (a : Standing) (entries : List Entry) (p : List Packet) (b : Standing) (owes : List Entry) (q : List Packet) : Type 0 where
+pub record Awaits (pick : List Entry → List Entry) (a : Standing) (entries : List Entry) (p : List Packet) (b : Standing) (owes : List Entry)
+    (q : List Packet) : Type 0 where
   pub rest : List Entry
   pub held : IsOpen a → entries ≡ flatMap (λ (m : Packet). pick (confirmedIn m)) q ++ rest
   pub due : IsOpen b → rest ≡ owes ++ flatMap (λ (m : Packet). pick (askedIn m)) p

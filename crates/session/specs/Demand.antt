@@ -1,6 +1,6 @@
--- Demand 3: "whatever is called and delivered, neither refuses the other's message (but an OPEN for what is not offered, or a message after its
--- own close); data accepted is always a prefix of data sent and never more than the batches agreed; while neither has closed and nothing is in
--- transit, one end may still send something other than NOOP and CLOSE."
+-- Demand 3: "Whatever is called and delivered, in any order, neither end refuses the other's message, except an OPEN for a pipe, socket or data format
+-- not offered, or a message arriving after its own close. The data accepted is at every moment a leading part of the data sent, and never more than
+-- the batches agreed. While neither has closed and nothing is in transit, one end may still send a message other than NOOP and CLOSE."
 use Prim.Native.Nat.{ℕ, _+_, _≤_, _<_}
 use mathlib.Core.Path.{_≡_}
 use mathlib.Core.List.{List, [], _∷_, IsPrefix}
@@ -8,19 +8,36 @@ use mathlib.Core.Bool.{Bool, true, false, cond, _&&_, _||_}
 use lib.ListN.{length}
 use lib.Dec.{eqb}
 use Rattle.bytes_be.specs.Part.{same}
-use Rattle.double.specs.Limit.{mostLimit}
 use Rattle.open.specs.Open.{offeredSocket}
 use Rattle.open_write.specs.Frame.{socketOf}
 use Rattle.endpoint.specs.declared.Endpoint.{Endpoint}
-use Rattle.endpoint.specs.declared.Given.the-variants.{Good}
-use Rattle.endpoint.specs.Record.{fresh, offer, batch, shut, givenOf, freshClient, freshServer}
+use Rattle.endpoint.specs.declared.Entry.{Entry}
+use Rattle.endpoint.specs.Record.{awaited, fresh, offer, batch, shut, good}
 use Rattle.sending.specs.Calls.{Call, OPEN, READY, DATA, NOOP, CLOSE, written}
 use Rattle.machine.specs.Good.{Fits}
-use Rattle.session.specs.World.{End, Client, across, Ending, Going, HeardClose, WroteClose, agreed, Side, World, side, made, Program, Event, receives, AllFit, step, run, viewedSide, tables}
+use Rattle.machine.specs.Programs.{Queued, Program, tables}
+use Rattle.session.specs.World.{End, Client, Server, across, Terms, makingOf, Ending, Going, HeardClose, WroteClose, History, Side, World, side, Event, receives, AllFit, step, run, begun, viewedSide}
 use Rattle.session.specs.Turns.{producing, turn}
 
--- "neither refuses the other's message": what x answers to the bundle s that y wrote, offering this pipe name and format. It hears it, unless it
--- is an OPEN for another pipe name or socket, or for another format, or x has itself closed.
+-- what an end awaits and what it owes, on each line of confirmations: "ACK-REPLY must equal the oldest entry" of its line
+pub record Ledger : Type 0 where
+  pub waits : ℕ → List Entry
+  pub owes : ℕ → List Entry
+
+-- what the states of a program hold
+pub record View (A : Type 0) : Type 0 where
+  pub endpoint : A → Endpoint
+  pub ledger : A → Ledger
+
+-- those of the tables: there is one line, and nothing is owed, as every ask is confirmed at once
+abbrev pub promptLedger : Endpoint → Ledger
+promptLedger e = record { waits = λ line. awaited e; owes = λ line. [] }
+
+abbrev pub asRecords : View Endpoint
+asRecords = record { endpoint = λ e. e; ledger = promptLedger }
+
+-- "neither end refuses the other's message": what x answers to the bytes s that y wrote, offering this pipe name and format. It hears them, unless
+-- that is an OPEN for another pipe name or socket, or for another format, or x has itself closed.
 pub data MayAnswer (x y : Side Endpoint) (s name format : List ℕ) : ℕ → Type 0 where
   heard : MayAnswer x y s name format 0
   other-pipe : (asked wanted : List ℕ) → s ≡ written (y .self) (OPEN asked wanted)
@@ -35,7 +52,12 @@ PhaseFits Going phase = phase ≤ batch
 PhaseFits HeardClose phase = phase ≡ shut
 PhaseFits WroteClose phase = phase ≡ shut
 
--- "the batches agreed": the sum of their counts, and the count of the newest
+-- "the batches agreed": the READYs that the client sent; at the server, those of them that it heard
+abbrev pub agreed : End → History → List ℕ
+agreed Client past = past .readies
+agreed Server past = past .readies-heard
+
+-- the sum of their counts, and the count of the newest
 abbrev pub sum : List ℕ → ℕ
 sum [] = 0
 sum (count ∷ rest) = count + sum rest
@@ -45,7 +67,22 @@ newest [] = 0
 newest (count ∷ []) = count
 newest (count ∷ next ∷ rest) = newest (next ∷ rest)
 
--- "something other than NOOP and CLOSE"
+-- the offers: the READYs that the server sent, but for those of 0; at the client, those that it heard
+abbrev pub nonZero : List ℕ → List ℕ
+nonZero [] = []
+nonZero (count ∷ rest) = cond (eqb count 0) (nonZero rest) (count ∷ nonZero rest)
+
+abbrev pub offered : End → History → List ℕ
+offered Client past = nonZero (past .readies-heard)
+offered Server past = nonZero (past .readies)
+
+-- "k at most n": each count is at most the one at its place
+abbrev pub EachAtMost : List ℕ → List ℕ → Type 0
+EachAtMost [] offers = Unit
+EachAtMost (count ∷ rest) [] = ⊥
+EachAtMost (count ∷ rest) (most ∷ others) = (count ≤ most) × EachAtMost rest others
+
+-- "a message other than NOOP and CLOSE"
 abbrev pub movesOn : Call → Bool
 movesOn (OPEN name format) = true
 movesOn (READY count) = true
@@ -65,44 +102,62 @@ nextCall e =
     (cond (eqb (e .phase) batch) (DATA 0 false [])
     (READY 1)))
 
+-- "While neither has closed and nothing is in transit"
+pub record AtRest {A : Type 0} (w : World A) : Type 0 where
+  pub going : (end : End) → side w end .past .ending ≡ Going
+  pub none-coming : (end : End) → side w end .queue ≡ []
+
 -- of a program whose states hold endpoints
-module _ {A O : Type 0} (p : Program A O) (view : A → Endpoint) where
+module _ {A O : Type 0} (p : Program A O) (view : View A) where
   -- an end may send a call in every output with room for it
   pub record MaySend (self : A) (call : Call) : Type 0 where
     pub fits : Fits call
     pub moves-on : movesOn call ≡ true
-    pub sent : (out : O) → length (written (view self) call) ≤ p .room out → p .send self call out .number ≡ 0
+    pub accepted : (out : O) → length (written (view .endpoint self) call) ≤ p .room out → p .send self call out .number ≡ 0
 
   -- what holds of a world
   pub record Holds (w : World A) : Type 0 where
-    -- "neither refuses the other's message"
-    pub answers : (end : End) (s : List ℕ) (rest : List (List ℕ)) → side w (across end) .queue ≡ s ∷ rest
+    -- whatever an end was lent, sent and received, its state is good
+    pub stays-good : (end : End) → good (view .endpoint (side w end .self)) ≡ true
+    -- "neither end refuses the other's message"
+    pub answers : (end : End) (m : Queued) (rest : List Queued) → side w (across end) .queue ≡ m ∷ rest
         → (name format : List ℕ) (out : O) → 14 ≤ p .room out
-        → MayAnswer (viewedSide view (side w end)) (viewedSide view (side w (across end))) s name format (p .receive (side w end .self) s name format out .number)
+        → MayAnswer (viewedSide (view .endpoint) (side w end)) (viewedSide (view .endpoint) (side w (across end))) (m .bytes) name format
+        (p .receive (side w end .self) m name format out .number)
     -- "2 output too short": nothing changes, and the message stays where it is
-    pub waits : (end : End) (s : List ℕ) (rest : List (List ℕ)) → side w (across end) .queue ≡ s ∷ rest
+    pub waits : (end : End) (m : Queued) (rest : List Queued) → side w (across end) .queue ≡ m ∷ rest
         → (name format : List ℕ) (out : O) → p .room out < 14
-        → (p .receive (side w end .self) s name format out .number ≡ 2) × (step p w (receives end name format out) ≡ w)
+        → (p .receive (side w end .self) m name format out .number ≡ 2) × (step p w (receives end name format out) ≡ w)
     -- nothing at all arrives at an end that heard a CLOSE
     pub nothing-after-close : (end : End) → side w end .past .ending ≡ HeardClose → side w (across end) .queue ≡ []
-    pub closed-by-phase : (end : End) → PhaseFits (side w end .past .ending) (view (side w end .self) .phase)
-    -- "data accepted is always a prefix of data sent", and so are the READYs heard of those sent
+    pub closed-by-phase : (end : End) → PhaseFits (side w end .past .ending) (view .endpoint (side w end .self) .phase)
+    -- "The data accepted is at every moment a leading part of the data sent", and so are the READYs heard of those sent
     pub data-leads : (end : End) → IsPrefix (side w end .past .accepted) (side w (across end) .past .sent)
     pub readies-lead : (end : End) → IsPrefix (side w end .past .readies-heard) (side w (across end) .past .readies)
-    -- "and never more than the batches agreed": in all of them, and in the newest; a batch that is over was the newest until the READY that began
-    -- the next, so this holds of each
+    -- and nothing is lost: an end that has not itself closed, and to which nothing is coming, has accepted all that was sent
+    pub nothing-lost : (end : End) → (side w end .past .ending ≡ WroteClose → ⊥) → side w (across end) .queue ≡ []
+        → side w end .past .accepted ≡ side w (across end) .past .sent
+    -- "and never more than the batches agreed": in all of them, at either end, and in the newest; a batch that is over was the newest until the READY
+    -- that began the next, so this holds of each
     pub within : length (w .client .past .accepted) + length (w .server .past .accepted) ≤ sum (agreed Client (w .client .past))
-    pub within-newest : (end : End) → length (side w end .past .batch) ≤ newest (agreed end (side w end .past))
-    -- "while neither has closed and nothing is in transit, one end may still send something other than NOOP and CLOSE"
-    pub may-send : w .client .past .ending ≡ Going → w .server .past .ending ≡ Going → w .client .queue ≡ [] → w .server .queue ≡ []
-        → MaySend (side w (nextEnd (view (w .client .self))) .self) (nextCall (view (w .client .self)))
+    pub within-own : (end : End) → length (side w end .past .sent) + length (side w end .past .accepted) ≤ sum (agreed end (side w end .past))
+    pub within-newest : (end : End) → length (side w end .past .recent) ≤ newest (agreed end (side w end .past))
+    -- and a batch agreed is never more than its offer
+    pub within-offers : (end : End) → EachAtMost (agreed end (side w end .past)) (offered end (side w end .past))
+    -- at rest an end awaits what the other owes, and of the tables nothing
+    pub none-awaited : AtRest w → (end : End) (line : ℕ)
+        → view .ledger (side w end .self) .waits line ≡ view .ledger (side w (across end) .self) .owes line
+    -- "one end may still send a message other than NOOP and CLOSE"
+    pub may-send : AtRest w
+        → MaySend (side w (nextEnd (view .endpoint (w .client .self))) .self) (nextCall (view .endpoint (w .client .self)))
 
-  -- for a client and a server that hold such endpoints, and every list of calls
-  abbrev pub DemandFrom : A → A → Type 0
-  DemandFrom client server = (events : List (Event O)) → AllFit events → Holds (run p (record { client = made client; server = made server }) events)
+  -- for a client and a server of any flow and any limit that making accepts, and every list of calls
+  abbrev pub DemandOf : Type 0
+  DemandOf =
+      (terms : Terms) (client server : A)
+      → p .make client (makingOf terms Client) .number ≡ 0 → p .make server (makingOf terms Server) .number ≡ 0
+      → (events : List (Event O)) → AllFit p (begun p terms client server) events → Holds (run p (begun p terms client server) events)
 
--- for a client and a server of any flow and any limit that making accepts, and every list of calls
+-- demand 3, over the tables
 abbrev pub Demand : Type 0
-Demand =
-    (flow limit serverFlow : ℕ) → givenOf flow limit ≡ Good → givenOf serverFlow mostLimit ≡ Good
-    → DemandFrom tables (λ e. e) (freshClient flow limit) (freshServer serverFlow)
+Demand = DemandOf tables asRecords

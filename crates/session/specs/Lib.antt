@@ -4,8 +4,8 @@
 pub mod World
 pub mod Packets
 pub mod Turns
-pub mod Confirmations
 pub mod Demand
+pub mod Confirmations
 pub mod Invariant
 pub mod Laws
 pub mod Blocks

@@ -1,13 +1,16 @@
--- What is on its way between two ends: calls that were accepted, confirmations, and the CLOSEs of refusals; and their bytes.
+-- What is on its way between two ends: calls that were accepted, confirmations, and the CLOSEs of refusals; their bytes, and what
+-- is told of them.
 use Prim.Native.Nat.{ℕ}
 use mathlib.Core.List.{List, []}
 use Rattle.control.specs.declared.MessageType.{MessageType}
 use Rattle.control.specs.declared.MessageType.the-variants.{Noop, Close}
-use Rattle.control.specs.Frame.{ackReply}
+use Rattle.control.specs.Frame.{ackReply, typeOf}
 use Rattle.endpoint.specs.declared.Endpoint.{Endpoint}
 use Rattle.receiving.specs.declared.Reply.the-variants.{Frame}
 use Rattle.receiving.specs.Receiving.{replyBytes}
-use Rattle.sending.specs.Calls.{Call, messageOf, typeDataOf, written}
+use Rattle.sending.specs.Calls.{Call, OPEN, READY, DATA, NOOP, CLOSE, messageOf, typeDataOf, askOf, flagsFor, written}
+use Rattle.machine.specs.Programs.{howOf, Queued, Told}
+use Rattle.machine.specs.Runs.{asReply}
 use Rattle.session.specs.World.{Datum, dataSent, readyCount}
 
 -- a call with the record that it was made on; the confirmation of a message; the CLOSE of a refusal
@@ -16,10 +19,32 @@ pub data Packet : Type 0 where
   Confirms : MessageType → ℕ → Packet
   Closes : ℕ → Packet
 
+abbrev pub queuedIn : Packet → Queued
+queuedIn (Called e call) = record { bytes = written e call; how = howOf call }
+queuedIn (Confirms message type-data) = asReply (replyBytes (Frame message ackReply type-data))
+queuedIn (Closes code) = asReply (replyBytes (Frame Close 0 code))
+
 abbrev pub bytesIn : Packet → List ℕ
-bytesIn (Called e call) = written e call
-bytesIn (Confirms message type-data) = replyBytes (Frame message ackReply type-data)
-bytesIn (Closes code) = replyBytes (Frame Close 0 code)
+bytesIn m = queuedIn m .bytes
+
+-- what is told of it
+abbrev pub bodySent : Call → List ℕ
+bodySent (OPEN name format) = []
+bodySent (READY count) = []
+bodySent (DATA type-data ask body) = body
+bodySent (NOOP type-data ask) = []
+bodySent (CLOSE code) = []
+
+abbrev pub toldIn : Packet → Told
+toldIn (Called e call) =
+    record {
+      message = typeOf (messageOf call);
+      flags = flagsFor (askOf call);
+      type-data = typeDataOf call;
+      body = bodySent call;
+    }
+toldIn (Confirms message type-data) = record { message = typeOf message; flags = ackReply; type-data = type-data; body = [] }
+toldIn (Closes code) = record { message = typeOf Close; flags = 0; type-data = code; body = [] }
 
 -- the message whose row it takes: "NOOP, and any message with ACK-REPLY"
 abbrev pub rowMessage : Packet → MessageType

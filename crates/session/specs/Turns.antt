@@ -64,6 +64,12 @@ IsOpen (At s) = Unit
 IsOpen ClosedByOther = ⊥
 IsOpen ClosedByItself = ⊥
 
+-- an end that has not itself closed hears what comes
+abbrev pub Listens : Standing → Type 0
+Listens (At s) = Unit
+Listens ClosedByOther = Unit
+Listens ClosedByItself = ⊥
+
 -- NOOP and confirmations: "phase 2, 3, 4"; CLOSE: "phase 1 to 4"
 abbrev pub Active : ℕ → Type 0
 Active phase = (idle ≤ phase) × (phase ≤ batch)
@@ -95,8 +101,8 @@ module _ (source : End) where
     head : {a b c : Standing} {m : Packet} {rest : List Packet} → Hears end a m b → Drains end b rest c → Drains end a (m ∷ rest) c
 
   -- an end at a wrote p, and the one across from it at b wrote q: one is ahead of the other, or has written a CLOSE
-  pub data Meets (end : End) : Standing → List Packet → Standing → List Packet → Type 0 where
-    ahead : {s : Stage} {b : Standing} {p q : List Packet} → Still s q → Drains (across end) b p (At s) → Meets end (At s) p b q
-    behind : {a : Standing} {s : Stage} {p q : List Packet} → Still s p → Drains end a q (At s) → Meets end a p (At s) q
-    over : {b c : Standing} {p q : List Packet} → (IsOpen c → ⊥) → Drains (across end) b p c → Meets end ClosedByItself p b q
-    over-across : {a c : Standing} {p q : List Packet} → (IsOpen c → ⊥) → Drains end a q c → Meets end a p ClosedByItself q
+  pub data Converge (end : End) : Standing → List Packet → Standing → List Packet → Type 0 where
+    ahead : {s : Stage} {b : Standing} {p q : List Packet} → Still s q → Drains (across end) b p (At s) → Converge end (At s) p b q
+    behind : {a : Standing} {s : Stage} {p q : List Packet} → Still s p → Drains end a q (At s) → Converge end a p (At s) q
+    over : {b c : Standing} {p q : List Packet} → (IsOpen c → ⊥) → Drains (across end) b p c → Converge end ClosedByItself p b q
+    over-across : {a c : Standing} {p q : List Packet} → (IsOpen c → ⊥) → Drains end a q c → Converge end a p ClosedByItself q

@@ -1,25 +1,19 @@
--- "A fresh client and a fresh server joined by two lossless FIFO queues": two states, two queues of bundles, and what is called and delivered.
--- A send and a receive do what a program makes of them; `tables` is the one of the contracts of `sending` and `receiving`.
+-- "Take one fresh client and one fresh server, each made once and then touched only by the sends and receives, with enough buffer room, joined by two
+-- queues that keep order and neither lose nor repeat. Every message or reply written joins its queue, and only the head of a queue is received."
+-- Each end is a run of its own (`machine/specs/Runs`), over any program; here are the queues between two, and what each end did and heard.
 use Prim.Native.Nat.{ℕ}
+use mathlib.Core.Path.{_≡_}
 use mathlib.Core.List.{List, [], _∷_, _++_}
-use mathlib.Core.Bool.{Bool, cond, _||_}
+use mathlib.Core.Bool.{Bool, cond, not, _&&_, _||_}
 use lib.Dec.{eqb}
-use Rattle.bytes_be.specs.Part.{partAt}
+use lib.ListN.{length}
 use Rattle.control.specs.declared.MessageType.{MessageType}
 use Rattle.control.specs.declared.MessageType.the-variants.{Open, Ready, Noop, Data, Close}
-use Rattle.endpoint.specs.declared.Endpoint.{Endpoint}
-use Rattle.endpoint.specs.Record.{freshClient, freshServer}
-use Rattle.receiving.specs.declared.Content.{Content}
-use Rattle.receiving.specs.declared.Content.the-variants.{Nothing, Opening, Body}
-use Rattle.receiving.specs.declared.Answer.{Answer}
-use Rattle.receiving.specs.declared.Answer.the-variants.{Heard as Answer·Heard, Refused}
-use Rattle.receiving.specs.declared.Reply.{Reply}
-use Rattle.receiving.specs.declared.Reply.the-variants.{Nothing as Reply·Nothing, Frame}
-use Rattle.receiving.specs.declared.Received.{Received}
-use Rattle.receiving.specs.Receiving.{answerNumber, replyBytes, receivedOf}
-use Rattle.sending.specs.Calls.{Call, OPEN, READY, DATA, NOOP, CLOSE, messageOf, typeDataOf, written}
-use Rattle.sending.specs.Sending.{sendOf}
+use Rattle.control.specs.Frame.{ackReply, typeOf}
+use Rattle.sending.specs.Calls.{Call, OPEN, READY, DATA, NOOP, CLOSE, messageOf, typeDataOf}
 use Rattle.machine.specs.Good.{Fits}
+use Rattle.machine.specs.Programs.{Making, AsClient, AsServer, Queued, Told, Program}
+use Rattle.machine.specs.Runs.{Act, Makes, Sends, Receives, Done, doneBy}
 
 pub data End : Type 0 where
   Client Server : End
@@ -27,6 +21,18 @@ pub data End : Type 0 where
 abbrev pub across : End → End
 across Client = Server
 across Server = Client
+
+-- what two ends are made with: the client's flow and limit, and the server's flow
+pub record Terms : Type 0 where
+  pub flow : ℕ
+  pub limit : ℕ
+  pub server-flow : ℕ
+
+abbrev pub makingOf : Terms → End → Making
+makingOf terms Client = AsClient (terms .flow) (terms .limit)
+makingOf terms Server = AsServer (terms .server-flow)
+
+-- ---- what an end did and heard
 
 -- what a DATA message carries
 pub record Datum : Type 0 where
@@ -37,7 +43,7 @@ pub record Datum : Type 0 where
 pub data Ending : Type 0 where
   Going HeardClose WroteClose : Ending
 
--- what an end did and heard, oldest first
+-- oldest first
 pub record History : Type 0 where
   -- the data sent and the data accepted
   pub sent : List Datum
@@ -46,63 +52,11 @@ pub record History : Type 0 where
   pub readies : List ℕ
   pub readies-heard : List ℕ
   -- the data accepted since the client's last READY, as this end sent or heard it
-  pub batch : List Datum
+  pub recent : List Datum
   pub ending : Ending
 
--- "Batches agreed": the READYs that the client sent; at the server, those of them that it heard
-abbrev pub agreed : End → History → List ℕ
-agreed Client past = past .readies
-agreed Server past = past .readies-heard
-
--- an end: its record or its block, the bundles that it wrote and the other has not received, oldest first, and its history
-pub record Side (A : Type 0) : Type 0 where
-  pub self : A
-  pub queue : List (List ℕ)
-  pub past : History
-
-pub record World (A : Type 0) : Type 0 where
-  pub client : Side A
-  pub server : Side A
-
--- every call: a send with any arguments, and the receiving of the head of a queue with any pipe name and format on offer; each with any output
-pub data Event (O : Type 0) : Type 0 where
-  sends : End → Call → O → Event O
-  receives : End → List ℕ → List ℕ → O → Event O
-
-module _ {O : Type 0} where
-  -- the arguments of a send are of their types
-  abbrev pub EventFits : Event O → Type 0
-  EventFits (sends end call out) = Fits call
-  EventFits (receives end name format out) = Unit
-
-  abbrev pub AllFit : List (Event O) → Type 0
-  AllFit [] = Unit
-  AllFit (event ∷ rest) = EventFits event × AllFit rest
-
--- what comes of a call: its number, the bytes that it wrote if that is 0, and the state afterwards
-pub record SendOutcome (A : Type 0) : Type 0 where
-  pub number : ℕ
-  pub bytes : List ℕ
-  pub next : A
-
--- what comes of a message: the number, the data and READYs told, how the end has ended, the bundles replied, and the state afterwards
-pub record ReceiveOutcome (A : Type 0) : Type 0 where
-  pub number : ℕ
-  pub heard : List Datum
-  pub readies : List ℕ
-  pub ended : Ending → Ending
-  pub replied : List (List ℕ)
-  pub next : A
-
--- a message that was answered by this number and nothing else
-abbrev pub ignored : {A : Type 0} → ℕ → A → ReceiveOutcome A
-ignored number self = record { number = number; heard = []; readies = []; ended = λ before. before; replied = []; next = self }
-
--- a program over the states A, with outputs O that have so much room: a call on a state, and a message with the pipe name and format on offer
-pub record Program (A O : Type 0) : Type 0 where
-  pub room : O → ℕ
-  pub send : A → Call → O → SendOutcome A
-  pub receive : A → List ℕ → List ℕ → List ℕ → O → ReceiveOutcome A
+abbrev pub noHistory : History
+noHistory = record { sent = []; accepted = []; readies = []; readies-heard = []; recent = []; ending = Going }
 
 -- the data that a call sends
 abbrev pub dataSent : Call → List Datum
@@ -112,17 +66,14 @@ dataSent (DATA type-data ask body) = record { type-data = type-data; body = body
 dataSent (NOOP type-data ask) = []
 dataSent (CLOSE code) = []
 
--- the data in the bytes of a message that is heard: the body at the place heard
-abbrev pub dataAt : List ℕ → ℕ → Content → List Datum
-dataAt s type-data Nothing = []
-dataAt s type-data (Opening opening) = []
-dataAt s type-data (Body place) = record { type-data = type-data; body = partAt s place } ∷ []
+-- the data of what is told: "DATA without ACK-REPLY"
+abbrev pub dataTold : Told → List Datum
+dataTold told =
+    cond (eqb (told .message) (typeOf Data) && not (eqb (told .flags) ackReply))
+    (record { type-data = told .type-data; body = told .body } ∷ [])
+    []
 
-abbrev pub dataHeard : List ℕ → Answer → List Datum
-dataHeard s (Answer·Heard heard) = dataAt s (heard .«type_data») (heard .content)
-dataHeard s (Refused number) = []
-
--- the count of a message that is a READY
+-- the count of a message that is a READY, and of a READY that is told
 abbrev pub readyCount : MessageType → ℕ → List ℕ
 readyCount Open count = []
 readyCount Ready count = count ∷ []
@@ -130,15 +81,14 @@ readyCount Noop count = []
 readyCount Data count = []
 readyCount Close count = []
 
-abbrev pub readyHeard : Answer → List ℕ
-readyHeard (Answer·Heard heard) = readyCount (heard .message) (heard .«type_data»)
-readyHeard (Refused number) = []
+abbrev pub readyTold : Told → List ℕ
+readyTold told = cond (eqb (told .message) (typeOf Ready)) (told .type-data ∷ []) []
 
--- the data of the batch after an end wrote these READYs: the client's begin a new one
-abbrev pub batchAfter : End → List ℕ → List Datum → List Datum
-batchAfter end [] batch = batch
-batchAfter Client (count ∷ rest) batch = []
-batchAfter Server (count ∷ rest) batch = batch
+-- the data of the newest batch, after an end wrote these READYs: the client's begin a new one
+abbrev pub recentAfter : End → List ℕ → List Datum → List Datum
+recentAfter end [] recent = recent
+recentAfter Client (count ∷ rest) recent = []
+recentAfter Server (count ∷ rest) recent = recent
 
 -- a CLOSE ends the one who wrote it and the one who heard it
 abbrev pub endedBy : Ending → MessageType → Ending → Ending
@@ -148,22 +98,11 @@ endedBy how Noop before = before
 endedBy how Data before = before
 endedBy how Close before = how
 
-abbrev pub endingReplied : Reply → Ending → Ending
-endingReplied Reply·Nothing before = before
-endingReplied (Frame message flags type-data) before = endedBy WroteClose message before
-
-abbrev pub endingHeard : Answer → Ending → Ending
-endingHeard (Answer·Heard heard) before = endedBy HeardClose (heard .message) before
-endingHeard (Refused number) before = before
-
--- the bundles of a reply
-abbrev pub replies : Reply → List (List ℕ)
-replies Reply·Nothing = []
-replies (Frame message flags type-data) = replyBytes (Frame message flags type-data) ∷ []
-
--- nothing done
-abbrev pub noHistory : History
-noHistory = record { sent = []; accepted = []; readies = []; readies-heard = []; batch = []; ending = Going }
+-- a refusal that is replied to is a CLOSE written
+abbrev pub endedAfter : ℕ → Told → List Queued → Ending → Ending
+endedAfter number told replied before =
+    cond (eqb (told .message) (typeOf Close)) HeardClose
+    (cond (eqb number 0 || eqb (length replied) 0) before WroteClose)
 
 -- an end made a call that was accepted
 abbrev pub afterCall : End → History → Call → History
@@ -173,7 +112,7 @@ afterCall end past call =
       accepted = past .accepted;
       readies = past .readies ++ readyCount (messageOf call) (typeDataOf call);
       readies-heard = past .readies-heard;
-      batch = batchAfter end (readyCount (messageOf call) (typeDataOf call)) (past .batch);
+      recent = recentAfter end (readyCount (messageOf call) (typeDataOf call)) (past .recent);
       ending = endedBy WroteClose (messageOf call) (past .ending);
     }
 
@@ -185,9 +124,28 @@ afterMessage end past heard readies ending =
       accepted = past .accepted ++ heard;
       readies = past .readies;
       readies-heard = past .readies-heard ++ readies;
-      batch = batchAfter (across end) readies (past .batch) ++ heard;
+      recent = recentAfter (across end) readies (past .recent) ++ heard;
       ending = ending;
     }
+
+-- only what is accepted is noted of a making and of a call
+abbrev pub noted : {A O : Type 0} → End → History → Act O → Done A → History
+noted end past (Makes making) done = cond (eqb (done .number) 0) noHistory past
+noted end past (Sends call out) done = cond (eqb (done .number) 0) (afterCall end past call) past
+noted end past (Receives m name format out) done =
+    afterMessage end past (dataTold (done .told)) (readyTold (done .told)) (endedAfter (done .number) (done .told) (done .wrote) (past .ending))
+
+-- ---- two ends
+
+-- an end: its state, the messages that it wrote and the other has not received, oldest first, and what it did and heard
+pub record Side (A : Type 0) : Type 0 where
+  pub self : A
+  pub queue : List Queued
+  pub past : History
+
+pub record World (A : Type 0) : Type 0 where
+  pub client : Side A
+  pub server : Side A
 
 module _ {A : Type 0} where
   abbrev pub side : World A → End → Side A
@@ -199,54 +157,72 @@ module _ {A : Type 0} where
   joined Client x y = record { client = x; server = y }
   joined Server x y = record { client = y; server = x }
 
+  -- an end that was just made
   abbrev pub made : A → Side A
   made self = record { self = self; queue = []; past = noHistory }
 
-  -- the same end with another record, or another queue
-  abbrev pub became : Side A → A → Side A
-  became x next = record { self = next; queue = x .queue; past = x .past }
-
-  abbrev pub withQueue : Side A → List (List ℕ) → Side A
+  abbrev pub withQueue : Side A → List Queued → Side A
   withQueue y queue = record { self = y .self; queue = queue; past = y .past }
 
-  -- an end that wrote the bytes of a call, and one that replied with these bundles
-  abbrev pub wrote : End → Side A → Call → List ℕ → A → Side A
-  wrote end x call bytes next = record { self = next; queue = x .queue ++ (bytes ∷ []); past = afterCall end (x .past) call }
+  -- "Every message or reply written joins its queue"
+  abbrev pub after : {O : Type 0} → End → Side A → Act O → Done A → Side A
+  after end x act done = record { self = done .next; queue = x .queue ++ done .wrote; past = noted end (x .past) act done }
 
-  abbrev pub took : End → Side A → List Datum → List ℕ → Ending → List (List ℕ) → A → Side A
-  took end x heard readies ending replied next =
-      record { self = next; queue = x .queue ++ replied; past = afterMessage end (x .past) heard readies ending }
-
-  -- only a call that is accepted writes
-  abbrev pub sentBy : End → Side A → Call → SendOutcome A → Side A
-  sentBy end x call result = cond (eqb (result .number) 0) (wrote end x call (result .bytes) (result .next)) (became x (result .next))
-
-  abbrev pub tookBy : End → Side A → ReceiveOutcome A → Side A
-  tookBy end x result =
-      took end x (result .heard) (result .readies) (result .ended (x .past .ending)) (result .replied) (result .next)
+-- "Whatever is called and delivered, in any order": a send with any arguments; the receiving of the head of a queue with any pipe name and format on
+-- offer; each with any output; and both ends made again
+pub data Event (O : Type 0) : Type 0 where
+  sends : End → Call → O → Event O
+  receives : End → List ℕ → List ℕ → O → Event O
+  makes : Terms → Event O
 
 -- a receive that answers 1 or 2 has not taken the message, and one that answers 3 has passed it over
 abbrev pub isKept : ℕ → Bool
 isKept number = eqb number 1 || eqb number 2
 
 module _ {A O : Type 0} (p : Program A O) where
-  -- the head of the queue of y is received by x; where there is none, nothing is
-  unfoldable pub afterReceive : End → Side A → Side A → List (List ℕ) → List ℕ → List ℕ → O → World A
+  abbrev pub acted : End → Side A → Act O → Side A
+  acted end x act = after end x act (doneBy p (x .self) act)
+
+  -- "only the head of a queue is received"; where there is none, nothing is
+  unfoldable pub afterReceive : End → Side A → Side A → List Queued → List ℕ → List ℕ → O → World A
   afterReceive end x y [] name format out = joined end x y
-  afterReceive end x y (s ∷ rest) name format out =
-      cond (isKept (p .receive (x .self) s name format out .number))
-      (joined end (became x (p .receive (x .self) s name format out .next)) y)
-      (joined end (tookBy end x (p .receive (x .self) s name format out)) (withQueue y rest))
+  afterReceive end x y (m ∷ rest) name format out =
+      joined end (acted end x (Receives m name format out))
+      (withQueue y (cond (isKept (p .receive (x .self) m name format out .number)) (m ∷ rest) rest))
 
   unfoldable pub step : World A → Event O → World A
-  step w (sends end call out) = joined end (sentBy end (side w end) call (p .send (side w end .self) call out)) (side w (across end))
+  step w (sends end call out) = joined end (acted end (side w end) (Sends call out)) (side w (across end))
   step w (receives end name format out) =
       afterReceive end (side w end) (side w (across end)) (side w (across end) .queue) name format out
+  step w (makes terms) =
+      record {
+        client = acted Client (w .client) (Makes (makingOf terms Client));
+        server = acted Server (w .server) (Makes (makingOf terms Server));
+      }
 
-  -- whatever is called and delivered, in this order
+  -- a client and a server that were just made, whatever they were before
+  abbrev pub begun : Terms → A → A → World A
+  begun terms client server =
+      record { client = made (p .make client (makingOf terms Client) .next); server = made (p .make server (makingOf terms Server) .next) }
+
   unfoldable pub run : World A → List (Event O) → World A
   run w [] = w
   run w (event ∷ rest) = run (step w event) rest
+
+  -- the ends are made again where nothing is in transit, and both making are accepted
+  pub record MayMake (w : World A) (terms : Terms) : Type 0 where
+    pub none-coming : (end : End) → side w end .queue ≡ []
+    pub accepts : (end : End) → p .make (side w end .self) (makingOf terms end) .number ≡ 0
+
+  -- the arguments of a send are of their types
+  abbrev pub EventFits : World A → Event O → Type 0
+  EventFits w (sends end call out) = Fits call
+  EventFits w (receives end name format out) = Unit
+  EventFits w (makes terms) = MayMake w terms
+
+  abbrev pub AllFit : World A → List (Event O) → Type 0
+  AllFit w [] = Unit
+  AllFit w (event ∷ rest) = EventFits w event × AllFit (step w event) rest
 
 -- the same two ends, each seen as another state
 module _ {A B : Type 0} (view : A → B) where
@@ -255,30 +231,3 @@ module _ {A B : Type 0} (view : A → B) where
 
   abbrev pub viewed : World A → World B
   viewed w = record { client = viewedSide (w .client); server = viewedSide (w .server) }
-
--- ---- the tables
-
--- a client of this flow and limit, and a server of this flow, each made once
-abbrev pub start : ℕ → ℕ → ℕ → World Endpoint
-start flow limit serverFlow = record { client = made (freshClient flow limit); server = made (freshServer serverFlow) }
-
--- what is told of the bundle s
-abbrev pub outcomeOf : List ℕ → Received → ReceiveOutcome Endpoint
-outcomeOf s received =
-    record {
-      number = answerNumber (received .answer);
-      heard = dataHeard s (received .answer);
-      readies = readyHeard (received .answer);
-      ended = λ before. endingReplied (received .reply) (endingHeard (received .answer) before);
-      replied = replies (received .reply);
-      next = received .next;
-    }
-
--- outputs are told by their lengths
-abbrev pub tables : Program Endpoint ℕ
-tables =
-    record {
-      room = λ out. out;
-      send = λ e call out. record { number = sendOf e call out .number; bytes = written e call; next = sendOf e call out .next };
-      receive = λ e s name format out. outcomeOf s (receivedOf e s name format out);
-    }

@@ -5,9 +5,9 @@ use mathlib.Core.List.{List, [], _∷_}
 use mathlib.Core.Bool.{cond}
 use lib.ListN.{length}
 use lib.Dec.{eqb}
-use native.Mathlib.Omega.{arith}
 use borrow.Author.Tests.{eq-eqb, ne-eqb}
 use denote.Ref.{RefT, now}
+use Rattle.bytes_be.proofs.Tests.{clash}
 use Rattle.bytes_be.specs.declared.Place.{Place}
 use Rattle.wire.specs.declared.Fault.{Fault}
 use Rattle.params.specs.declared.Check.{Check}
@@ -44,10 +44,10 @@ module _ (client defaults key : List ℕ) (first : Check) (read : first ≡ stru
 -- ---- a term lies in its layer
 
 unreadable-not-in : {A : Type 0} {layer other : ℕ} {why : Fault} {place : Place} → Unreadable layer why ≡ In other place → A
-unreadable-not-in e = let z : _≡_ {A = ℕ} 0 1 = cc in absurd (omega arith)
+unreadable-not-in e = clash cc
 
 absent-not-in : {A : Type 0} {layer : ℕ} {place : Place} → Absent ≡ In layer place → A
-absent-not-in e = let z : _≡_ {A = ℕ} 0 1 = cc in absurd (omega arith)
+absent-not-in e = clash cc
 
 same-layer : {layer other : ℕ} {place there : Place} → In layer place ≡ In other there → (layer ≡ other) × (place ≡ there)
 same-layer e = (cc, cc)

@@ -5,7 +5,7 @@ use mathlib.Core.List.{List}
 use mathlib.Core.Bool.{_&&_, true}
 use native.Mathlib.Omega.{arith}
 use lib.Ieee.{Float}
-use Rattle.bytes_be.proofs.Tests.{both-true, took-first}
+use Rattle.bytes_be.proofs.Tests.{both-true, clash, took-first}
 use Rattle.double.specs.declared.Limit.{Limit}
 use Rattle.double.specs.declared.Limit.the-variants.{Whole, Bad as Limit·Bad}
 use Rattle.double.specs.Limit.{inLimits, integerOf, isWhole, limitOf}
@@ -19,7 +19,7 @@ use Rattle.terms.specs.Announced.{announcedLimit, announcedNumber, fromD
 use Rattle.terms.specs.Value.{valueAt}
 
 bad-whole : {n : ℕ} → Limit·Bad ≡ Whole n → ⊥
-bad-whole e = let z : _≡_ {A = ℕ} 0 1 = cc in omega arith
+bad-whole e = clash cc
 
 -- what a double says is in the limits
 whole-bounded : (double : Float) (n : ℕ) → limitOf double ≡ Whole n → inLimits n ≡ true

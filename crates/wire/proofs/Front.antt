@@ -8,6 +8,7 @@ use lib.ListN.{length, getD}
 use lib.Dec.{ltb, leb, eqb}
 use native.Mathlib.Omega.{arith}
 use borrow.Author.Tests.{le-ltb, lt-ltb, ltb-true, ltb-false}
+use Rattle.bytes_be.proofs.Tests.{clash}
 use Rattle.wire.specs.declared.Kind.the-variants.{CutShort as Kind·CutShort}
 use Rattle.wire.specs.declared.Varint.{Varint}
 use Rattle.wire.specs.declared.Varint.the-variants.{Number, CutShort, Bad}
@@ -21,7 +22,7 @@ use Rattle.wire.proofs.Varints.{cut-not-read, bad-not-read, read-next, 
 use Rattle.wire.proofs.Readings.{field-within, no-fields, first-field, first-fault}
 
 refused-not-read : {A : Type 0} {why : Fault} {field : Field} → Refused why ≡ Read field → A
-refused-not-read e = let z : _≡_ {A = ℕ} 0 1 = cc in absurd (omega arith)
+refused-not-read e = clash cc
 
 same-field : {here there : Field} → Read here ≡ Read there → here ≡ there
 same-field e = cc

@@ -8,6 +8,7 @@ use lib.Dec.{ltb}
 use native.Mathlib.Numerals.{sub-one}
 use native.Mathlib.Omega.{arith}
 use borrow.Author.Tests.{le-ltb, lt-ltb, ltb-true, ltb-false}
+use Rattle.bytes_be.proofs.Tests.{clash}
 use Rattle.wire.specs.declared.Varint.{Varint}
 use Rattle.wire.specs.declared.Varint.the-variants.{Number, CutShort, Bad}
 use Rattle.wire.specs.Varint.{below, bounded, saidAt, varintAt}
@@ -81,10 +82,10 @@ module _ (left : ℕ) (s : List ℕ) (at end : ℕ) where
           more-bad p = cc said
 
 pub cut-not-read : {A : Type 0} {value next : ℕ} → CutShort ≡ Number value next → A
-cut-not-read e = let z : _≡_ {A = ℕ} 0 1 = cc in absurd (omega arith)
+cut-not-read e = clash cc
 
 pub bad-not-read : {A : Type 0} {value next : ℕ} → Bad ≡ Number value next → A
-bad-not-read e = let z : _≡_ {A = ℕ} 0 1 = cc in absurd (omega arith)
+bad-not-read e = clash cc
 
 pub read-next : {v w x y : ℕ} → Number v x ≡ Number w y → x ≡ y
 read-next p = cc

@@ -1,0 +1,58 @@
+-- A run of one end: whatever is done to it, in any order, and what comes of each act.
+use Prim.Native.Nat.{ℕ}
+use mathlib.Core.List.{List, [], _∷_, _++_, map}
+use mathlib.Core.Bool.{cond}
+use lib.Dec.{eqb}
+use Rattle.sending.specs.Calls.{Call}
+use Rattle.machine.specs.Programs.{Making, howOf, Queued, Told, nothingTold, Program}
+
+-- an end is made, sends, or receives a message with this pipe name and format on offer
+pub data Act (O : Type 0) : Type 0 where
+  Makes : Making → Act O
+  Sends : Call → O → Act O
+  Receives : Queued → List ℕ → List ℕ → O → Act O
+
+-- what comes of an act: its number, what is told, the messages that it wrote, and the state afterwards
+pub record Done (A : Type 0) : Type 0 where
+  pub number : ℕ
+  pub told : Told
+  pub wrote : List Queued
+  pub next : A
+
+-- a reply was told nothing
+abbrev pub asReply : List ℕ → Queued
+asReply bytes = record { bytes = bytes; how = 0 }
+
+module _ {A O : Type 0} (p : Program A O) where
+  abbrev pub doneBy : A → Act O → Done A
+  doneBy self (Makes making) =
+      record { number = p .make self making .number; told = nothingTold; wrote = []; next = p .make self making .next }
+  doneBy self (Sends call out) =
+      record {
+        number = p .send self call out .number;
+        told = nothingTold;
+        wrote = cond (eqb (p .send self call out .number) 0) (record { bytes = p .send self call out .bytes; how = howOf call } ∷ []) [];
+        next = p .send self call out .next;
+      }
+  doneBy self (Receives m name format out) =
+      record {
+        number = p .receive self m name format out .number;
+        told = p .receive self m name format out .told;
+        wrote = map asReply (p .receive self m name format out .replied);
+        next = p .receive self m name format out .next;
+      }
+
+  -- what comes of each of these acts, in their order
+  abbrev pub doneIn : A → List (Act O) → List (Done A)
+  doneIn self [] = []
+  doneIn self (act ∷ rest) = doneBy self act ∷ doneIn (doneBy self act .next) rest
+
+  -- the state that they leave
+  abbrev pub leftIn : A → List (Act O) → A
+  leftIn self [] = self
+  leftIn self (act ∷ rest) = leftIn (doneBy self act .next) rest
+
+  -- and the messages that they wrote, oldest first
+  abbrev pub wroteIn : A → List (Act O) → List Queued
+  wroteIn self [] = []
+  wroteIn self (act ∷ rest) = doneBy self act .wrote ++ wroteIn (doneBy self act .next) rest
