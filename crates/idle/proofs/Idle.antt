@@ -15,31 +15,32 @@ use Rattle.endpoint.specs.Record.{opening, offer}
 use Rattle.endpoint.specs.Block.{loadOf}
 use Rattle.sending.specs.Calls.{Call}
 use Rattle.machine.specs.Good.{Fits}
-use Rattle.session.specs.Blocks.{Entries as Program, SendResult, ReceiveResult, Meets, byTables}
+use Rattle.entries.specs.Entries.{Entries, SendResult, ReceiveResult, Meets, byTables}
 use Rattle.idle.specs.Idle.{RefusingRejected, HearingNoopRejected, UntouchingRejected, EchoingRejected, WritingBackRejected, MadeUp, by-call, by-message, MadeUpRejected, makingUp, CountingRejected, AwaitingRejected, VicesExist, Rejected}
 use Rattle.idle.proofs.Programs.{only-tables}
 use Rattle.idle.proofs.Witnesses.{BytesLeft, tables-give, madeClient, output, message, opens, hearsOpen, offers, hearsAgreed, sendsNoop, hearsNoop}
 
 -- a program that meets the contracts takes each step of the opening as the tables do
-module _ {p : Program} (meets : Meets p) where
+module _ {p : Entries} (meets : Meets p) where
   opens-alike : opens p ≡ opens byTables
-  opens-alike = only-tables p meets .sent _ (omega arith) _ _
+  opens-alike = only-tables p meets .calls _ (omega arith) _ _
 
   hears-open-alike : hearsOpen p ≡ hearsOpen byTables
-  hears-open-alike = only-tables p meets .received _ _ _ _ _
+  hears-open-alike = only-tables p meets .messages _ _ _ _ _
 
   hears-agreed-alike : hearsAgreed p ≡ hearsAgreed byTables
-  hears-agreed-alike = only-tables p meets .received _ _ _ _ _
+  hears-agreed-alike = only-tables p meets .messages _ _ _ _ _
 
   hears-noop-alike : hearsNoop p ≡ hearsNoop byTables
-  hears-noop-alike = only-tables p meets .received _ _ _ _ _
+  hears-noop-alike = only-tables p meets .messages _ _ _ _ _
 
 pub refusing-rejected : RefusingRejected
 refusing-rejected p refuses meets = refuses .refuses-calls _ _ _ (ap (λ (result : SendResult). result .number) (opens-alike meets) ∙ tables-give .opened)
 
 pub hearing-noop-rejected : HearingNoopRejected
 hearing-noop-rejected p noop meets =
-    let vice : getD (hearsOpen p .slots) 0 0 ≡ typeOf Noop = noop _ _ _ _ _ in
+    let accepts = ap (λ (result : ReceiveResult). result .number) (hears-open-alike meets) ∙ tables-give .open-taken in
+    let vice : getD (hearsOpen p .slots) 0 0 ≡ typeOf Noop = noop _ _ _ _ _ accepts in
     let alike = ap (λ (result : ReceiveResult). getD (result .slots) 0 0) (hears-open-alike meets) in
     absurd (omega (arith, vice, alike, tables-give .open-heard))
 
@@ -66,11 +67,11 @@ writing-back-rejected p writes meets =
     absurd (omega (arith, ap (λ (out : List ℕ). getD out 11 0) vice, alike, tables-give .flags-sent, tables-give .flags-replied))
 
 -- bytes of the block that the tables leave
-made-up-rejected-at : (at count : ℕ) (p : Program) → MadeUp at count p → Rejected p
+made-up-rejected-at : (at count : ℕ) (p : Entries) → MadeUp at count p → Rejected p
 made-up-rejected-at at count p (by-call call fits block out other) meets =
-    other (ap (λ (result : SendResult). part (result .block) at count) (only-tables p meets .sent call fits block out))
+    other (ap (λ (result : SendResult). part (result .block) at count) (only-tables p meets .calls call fits block out))
 made-up-rejected-at at count p (by-message s name format block out other) meets =
-    other (ap (λ (result : ReceiveResult). part (result .block) at count) (only-tables p meets .received s name format block out))
+    other (ap (λ (result : ReceiveResult). part (result .block) at count) (only-tables p meets .messages s name format block out))
 
 pub made-up-rejected : MadeUpRejected
 made-up-rejected p = (made-up-rejected-at 4 2 p, made-up-rejected-at 3 1 p)
@@ -80,7 +81,7 @@ made-up-is : (at : ℕ) (made bytes : List ℕ) (call : Call) (block out : List 
     → Meets (makingUp at made) → made ≡ bytes
 made-up-is at made bytes call block out fits left long meets =
     let stands : part (makingUp at made .sends call block out .block) at (length made) ≡ made = rw (left .accepts) (part-put _ at made (omega (arith, long, left .holds))) in
-    let alike = ap (λ (result : SendResult). part (result .block) at (length made)) (only-tables (makingUp at made) meets .sent call fits block out) in
+    let alike = ap (λ (result : SendResult). part (result .block) at (length made)) (only-tables (makingUp at made) meets .calls call fits block out) in
     sym stands ∙ alike ∙ rw long (left .there)
 
 -- and no bytes are those of two calls that leave different ones
@@ -102,7 +103,7 @@ pub vices-exist : VicesExist
 vices-exist =
     record {
       refuses = λ number other. record { refuses-calls = λ call block out. other; refuses-messages = λ s name format block out. other };
-      hears-noop = λ s name format block out. refl;
+      hears-noop = λ s name format block out accepts. refl;
       leaves-block = record { after-calls = λ call block out. refl; after-messages = λ s name format block out. refl };
       opens-then-echoes =
           record {

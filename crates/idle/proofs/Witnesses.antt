@@ -1,38 +1,21 @@
 -- One opening on its bytes: each step is taken by any program, from where the tables came to in the steps before; and what the tables give there, by
 -- computing it. Assumes nothing.
 use mathlib.Core.Path.{_≡_, refl}
-use mathlib.Core.List.{List, [], _∷_, flatMap, flatten}
+use mathlib.Core.List.{List, [], _∷_}
 use Prim.Native.Nat.{ℕ, _+_, _≤_}
 use native.Mathlib.Omega.{arith}
 use mathlib.Core.Bool.{Bool, true, false}
 use lib.ListN.{getD, length, replicate, take}
-use Rattle.bytes_be.specs.Number.{fromBytesBehind, fromBytes, toBytes, numberAt}
-use Rattle.bytes_be.specs.Part.{part, same, putAt}
-use Rattle.bundle.specs.Reading.{countOf, lengthOf, lengthsBefore, startOf, good, sizeOf, contentsOf, frameOf}
-use Rattle.bundle.specs.Writing.{bundleOf}
+use Rattle.bytes_be.specs.Part.{part, putAt}
 use Rattle.control.specs.declared.MessageType.the-variants.{Open}
-use Rattle.control.specs.Frame.{ackReply, ackRequest, typeOf, signedOf, versionOf, knownTypeOf, bytesOf}
-use Rattle.utf8.specs.Text.{table, dueBehind, rest, wellFormed}
-use Rattle.wire.specs.Fields.{payloadAt, fieldAt, fieldsWithin, fieldsOf}
-use Rattle.wire.specs.Varint.{saidAt, varintAt, shortestWithin, shortestOf}
-use Rattle.wire.specs.Written.{tagOf, varintField, bytesField}
+use Rattle.control.specs.Frame.{ackReply, ackRequest, typeOf}
 use Rattle.double.specs.Limit.{mostLimit}
-use Rattle.params.specs.Keys.{findIn}
-use Rattle.params.specs.Message.{walk, firstOf}
-use Rattle.terms.specs.Announced.{limitIn}
-use Rattle.open.specs.Frame.{oversized, frameWire, isThere, frameText, frameRule, frameField, placeIf, socketIf, keep, kept, frameCheck, partsOf}
-use Rattle.open.specs.Open.{openingOf, readable, outOfRange, inRange, knownSocket, offeredPipe, offeredFormat, openOf, offered}
-use Rattle.open_write.specs.Frame.{goodName, goodFormat, isGood, formatField, parametersField, frameFor}
-use Rattle.message.specs.Reading.{strangeFlags, bodyOf, readAs, readingOf}
-use Rattle.endpoint.specs.Record.{fresh, opening, offer, batch, producer, consumer, freshClient, freshServer, givenOf, entryBytes, entryAt, inRanges, countFits, waitFits, isNone, entryFits, entriesFit, good as Record·good, freshOf, atPhase, asked, limited}
-use Rattle.endpoint.specs.Block.{headBytes, bytesOf as Block·bytesOf, recordIn, spareIsZero, loadOf}
-use Rattle.table.specs.Table.{begun, openRow, readyRow, noopRow, atRow}
-use Rattle.receiving.specs.Hearing.{movesAs, hearRow, tooLarge, openAt, carriedBy, unmatched, confirmedBy, replyTo, accepted, hearContent, hearMessage, hearOf}
-use Rattle.receiving.specs.Receiving.{replied, receivedOf}
-use Rattle.sending.specs.Calls.{OPEN, READY, NOOP, bundleWith}
-use Rattle.sending.specs.Sending.{sendRow, isFull, numberFor, askedBy, sentBy, leftBy}
+use Rattle.endpoint.specs.Record.{fresh, opening, offer, batch, producer, consumer, freshClient, freshServer, freshOf, givenOf}
+use Rattle.endpoint.specs.Block.{loadOf}
+use Rattle.sending.specs.Calls.{OPEN, READY, NOOP}
+use Rattle.machine.proofs.Computing.{computing}
 use Rattle.fbdp.specs.Blocks.{MakeAnswer, makeNumber, stored, keptAfter, leaves, keptBy, heardSlots}
-use Rattle.session.specs.Blocks.{SendResult, ReceiveResult, Entries as Program, byTables}
+use Rattle.entries.specs.Entries.{SendResult, ReceiveResult, Entries, byTables}
 
 -- a client that produces and a server that consumes, each just made
 abbrev pub madeClient : List ℕ
@@ -64,28 +47,28 @@ message result = take (result .count) (result .out)
 -- the client opens, the server hears that and makes an offer, the client hears the offer and agrees, and the server hears that; or instead the
 -- server sends a NOOP, with an ask or without, and the client hears the one with an ask
 
-abbrev pub opens : Program → SendResult
+abbrev pub opens : Entries → SendResult
 opens p = p .sends (OPEN pipe []) madeClient output
 
-abbrev pub hearsOpen : Program → ReceiveResult
+abbrev pub hearsOpen : Entries → ReceiveResult
 hearsOpen p = p .receives (message (opens byTables)) pipe [] madeServer output
 
-abbrev pub offers : ℕ → Program → SendResult
+abbrev pub offers : ℕ → Entries → SendResult
 offers count p = p .sends (READY count) (hearsOpen byTables .block) output
 
-abbrev hearsOffer : Program → ReceiveResult
+abbrev hearsOffer : Entries → ReceiveResult
 hearsOffer p = p .receives (message (offers 1 byTables)) [] [] (opens byTables .block) output
 
-abbrev agrees : Program → SendResult
+abbrev agrees : Entries → SendResult
 agrees p = p .sends (READY 1) (hearsOffer byTables .block) output
 
-abbrev pub hearsAgreed : Program → ReceiveResult
+abbrev pub hearsAgreed : Entries → ReceiveResult
 hearsAgreed p = p .receives (message (agrees byTables)) pipe [] (offers 1 byTables .block) output
 
-abbrev pub sendsNoop : Bool → Program → SendResult
+abbrev pub sendsNoop : Bool → Entries → SendResult
 sendsNoop ask p = p .sends (NOOP 0 ask) (offers 1 byTables .block) output
 
-abbrev pub hearsNoop : Program → ReceiveResult
+abbrev pub hearsNoop : Entries → ReceiveResult
 hearsNoop p = p .receives (message (sendsNoop true byTables)) [] [] (hearsOffer byTables .block) output
 
 -- a call was accepted, and these bytes stand at this place of its block
@@ -100,6 +83,7 @@ pub record TablesGive : Type 0 where
   -- "2 phase": of the client, before and after its OPEN
   pub phase-before : getD madeClient 2 0 ≡ fresh
   pub phase-after : getD (opens byTables .block) 2 0 ≡ opening
+  pub open-taken : hearsOpen byTables .number ≡ 0
   pub open-heard : getD (hearsOpen byTables .slots) 0 0 ≡ typeOf Open
   -- "4-5 n", after an offer of one and of two
   pub one-offered : BytesLeft (offers 1 byTables) 4 (0 ∷ 1 ∷ [])
@@ -117,12 +101,13 @@ pub record TablesGive : Type 0 where
   pub flags-replied : getD (hearsNoop byTables .out) 11 0 ≡ ackReply
 
 pub tables-give : TablesGive
-unfolding flatMap flatten fromBytesBehind fromBytes toBytes numberAt same putAt countOf lengthOf lengthsBefore startOf good sizeOf contentsOf frameOf bundleOf signedOf versionOf knownTypeOf bytesOf table dueBehind rest wellFormed payloadAt fieldAt fieldsWithin fieldsOf saidAt varintAt shortestWithin shortestOf tagOf varintField bytesField findIn walk firstOf limitIn oversized frameWire isThere frameText frameRule frameField placeIf socketIf keep kept frameCheck partsOf openingOf readable outOfRange inRange knownSocket offeredPipe offeredFormat openOf offered goodName goodFormat isGood formatField parametersField frameFor strangeFlags bodyOf readAs readingOf entryBytes entryAt inRanges countFits waitFits isNone entryFits entriesFit Record·good freshOf atPhase asked limited begun openRow readyRow noopRow atRow movesAs hearRow tooLarge openAt carriedBy unmatched confirmedBy replyTo accepted hearContent hearMessage hearOf replied receivedOf bundleWith sendRow isFull numberFor askedBy sentBy headBytes Block·bytesOf recordIn spareIsZero loadOf leftBy stored keptAfter leaves keptBy heardSlots byTables
+unfolding computing stored keptAfter leaves keptBy heardSlots byTables
 tables-give =
     record {
       opened = refl;
       phase-before = refl;
       phase-after = refl;
+      open-taken = refl;
       open-heard = refl;
       one-offered = record { accepts = refl; holds = omega arith; there = refl };
       two-offered = record { accepts = refl; holds = omega arith; there = refl };

@@ -17,57 +17,62 @@ use Rattle.sending.specs.Calls.{Call}
 use Rattle.table.specs.declared.Row.the-variants.{NotAllowed}
 use Rattle.table.specs.Table.{sendNumber}
 use Rattle.machine.specs.Good.{Fits}
-use Rattle.session.specs.Blocks.{Entries as Program, SendResult, ReceiveResult, Meets, byTables}
+use Rattle.entries.specs.Entries.{Entries, SendResult, ReceiveResult, Meets, byTables}
 
-abbrev pub Rejected : Program → Type 0
+abbrev pub Rejected : Entries → Type 0
 Rejected p = Meets p → ⊥
 
 -- "one that refuses everything", by whatever numbers
-pub record RefusesEverything (p : Program) : Type 0 where
+pub record RefusesEverything (p : Entries) : Type 0 where
   pub refuses-calls : (call : Call) (block out : List ℕ) → p .sends call block out .number ≡ 0 → ⊥
   pub refuses-messages : (s name format block out : List ℕ) → p .receives s name format block out .number ≡ 0 → ⊥
 
 abbrev pub RefusingRejected : Type 0
-RefusingRejected = (p : Program) → RefusesEverything p → Rejected p
+RefusingRejected = (p : Entries) → RefusesEverything p → Rejected p
 
 -- one that does: each time with this number, and no byte changes
 abbrev pub refusedCall : ℕ → List ℕ → List ℕ → SendResult
 refusedCall number block out = record { number = number; count = 0; block = block; out = out }
 
-abbrev pub refusing : ℕ → Program
+abbrev pub refusing : ℕ → Entries
 refusing number =
     record {
+      makes = λ making block. record { number = number; next = block };
       sends = λ call block out. refusedCall number block out;
       receives = λ s name format block out. record { number = number; slots = replicate 16 0; block = block; out = out };
     }
 
--- "one that always hears NOOP"
-abbrev pub HearsNoop : Program → Type 0
-HearsNoop p = (s name format block out : List ℕ) → getD (p .receives s name format block out .slots) 0 0 ≡ typeOf Noop
+-- "one that always hears NOOP": whatever message it accepts
+abbrev pub HearsNoop : Entries → Type 0
+HearsNoop p =
+    (s name format block out : List ℕ) → p .receives s name format block out .number ≡ 0
+    → getD (p .receives s name format block out .slots) 0 0 ≡ typeOf Noop
 
 abbrev pub HearingNoopRejected : Type 0
-HearingNoopRejected = (p : Program) → HearsNoop p → Rejected p
+HearingNoopRejected = (p : Entries) → HearsNoop p → Rejected p
 
 -- one that does: type-data 0, no ask, and block and output as they were
-abbrev pub hearingNoop : Program
+abbrev pub hearingNoop : Entries
 hearingNoop =
     record {
+      makes = byTables .makes;
       sends = byTables .sends;
       receives = λ s name format block out. record { number = 0; slots = typeOf Noop ∷ replicate 15 0; block = block; out = out };
     }
 
 -- "one that leaves the block untouched"
-pub record LeavesBlock (p : Program) : Type 0 where
+pub record LeavesBlock (p : Entries) : Type 0 where
   pub after-calls : (call : Call) (block out : List ℕ) → p .sends call block out .block ≡ block
   pub after-messages : (s name format block out : List ℕ) → p .receives s name format block out .block ≡ block
 
 abbrev pub UntouchingRejected : Type 0
-UntouchingRejected = (p : Program) → LeavesBlock p → Rejected p
+UntouchingRejected = (p : Entries) → LeavesBlock p → Rejected p
 
 -- the tables, but for the block: it is made of the number, of the block before and of the one that the tables leave
-abbrev pub leaving : (ℕ → List ℕ → List ℕ → List ℕ) → Program
+abbrev pub leaving : (ℕ → List ℕ → List ℕ → List ℕ) → Entries
 leaving left =
     record {
+      makes = byTables .makes;
       sends = λ call block out.
           record {
             number = byTables .sends call block out .number;
@@ -85,34 +90,35 @@ leaving left =
     }
 
 -- one that does, and is the tables in all else
-abbrev pub untouching : Program
+abbrev pub untouching : Entries
 untouching = leaving (λ number before after. before)
 
 -- "one that opens properly and afterwards only echoes": it does as the tables in phases 0 and 1, and nothing comes of a message afterwards but
 -- what is written back, be that the message itself or a confirmation
-pub record OpensThenEchoes (p : Program) : Type 0 where
+pub record OpensThenEchoes (p : Entries) : Type 0 where
   pub sends-open : (call : Call) (block out : List ℕ) → loadOf block .phase ≤ opening → p .sends call block out ≡ byTables .sends call block out
   pub hears-open : (s name format block out : List ℕ) → loadOf block .phase ≤ opening
       → p .receives s name format block out ≡ byTables .receives s name format block out
   pub stays : (s name format block out : List ℕ) → opening < loadOf block .phase → p .receives s name format block out .block ≡ block
 
 abbrev pub EchoingRejected : Type 0
-EchoingRejected = (p : Program) → OpensThenEchoes p → Rejected p
+EchoingRejected = (p : Entries) → OpensThenEchoes p → Rejected p
 
 -- and one that writes the message itself back is rejected for that alone
-abbrev pub WritesBack : Program → Type 0
+abbrev pub WritesBack : Entries → Type 0
 WritesBack p = (s name format block out : List ℕ) → opening < loadOf block .phase → p .receives s name format block out .out ≡ putAt out 0 s
 
 abbrev pub WritingBackRejected : Type 0
-WritingBackRejected = (p : Program) → WritesBack p → Rejected p
+WritingBackRejected = (p : Entries) → WritesBack p → Rejected p
 
 -- one that does both: what it tells is how long the echo is
 abbrev pub echo : List ℕ → List ℕ → List ℕ → ReceiveResult
 echo s block out = record { number = 0; slots = 0 ∷ 0 ∷ 0 ∷ length s ∷ replicate 12 0; block = block; out = putAt out 0 s }
 
-abbrev pub echoing : Program
+abbrev pub echoing : Entries
 echoing =
     record {
+      makes = byTables .makes;
       sends = λ call block out.
           cond (leb (loadOf block .phase) opening) (byTables .sends call block out) (refusedCall (sendNumber NotAllowed) block out);
       receives = λ s name format block out.
@@ -120,7 +126,7 @@ echoing =
     }
 
 -- "A made-up n or W": after some call or message these bytes of the block are not those of the tables
-pub data MadeUp (at count : ℕ) (p : Program) : Type 0 where
+pub data MadeUp (at count : ℕ) (p : Entries) : Type 0 where
   by-call : (call : Call) → Fits call → (block out : List ℕ)
       → (part (p .sends call block out .block) at count ≡ part (byTables .sends call block out .block) at count → ⊥) → MadeUp at count p
   by-message : (s name format block out : List ℕ)
@@ -129,20 +135,20 @@ pub data MadeUp (at count : ℕ) (p : Program) : Type 0 where
 
 -- "4-5 n, big-endian" and "3 W"
 abbrev pub MadeUpRejected : Type 0
-MadeUpRejected = (p : Program) → (MadeUp 4 2 p → Rejected p) × (MadeUp 3 1 p → Rejected p)
+MadeUpRejected = (p : Entries) → (MadeUp 4 2 p → Rejected p) × (MadeUp 3 1 p → Rejected p)
 
 -- the block after each call that is accepted has these bytes at this place
-abbrev pub makingUp : ℕ → List ℕ → Program
+abbrev pub makingUp : ℕ → List ℕ → Entries
 makingUp at bytes = leaving (λ number before after. cond (eqb number 0) (putAt after at bytes) after)
 
 -- no n and no W will do for all calls
-abbrev pub countingAs : ℕ → Program
+abbrev pub countingAs : ℕ → Entries
 countingAs n = makingUp 4 (toBytes 2 n)
 
 abbrev pub CountingRejected : Type 0
 CountingRejected = (n : ℕ) → Rejected (countingAs n)
 
-abbrev pub awaitingAs : ℕ → Program
+abbrev pub awaitingAs : ℕ → Entries
 awaitingAs w = makingUp 3 (toBytes 1 w)
 
 abbrev pub AwaitingRejected : Type 0

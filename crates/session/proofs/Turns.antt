@@ -1,9 +1,7 @@
 -- Where two ends meet: it stays so when one sends and when one receives or refuses, and with nothing on its way both stand at one stage.
 -- Assumes nothing.
 use mathlib.Core.Path.{_≡_, refl, sym, _∙_}
-use Prim.Native.Nat.{ℕ}
 use mathlib.Core.List.{List, [], _∷_, _++_}
-use native.Mathlib.Omega.{arith}
 use Rattle.bytes_be.proofs.Tests.{clash}
 use Rattle.session.specs.World.{End, across, Client, Server}
 use Rattle.session.specs.Packets.{Packet, rowMessage}

@@ -25,7 +25,7 @@ use Rattle.sending.specs.Calls.{Call}
 use Rattle.machine.specs.Good.{Sound, Fits}
 use Rattle.session.specs.World.{End, Client, Server, across, Terms, History, Side, World, viewedSide}
 use Rattle.session.specs.Packets.{Packet, Called, Confirms, Closes, queuedIn, dataIn, readyIn}
-use Rattle.session.specs.Turns.{Standing, IsOpen, Listens, standing, roleOf, producing, Alive, Converge}
+use Rattle.session.specs.Turns.{Standing, Listens, standing, roleOf, producing, Alive, Converge}
 use Rattle.session.specs.Demand.{View, Ledger, PhaseFits, agreed, offered, sum, newest, EachAtMost}
 use Rattle.session.specs.Confirmations.{Awaits}
 

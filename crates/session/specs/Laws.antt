@@ -17,7 +17,7 @@ use Rattle.sending.specs.Calls.{Call, OPEN, READY, DATA, NOOP, CLOSE, messageOf
 use Rattle.sending.specs.Sending.{sendOf}
 use Rattle.machine.specs.Good.{Sound, Fits}
 use Rattle.machine.specs.Round.{isOffered}
-use Rattle.machine.specs.Programs.{Making, freshBy, howOf, Queued, nothingTold, MakeOutcome, SendOutcome, ReceiveOutcome, ignored, Program, tables}
+use Rattle.machine.specs.Programs.{Making, freshBy, howOf, Queued, nothingTold, SendOutcome, ReceiveOutcome, ignored, Program, tables}
 use Rattle.session.specs.World.{End, Client, Server, across, Terms, makingOf, dataSent, readyCount, Side, World, Event, EventFits, step, begun, viewedSide}
 use Rattle.session.specs.Packets.{Packet, Called, Confirms, Closes, queuedIn, bytesIn, toldIn, rowMessage, typeDataIn, dataIn, readyIn}
 use Rattle.session.specs.Demand.{Ledger, asRecords, MayAnswer, Holds, DemandOf}

@@ -13,7 +13,7 @@ use Rattle.control.specs.Frame.{ackReply, typeOf}
 use Rattle.sending.specs.Calls.{Call, OPEN, READY, DATA, NOOP, CLOSE, messageOf, typeDataOf}
 use Rattle.machine.specs.Good.{Fits}
 use Rattle.machine.specs.Programs.{Making, AsClient, AsServer, Queued, Told, Program}
-use Rattle.machine.specs.Runs.{Act, Makes, Sends, Receives, Done, doneBy}
+use Rattle.machine.specs.Runs.{Act, Makes, Sends, Receives, Done, doneBy, leftIn, wroteIn}
 
 pub data End : Type 0 where
   Client Server : End
@@ -231,3 +231,25 @@ module _ {A B : Type 0} (view : A → B) where
 
   abbrev pub viewed : World A → World B
   viewed w = record { client = viewedSide (w .client); server = viewedSide (w .server) }
+
+-- ---- a world is two runs
+
+module _ {A O : Type 0} (p : Program A O) where
+  -- what an end did and heard in a run of its own
+  abbrev pub notedIn : End → History → A → List (Act O) → History
+  notedIn end past self [] = past
+  notedIn end past self (act ∷ rest) = notedIn end (noted end past act (doneBy p self act)) (doneBy p self act .next) rest
+
+  -- an end came from one state to another by acts of its own, and its queue is what they wrote, but for what the other has received
+  pub record OwnRun (end : End) (x y : Side A) : Type 0 where
+    pub acts : List (Act O)
+    pub taken : List Queued
+    pub left : y .self ≡ leftIn p (x .self) acts
+    pub queued : x .queue ++ wroteIn p (x .self) acts ≡ taken ++ y .queue
+    pub past : y .past ≡ notedIn end (x .past) (x .self) acts
+
+-- whatever is called and delivered
+abbrev pub TwoRuns : Type 1
+TwoRuns =
+    (A O : Type 0) (p : Program A O) (w : World A) (events : List (Event O)) (end : End)
+    → OwnRun p end (side w end) (side (run p w events) end)

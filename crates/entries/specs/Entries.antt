@@ -1,4 +1,4 @@
--- The same for the C entries: two 64-byte blocks, each changed only by `fbdp_make_client`, `fbdp_make_server`, the sends and `fbdp_receive`, with
+-- Demand 3 for the C entries: two 64-byte blocks, each changed only by `fbdp_make_client`, `fbdp_make_server`, the sends and `fbdp_receive`, with
 -- any outputs. What is queued are the bytes that an entry wrote to its output, and what is told is read off the numbers that it gave.
 use Prim.Native.Nat.{ℕ}
 use mathlib.Core.List.{List, [], _∷_}

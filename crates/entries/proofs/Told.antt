@@ -21,7 +21,7 @@ use Rattle.receiving.specs.declared.Reply.the-variants.{Nothing, Frame}
 use Rattle.receiving.specs.Receiving.{replyBytes, replied}
 use Rattle.fbdp.specs.Blocks.{answerSlots, contentSlots, heardSlots, replyLength}
 use Rattle.machine.specs.Programs.{bodyAt, toldOf, replies}
-use Rattle.session.specs.Blocks.{toldBy, repliesBy}
+use Rattle.entries.specs.Entries.{toldBy, repliesBy}
 
 -- type, flags, type-data and the place of the body
 heard-told : (s : List ℕ) (heard : Heard) (reply : ℕ) → toldBy s (heardSlots heard reply) ≡ toldOf s (Answer·Heard heard)

@@ -31,12 +31,12 @@ use Rattle.machine.specs.Refusals.{Outcome, stays, closes, hears}
 use Rattle.machine.proofs.Refusals.{receive-comes-to}
 use Rattle.fbdp.specs.Blocks.{MakeAnswer, makeNumber, SendOnBlock, ReceiveOnBlock, answerSlots, heardSlots, keptAfter, keptBy, leaves, replyLength, stored}
 use Rattle.machine.specs.Programs.{Making, freshBy, toldOf, replies, outcomeOf, ReceiveOutcome, ignored, tables}
-use Rattle.session.specs.Blocks.{Entries, Meets, onBlocks, toldBy, receiveTold, repliesBy, TablesMeet, byTables, DemandOnBlocks}
+use Rattle.entries.specs.Entries.{Entries, Meets, onBlocks, toldBy, receiveTold, repliesBy, TablesMeet, byTables, DemandOnBlocks}
 use Rattle.session.specs.Laws.{onRecords}
 use Rattle.session.proofs.Follows.{Alike, Follows, follows-laws, heldBy}
 use Rattle.session.proofs.Tables.{tables-laws}
-use Rattle.session.proofs.Told.{answer-told, reply-told}
+use Rattle.entries.proofs.Told.{answer-told, reply-told}
 use Rattle.session.proofs.Demand.{laws-suffice}
 
 pub tables-meet : TablesMeet
 unfolding byTables

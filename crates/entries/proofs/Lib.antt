@@ -1,0 +1,4 @@
+-- `Told` has that what an entry tells is what was heard and replied, `Entries` that the entries do on a block what the tables do on its record, and
+-- demand 3.
+pub mod Told
+pub mod Entries
