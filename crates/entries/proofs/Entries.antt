@@ -29,7 +29,8 @@ use Rattle.sending.proofs.Decided.{accepted-passed, accepted-sent}
 use Rattle.machine.specs.Good.{Sound}
 use Rattle.machine.specs.Refusals.{Outcome, stays, closes, hears}
 use Rattle.machine.proofs.Refusals.{receive-comes-to}
-use Rattle.fbdp.specs.Blocks.{MakeAnswer, makeNumber, SendOnBlock, ReceiveOnBlock, answerSlots, heardSlots, keptAfter, keptBy, leaves, replyLength, stored}
+use Rattle.fbdp.specs.Blocks.{MakeAnswer, makeNumber, SendOnBlock, ReceiveOnBlock, answerSlots, heardSlots, keptAfter, keptBy, leaves, replyLength}
+use Rattle.fbdp.specs.Blocks.{stored}
 use Rattle.machine.specs.Programs.{Making, freshBy, toldOf, replies, outcomeOf, ReceiveOutcome, ignored, tables}
 use Rattle.entries.specs.Entries.{Entries, Meets, onBlocks, toldBy, receiveTold, repliesBy, TablesMeet, byTables, DemandOnBlocks}
 use Rattle.session.specs.Laws.{onRecords}

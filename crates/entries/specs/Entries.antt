@@ -15,7 +15,8 @@ use Rattle.sending.specs.Calls.{Call, written}
 use Rattle.sending.specs.Sending.{leftBy}
 use Rattle.machine.specs.Good.{Fits}
 use Rattle.machine.specs.Programs.{Making, freshBy, Told, MakeOutcome, SendOutcome, ReceiveOutcome, Program}
-use Rattle.fbdp.specs.Blocks.{MakeAnswer, SendOnBlock, ReceiveOnBlock, answerSlots, keptAfter, keptBy, makeNumber, receivedOn, replyLength, sentOn, stored}
+use Rattle.fbdp.specs.Blocks.{MakeAnswer, SendOnBlock, ReceiveOnBlock, answerSlots, keptAfter, keptBy, makeNumber, receivedOn, replyLength, sentOn}
+use Rattle.fbdp.specs.Blocks.{stored}
 use Rattle.session.specs.Demand.{View, promptLedger, DemandOf}
 
 -- ---- the entries

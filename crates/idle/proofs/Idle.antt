@@ -16,9 +16,11 @@ use Rattle.endpoint.specs.Block.{loadOf}
 use Rattle.sending.specs.Calls.{Call}
 use Rattle.machine.specs.Good.{Fits}
 use Rattle.entries.specs.Entries.{Entries, SendResult, ReceiveResult, Meets, byTables}
-use Rattle.idle.specs.Idle.{RefusingRejected, HearingNoopRejected, UntouchingRejected, EchoingRejected, WritingBackRejected, MadeUp, by-call, by-message, MadeUpRejected, makingUp, CountingRejected, AwaitingRejected, VicesExist, Rejected}
+use Rattle.idle.specs.Idle.{RefusingRejected, HearingNoopRejected, UntouchingRejected, EchoingRejected, WritingBackRejected, MadeUp, by-call}
+use Rattle.idle.specs.Idle.{by-message, MadeUpRejected, makingUp, CountingRejected, AwaitingRejected, VicesExist, Rejected}
 use Rattle.idle.proofs.Programs.{only-tables}
-use Rattle.idle.proofs.Witnesses.{BytesLeft, tables-give, madeClient, output, message, opens, hearsOpen, offers, hearsAgreed, sendsNoop, hearsNoop}
+use Rattle.idle.proofs.Witnesses.{BytesLeft, tables-give, madeClient, output, message, opens, hearsOpen, offers, hearsAgreed, sendsNoop}
+use Rattle.idle.proofs.Witnesses.{hearsNoop}
 
 -- a program that meets the contracts takes each step of the opening as the tables do
 module _ {p : Entries} (meets : Meets p) where
@@ -35,7 +37,8 @@ module _ {p : Entries} (meets : Meets p) where
   hears-noop-alike = only-tables p meets .messages _ _ _ _ _
 
 pub refusing-rejected : RefusingRejected
-refusing-rejected p refuses meets = refuses .refuses-calls _ _ _ (ap (λ (result : SendResult). result .number) (opens-alike meets) ∙ tables-give .opened)
+refusing-rejected p refuses meets =
+    refuses .refuses-calls _ _ _ (ap (λ (result : SendResult). result .number) (opens-alike meets) ∙ tables-give .opened)
 
 pub hearing-noop-rejected : HearingNoopRejected
 hearing-noop-rejected p noop meets =
@@ -62,7 +65,8 @@ echoing-rejected p echoes meets =
 
 pub writing-back-rejected : WritingBackRejected
 writing-back-rejected p writes meets =
-    let vice : hearsNoop p .out ≡ putAt output 0 (message (sendsNoop true byTables)) = writes _ _ _ _ _ (behind-opening _ (tables-give .offer-heard)) in
+    let vice : hearsNoop p .out ≡ putAt output 0 (message (sendsNoop true byTables)) = writes _ _ _ _ _
+    (behind-opening _ (tables-give .offer-heard)) in
     let alike = ap (λ (result : ReceiveResult). getD (result .out) 11 0) (hears-noop-alike meets) in
     absurd (omega (arith, ap (λ (out : List ℕ). getD out 11 0) vice, alike, tables-give .flags-sent, tables-give .flags-replied))
 
@@ -77,11 +81,14 @@ pub made-up-rejected : MadeUpRejected
 made-up-rejected p = (made-up-rejected-at 4 2 p, made-up-rejected-at 3 1 p)
 
 -- where the tables accept a call, a program that makes up these bytes and meets the contracts makes up the bytes that the tables leave
-made-up-is : (at : ℕ) (made bytes : List ℕ) (call : Call) (block out : List ℕ) → Fits call → BytesLeft (byTables .sends call block out) at bytes → length made ≡ length bytes
+made-up-is : (at : ℕ) (made bytes : List ℕ) (call : Call) (block out : List ℕ) → Fits call → BytesLeft (byTables .sends call block out) at bytes
+    → length made ≡ length bytes
     → Meets (makingUp at made) → made ≡ bytes
 made-up-is at made bytes call block out fits left long meets =
-    let stands : part (makingUp at made .sends call block out .block) at (length made) ≡ made = rw (left .accepts) (part-put _ at made (omega (arith, long, left .holds))) in
-    let alike = ap (λ (result : SendResult). part (result .block) at (length made)) (only-tables (makingUp at made) meets .calls call fits block out) in
+    let stands : part (makingUp at made .sends call block out .block) at (length made) ≡ made = rw (left .accepts)
+    (part-put _ at made (omega (arith, long, left .holds))) in
+    let alike = ap (λ (result : SendResult). part (result .block) at (length made))
+    (only-tables (makingUp at made) meets .calls call fits block out) in
     sym stands ∙ alike ∙ rw long (left .there)
 
 -- and no bytes are those of two calls that leave different ones

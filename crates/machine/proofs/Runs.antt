@@ -9,11 +9,13 @@ module _ {A O : Type 0} (p : Program A O) where
   left-append self [] more = refl
   left-append self (act ∷ rest) more = left-append (doneBy p self act .next) rest more
 
-  pub done-append : (self : A) (first more : List (Act O)) → doneIn p self (first ++ more) ≡ doneIn p self first ++ doneIn p (leftIn p self first) more
+  pub done-append : (self : A) (first more : List (Act O))
+      → doneIn p self (first ++ more) ≡ doneIn p self first ++ doneIn p (leftIn p self first) more
   done-append self [] more = refl
   done-append self (act ∷ rest) more = ap (λ (l : List (Done A)). doneBy p self act ∷ l) (done-append (doneBy p self act .next) rest more)
 
-  pub wrote-append : (self : A) (first more : List (Act O)) → wroteIn p self (first ++ more) ≡ wroteIn p self first ++ wroteIn p (leftIn p self first) more
+  pub wrote-append : (self : A) (first more : List (Act O))
+      → wroteIn p self (first ++ more) ≡ wroteIn p self first ++ wroteIn p (leftIn p self first) more
   wrote-append self [] more = refl
   wrote-append self (act ∷ rest) more =
       let next : A = doneBy p self act .next in

@@ -70,7 +70,8 @@ agreement Server message count = []
 
 module _ (counts : List ℕ) (batched : List Datum) (all : ℕ) where
   -- a message that agrees to nothing and carries nothing leaves no more of the batch than there was
-  kept-within : {recent phase n next m : ℕ} → left next m ≤ left phase n → Within counts all recent phase n → Within (counts ++ []) (all + 0) (recent + 0) next m
+  kept-within : {recent phase n next m : ℕ} → left next m ≤ left phase n → Within counts all recent phase n
+      → Within (counts ++ []) (all + 0) (recent + 0) next m
   kept-within fewer w = rw append-nil (record { in-all = omega (arith, w .in-all, fewer); in-newest = omega (arith, w .in-newest, fewer) })
 
   -- DATA takes one from it
@@ -82,9 +83,11 @@ module _ (counts : List ℕ) (batched : List Datum) (all : ℕ) where
       rw append-nil (record { in-all = omega (arith, w .in-all, rest, whole, some); in-newest = omega (arith, w .in-newest, rest, whole, some) })
 
   -- the row of a message that the end `writer` writes leads its writer and its hearer from within to within
-  row-within : (writer : End) {flow phase n type-data next m : ℕ} {message : MessageType} → Moved (roleOf writer) flow phase n message type-data next m
+  row-within : (writer : End) {flow phase n type-data next m : ℕ} {message : MessageType}
+      → Moved (roleOf writer) flow phase n message type-data next m
       → (phase ≡ batch → 1 ≤ n) → Within counts all (length batched) phase n
-      → Within (counts ++ agreement writer message type-data) (all + dataCount message) (length (recentAfter writer (readyCount message type-data) batched) + dataCount message) next m
+      → Within (counts ++ agreement writer message type-data) (all + dataCount message)
+      (length (recentAfter writer (readyCount message type-data) batched) + dataCount message) next m
   row-within Client (opens is-client begins) some w = kept-within zero-le w
   row-within Client (offers differs low high begins) some w = absurd (differs refl)
   row-within Client {type-data = count} (takes is-client offered few begins) some w =
@@ -104,7 +107,8 @@ module _ (counts : List ℕ) (batched : List Datum) (all : ℕ) where
 batch-some : (e : Endpoint) → Sound e → e .phase ≡ batch → 1 ≤ e .n
 unfolding countFits
 batch-some e sound batching =
-    let counts : cond (eqb (e .phase) offer || eqb (e .phase) batch) (leb 1 (e .n) && leb (e .n) 65535) (eqb (e .n) 0) ≡ true = good-told e (sound .is-good) .counted in
+    let counts : cond (eqb (e .phase) offer || eqb (e .phase) batch) (leb 1 (e .n) && leb (e .n) 65535) (eqb (e .n) 0) ≡ true = good-told e
+    (sound .is-good) .counted in
     leb-true 1 (e .n) (both-true (leb 1 (e .n)) (leb (e .n) 65535) (rw batching at counts) .0)
 
 -- ---- offers
@@ -113,7 +117,8 @@ non-zero-append : (a b : List ℕ) → nonZero (a ++ b) ≡ nonZero a ++ nonZero
 non-zero-append [] b = refl
 non-zero-append (count ∷ rest) b = go (eqb count 0) (non-zero-append rest b)
   where
-    go : (t : Bool) {all : List ℕ} → all ≡ nonZero rest ++ nonZero b → cond t all (count ∷ all) ≡ cond t (nonZero rest) (count ∷ nonZero rest) ++ nonZero b
+    go : (t : Bool) {all : List ℕ} → all ≡ nonZero rest ++ nonZero b
+        → cond t all (count ∷ all) ≡ cond t (nonZero rest) (count ∷ nonZero rest) ++ nonZero b
     go true same = same
     go false same = ap (λ (l : List ℕ). count ∷ l) same
 
@@ -189,13 +194,15 @@ module _ (counts made : List ℕ) where
   row-taken Client (opens is-client begins) t = others-taken (omega (arith, begins)) (λ is. omega (arith, is, begins)) (λ is. omega (arith, is)) t
   row-taken Client (offers differs low high begins) t = absurd (differs refl)
   row-taken Client (takes is-client offered few begins) t = takes-taken offered few begins t
-  row-taken Client (gives produces batching begins) t = others-taken (omega (arith, batching)) (λ is. omega (arith, is, batching)) (begun-later begins) t
+  row-taken Client (gives produces batching begins) t =
+      others-taken (omega (arith, batching)) (λ is. omega (arith, is, batching)) (begun-later begins) t
   row-taken Client (rests low high) t = rests-taken t
   row-taken Client (closes low high) t = rests-taken (closes-taken t)
   row-taken Server (opens is-client begins) t = clash cc
   row-taken Server (offers differs low high begins) t = offers-taken high begins t
   row-taken Server (takes is-client offered few begins) t = clash cc
-  row-taken Server (gives produces batching begins) t = others-taken (omega (arith, batching)) (λ is. omega (arith, is, batching)) (begun-later begins) t
+  row-taken Server (gives produces batching begins) t =
+      others-taken (omega (arith, batching)) (λ is. omega (arith, is, batching)) (begun-later begins) t
   row-taken Server (rests low high) t = rests-taken t
   row-taken Server (closes low high) t = rests-taken (closes-taken t)
 
@@ -213,22 +220,17 @@ called-offered : (end : End) (past : History) (call : Call)
 called-offered Client past call = rw append-nil refl
 called-offered Server past call = non-zero-append (past .readies) (readyCount (messageOf call) (typeDataOf call))
 
-module _ (end : End) (past : History) (m : Packet) (arrived : List Datum) (ending : Ending) where
-  heard-agreed : agreed end (afterMessage end past arrived (readyIn m) ending) ≡ agreed end past ++ agreement (across end) (rowMessage m) (typeDataIn m)
-  heard-agreed = go end
-    where
-      go : (end : End) → agreed end (afterMessage end past arrived (readyIn m) ending) ≡ agreed end past ++ agreement (across end) (rowMessage m) (typeDataIn m)
-      go Client = rw append-nil refl
-      go Server = refl
+module _ (past : History) (m : Packet) (arrived : List Datum) (ending : Ending) where
+  heard-agreed : (end : End)
+      → agreed end (afterMessage end past arrived (readyIn m) ending) ≡ agreed end past ++ agreement (across end) (rowMessage m) (typeDataIn m)
+  heard-agreed Client = rw append-nil refl
+  heard-agreed Server = refl
 
-  heard-offered : offered end (afterMessage end past arrived (readyIn m) ending)
+  heard-offered : (end : End)
+      → offered end (afterMessage end past arrived (readyIn m) ending)
       ≡ offered end past ++ nonZero (offering (across end) (rowMessage m) (typeDataIn m))
-  heard-offered = go end
-    where
-      go : (end : End) → offered end (afterMessage end past arrived (readyIn m) ending)
-          ≡ offered end past ++ nonZero (offering (across end) (rowMessage m) (typeDataIn m))
-      go Client = non-zero-append (past .readies-heard) (readyIn m)
-      go Server = rw append-nil refl
+  heard-offered Client = non-zero-append (past .readies-heard) (readyIn m)
+  heard-offered Server = rw append-nil refl
 
 module _ (end : End) (e : Endpoint) (sound : Sound e) (past : History) (counted : Counted end past e) (next : Endpoint) (phase n : ℕ)
     (phased : next .phase ≡ phase) (numbered : next .n ≡ n) where
@@ -263,13 +265,13 @@ module _ (end : End) (e : Endpoint) (sound : Sound e) (past : History) (counted 
       let batched = length-append (recentAfter (across end) (readyIn m) (past .recent)) (dataIn m) in
       record {
         within =
-            rw (heard-agreed end past m (dataIn m) ending, phased, numbered)
+            rw (heard-agreed past m (dataIn m) ending end, phased, numbered)
             (record {
               in-all = omega (arith, after .in-all, carries, length-append (past .accepted) (dataIn m));
               in-newest = omega (arith, after .in-newest, carries, batched);
             });
         taken =
-            rw (heard-agreed end past m (dataIn m) ending, heard-offered end past m (dataIn m) ending, phased, numbered)
+            rw (heard-agreed past m (dataIn m) ending end, heard-offered past m (dataIn m) ending end, phased, numbered)
             (row-taken (agreed end past) (offered end past) (across end) moves (counted .taken));
       }
 
@@ -294,5 +296,6 @@ closed-counted end e past counted ending =
             in-all = omega (arith, counted .within .in-all, length-append (past .accepted) []);
             in-newest = omega (arith, counted .within .in-newest, length-append (past .recent) []);
           });
-      taken = rw (nothing-agreed end past ending, nothing-offered end past ending) (closes-taken (agreed end past) (offered end past) (counted .taken));
+      taken =
+          rw (nothing-agreed end past ending, nothing-offered end past ending) (closes-taken (agreed end past) (offered end past) (counted .taken));
     }

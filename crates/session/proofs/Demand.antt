@@ -13,7 +13,8 @@ use Rattle.endpoint.specs.declared.Entry.{Entry}
 use Rattle.endpoint.specs.Record.{fresh, opening, idle, offer, batch}
 use Rattle.sending.specs.Calls.{Call, OPEN, READY, DATA}
 use Rattle.machine.specs.Programs.{Queued, Program, tables}
-use Rattle.session.specs.World.{End, across, Datum, Ending, Side, World, Event, AllFit, side, joined, withQueue, afterReceive, step, run, begun, viewedSide, Client, Server, Going, HeardClose, WroteClose, receives}
+use Rattle.session.specs.World.{End, across, Datum, Ending, Side, World, Event, AllFit, side, joined, withQueue, afterReceive, step, run, begun}
+use Rattle.session.specs.World.{viewedSide, Client, Server, Going, HeardClose, WroteClose, receives}
 use Rattle.session.specs.Packets.{Packet, queuedIn, dataIn}
 use Rattle.session.specs.Turns.{producing, turn, Stage, IsOpen, Listens, stands, standing}
 use Rattle.session.specs.Demand.{MayAnswer, PhaseFits, agreed, sum, nextEnd, nextCall, AtRest, MaySend, Demand}
@@ -191,7 +192,8 @@ module _ {A O : Type 0} (prog : Program A O) (model : Model A) (laws : Laws prog
 
         from-fresh : (t : Bool) → eqb (here .phase) fresh ≡ t → spoken t (eqb (here .phase) offer) (eqb (here .phase) batch)
         from-fresh true begins =
-            by-client (OPEN (97 ∷ []) []) (opens-first Client here (linked .here .sound) (linked .here .role) refl (eqb-true (here .phase) fresh begins))
+            by-client (OPEN (97 ∷ []) [])
+            (opens-first Client here (linked .here .sound) (linked .here .role) refl (eqb-true (here .phase) fresh begins))
         from-fresh false other = from-offer (eqb (here .phase) offer) refl (eqb-false (here .phase) fresh other)
 
 pub invariant-holds : InvariantHolds

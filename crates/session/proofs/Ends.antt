@@ -1,27 +1,109 @@
--- One end that sends, hears or refuses: its part of the invariant holds afterwards. Assumes nothing.
+-- One end that was just made, that sends, hears or refuses: its part of the invariant holds afterwards. Assumes nothing.
 use mathlib.Core.Path.{_≡_, refl, sym, _∙_, ap}
 use Prim.Native.Nat.{ℕ, _≤_, _<_, _^_}
-use mathlib.Core.List.{List, [], _∷_, _++_, map, map-append}
-use mathlib.Core.Bool.{Bool, true, false, cond}
+use mathlib.Core.List.{List, [], flatMap, _∷_, _++_, map, map-append}
+use mathlib.Core.Bool.{true, _&&_, Bool, false, cond}
 use native.Mathlib.Omega.{arith}
-use Rattle.bytes_be.proofs.Tests.{clash}
+use lib.Dec.{leb}
+use Rattle.bytes_be.proofs.Tests.{took-first, clash}
+use Rattle.double.specs.Limit.{inLimits, mostLimit}
+use Rattle.endpoint.specs.declared.Entry.{Entry}
+use Rattle.endpoint.specs.declared.Given.the-variants.{Good}
+use Rattle.endpoint.specs.Record.{client, server, fresh, goodFlow, givenOf, freshOf, opening, batch, shut, closed}
+use Rattle.endpoint.proofs.StaysGood.{fresh-good, fresh-sized}
 use Rattle.control.specs.declared.MessageType.{MessageType}
 use Rattle.control.specs.declared.MessageType.the-variants.{Noop, Data}
 use Rattle.endpoint.specs.declared.Endpoint.{Endpoint}
-use Rattle.endpoint.specs.Record.{opening, batch, shut, closed}
 use Rattle.table.specs.Table.{other}
 use Rattle.sending.specs.Calls.{Call, OPEN, READY, DATA, NOOP, CLOSE, messageOf, typeDataOf}
 use Rattle.machine.proofs.Rows.{closed-sound}
 use Rattle.machine.specs.Programs.{Queued, SendOutcome}
-use Rattle.session.specs.World.{End, across, Terms, Datum, Ending, Side, endedBy, afterCall, afterMessage, Client, Server, Going, HeardClose, WroteClose}
-use Rattle.session.specs.Packets.{Packet, queuedIn, rowMessage, typeDataIn, dataIn, readyIn, Called, Confirms, Closes}
-use Rattle.session.specs.Turns.{roleOf, producing}
-use Rattle.session.specs.Demand.{Ledger, PhaseFits}
-use Rattle.session.specs.Invariant.{Knows, Model, source, Settled, Proper, AllProper, OneEnd}
-use Rattle.session.proofs.Table.{Moved, opens, offers, takes, gives, rests, closes, row-moved, moved-low, Landed, goes-on, closes-both, moved-lands}
+use Rattle.session.specs.World.{End, Terms, makingOf, noHistory, made, Client, Server, across, Datum, Ending, Side, endedBy, afterCall}
+use Rattle.session.specs.World.{afterMessage, Going, HeardClose, WroteClose}
+use Rattle.session.specs.Packets.{Packet, dataIn, readyIn, queuedIn, rowMessage, typeDataIn, Called, Confirms, Closes}
+use Rattle.session.specs.Turns.{roleOf, Standing, nothing, empty, ahead, producing}
+use Rattle.session.specs.Demand.{agreed, offered, Ledger, PhaseFits}
+use Rattle.session.specs.Confirmations.{Awaits, nothingDue}
+use Rattle.session.specs.Invariant.{Within, Taken, Delivers, Knows, Model, flowAt, Settled, OneEnd, Linked, Joint, source, Proper, AllProper}
+use Rattle.session.specs.Laws.{MadeFresh, answersIn, Comes, limitAfter, SentOn}
+use Rattle.session.proofs.Table.{Moved, opens, offers, takes, gives, rests, closes, row-moved, moved-low, Landed, goes-on, closes-both}
+use Rattle.session.proofs.Table.{moved-lands}
 use Rattle.session.proofs.Counts.{sent-counted, heard-counted, closed-counted}
-use Rattle.session.specs.Laws.{answersIn, Comes, limitAfter, SentOn}
 use Rattle.session.proofs.Packets.{isOpenMessage, OpenOrOther, an-open, another, open-or-other}
+
+-- nothing is awaited, and nothing is on its way
+
+nothing-awaited : (pick : List Entry → List Entry) (a b : Standing) → Awaits pick a [] [] b [] []
+unfolding flatMap
+nothing-awaited pick a b = record { rest = []; held = λ is-open. refl; due = λ is-open. refl; few = λ is-open. omega arith }
+
+nothing-delivered : {A : Type 0} (carried : Packet → List A) (b : Standing) → Delivers carried [] [] b []
+unfolding flatMap
+nothing-delivered carried b = record { rest = []; whole = refl; due = λ listens. refl }
+
+nothing-agreed : (end : End) → Within (agreed end noHistory) 0 0 fresh 0
+nothing-agreed Client = record { in-all = omega arith; in-newest = omega arith }
+nothing-agreed Server = record { in-all = omega arith; in-newest = omega arith }
+
+nothing-offered : (end : End) → Taken (agreed end noHistory) (offered end noHistory) fresh 0
+nothing-offered Client = record { each = tt; answered = []; open-offer = λ is. absurd (omega (arith, is)); no-offer = λ low other. refl }
+nothing-offered Server = record { each = tt; answered = []; open-offer = λ is. absurd (omega (arith, is)); no-offer = λ low other. refl }
+
+-- what making accepts
+pub given-well : (flow limit : ℕ) → givenOf flow limit ≡ Good → goodFlow flow && inLimits limit ≡ true
+unfolding givenOf
+given-well flow limit given = took-first (goodFlow flow && inLimits limit) (λ same. clash cc) given .0
+
+module _ {A : Type 0} (terms : Terms) (model : Model A) where
+  fresh-end : (end : End) (limit : ℕ) → leb client (roleOf end) && leb (roleOf end) server ≡ true → givenOf (flowAt terms end) limit ≡ Good
+      → (Knows end fresh → Settled terms end (freshOf (roleOf end) (flowAt terms end) limit))
+      → OneEnd terms (model .rules) end (made (freshOf (roleOf end) (flowAt terms end) limit)) []
+  unfolding freshOf
+  fresh-end end limit role given settled =
+      let flow : ℕ = flowAt terms end in
+      record {
+        sound =
+            record { sized = fresh-sized (roleOf end) flow limit; is-good = fresh-good (roleOf end) flow limit role (given-well flow limit given) };
+        role = refl;
+        flows = refl;
+        ends = omega arith;
+        queued = refl;
+        proper = tt;
+        settled = settled;
+        counted = record { within = nothing-agreed end; taken = nothing-offered end };
+      }
+
+  -- a fresh client and a fresh server
+  fresh-linked : givenOf (terms .flow) (terms .limit) ≡ Good → givenOf (terms .server-flow) mostLimit ≡ Good
+      → Linked terms (model .rules) Client (made (freshOf client (terms .flow) (terms .limit))) (made (freshOf server (terms .server-flow) mostLimit)) [] []
+      nothingDue nothingDue
+  unfolding freshOf
+  fresh-linked given server-given =
+      record {
+        here = fresh-end Client (terms .limit) refl given (λ known. record { limited = refl; produced = refl });
+        there = fresh-end Server mostLimit refl server-given (λ known. absurd (omega (arith, known .0)));
+        converge = ahead nothing empty;
+        awaits = λ line. nothing-awaited (model .rules .pick line) _ _;
+        awaits-across = λ line. nothing-awaited (model .rules .pick line) _ _;
+        delivers = nothing-delivered dataIn _;
+        delivers-across = nothing-delivered dataIn _;
+        readies = nothing-delivered readyIn _;
+        readies-across = nothing-delivered readyIn _;
+      }
+
+  pub fresh-joint : (x y : A) → MadeFresh model (makingOf terms Client) x → MadeFresh model (makingOf terms Server) y
+      → Joint terms model Client (made x) (made y)
+  unfolding freshOf
+  fresh-joint x y of-client of-server =
+      record {
+        from-here = [];
+        from-across = [];
+        linked =
+            rw (of-client .holds, of-server .holds, of-client .none-due, of-server .none-due)
+            (fresh-linked (of-client .given) (of-server .given));
+        fine = of-client .fine;
+        fine-across = of-server .fine;
+      }
 
 -- an end that wrote a message by a call; one that heard these data and READYs, has ended so and replied these; and one that heard a packet
 
@@ -82,7 +164,8 @@ hearer-knows Client other moves = tt
 hearer-knows Server other moves = server-knows other moves
 
 module _ {A : Type 0} (terms : Terms) (model : Model A) where
-  pub proper-append : (end : End) (p q : List Packet) → AllProper terms (model .rules) end p → AllProper terms (model .rules) end q → AllProper terms (model .rules) end (p ++ q)
+  pub proper-append : (end : End) (p q : List Packet) → AllProper terms (model .rules) end p → AllProper terms (model .rules) end q
+      → AllProper terms (model .rules) end (p ++ q)
   proper-append end [] q front back = back
   proper-append end (m ∷ p) q front back = (front .0, proper-append end p q (front .1) back)
 
@@ -119,7 +202,8 @@ module _ {A : Type 0} (terms : Terms) (model : Model A) where
     sent-sides dues call result sent =
         let comes = sent .comes in
         let leads = rw (here .role) at (sent .leads) in
-        let moves = row-moved (roleOf end) (x .self .flow) (x .self .phase) (x .self .n) (messageOf call) (typeDataOf call) (sent .phase) (sent .n) leads in
+        let moves = row-moved (roleOf end) (x .self .flow) (x .self .phase) (x .self .n) (messageOf call) (typeDataOf call) (sent .phase)
+        (sent .n) leads in
         let knows = sender-knows end moves in
         let going = is-going (x .past .ending) (x .self .phase) (here .ends) (moved-low moves) in
         record {

@@ -47,7 +47,8 @@ module _ {A B O P : Type 0} (prog : Program A O) (inner : Program B P) (load : A
         → Alike load (prog .receive self m name format out) (inner .receive (load self) m name format (into out))
     -- 2 and 3 change nothing at all
     pub ignores : (self : A) (m : Queued) (name format : List ℕ) (out : O) (number : ℕ) → (2 ≤ number) × (number ≤ 3)
-        → inner .receive (load self) m name format (into out) ≡ ignored number (load self) → prog .receive self m name format out ≡ ignored number self
+        → inner .receive (load self) m name format (into out) ≡ ignored number (load self)
+        → prog .receive self m name format out ≡ ignored number self
 
   module _ (follows : Follows) (laws : Laws inner model) where
     -- what is known of what is held is known of the state that holds it

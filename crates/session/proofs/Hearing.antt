@@ -23,15 +23,18 @@ use Rattle.table.specs.Table.{other, rowOf}
 use Rattle.sending.specs.Calls.{Call, OPEN, READY, DATA, NOOP, CLOSE, askOf, messageOf, typeDataOf}
 use Rattle.machine.specs.Programs.{Queued, nothingTold, ReceiveOutcome}
 use Rattle.machine.specs.Runs.{asReply}
-use Rattle.session.specs.World.{End, across, Terms, Ending, Side, dataTold, readyTold, endedBy, endedAfter, withQueue, viewedSide, Client, Server, Going, HeardClose, WroteClose}
+use Rattle.session.specs.World.{End, across, Terms, Ending, Side, dataTold, readyTold, endedBy, endedAfter, withQueue, viewedSide, Client}
+use Rattle.session.specs.World.{Server, Going, HeardClose, WroteClose}
 use Rattle.session.specs.Packets.{Packet, queuedIn, bytesIn, toldIn, rowMessage, typeDataIn, dataIn, readyIn, Called, Confirms, Closes}
-use Rattle.session.specs.Turns.{roleOf, producing, turn, Kind, kindOf, Stage, stageOf, Standing, stands, standing, IsOpen, Hears, Converge, Moves, Stays, Ends, At, ClosedByItself, moved, rested, closed as Hears·closed}
+use Rattle.session.specs.Turns.{roleOf, producing, turn, Kind, kindOf, Stage, stageOf, Standing, stands, standing, IsOpen, Hears, Converge}
+use Rattle.session.specs.Turns.{Moves, Stays, Ends, At, ClosedByItself, moved, rested, closed as Hears·closed}
 use Rattle.session.specs.Demand.{Ledger}
 use Rattle.session.specs.Confirmations.{askedIn, confirmedIn}
 use Rattle.session.specs.Invariant.{Knows, Model, source, Proper, OneEnd, Linked}
 use Rattle.session.proofs.Table.{Sends, calms, Moved, opens, gives, row-moved, row-hears, other-role, phaseIn, nIn, leads-alive, leads-active}
 use Rattle.session.proofs.Turns.{across-differs, sends-converge, refuses-converge}
-use Rattle.session.proofs.Streams.{hears-awaits, gone-awaits, across-hears-awaits, across-gone-awaits, writes-delivers, hears-delivers, gone-delivers}
+use Rattle.session.proofs.Streams.{hears-awaits, gone-awaits, across-hears-awaits, across-gone-awaits, writes-delivers, hears-delivers}
+use Rattle.session.proofs.Streams.{gone-delivers}
 use Rattle.session.specs.Laws.{answersIn, MayTake, offeredIn, Heard}
 use Rattle.session.proofs.Packets.{isOpenMessage, OpenOrOther, an-open, another, open-or-other}
 use Rattle.session.proofs.Ends.{took, tookIn, hearer-knows, heard-sides, refused-sides}
@@ -53,13 +56,15 @@ ended-kind how Close = refl
 heard-ending : (message : MessageType) {kind : Kind} → kindOf message ≡ kind → endedBy HeardClose message Going ≡ endingOf HeardClose kind
 heard-ending message same = ended-kind HeardClose message ∙ ap (endingOf HeardClose) same
 
-hearer-stands : (from end : End) (s : Stage) (m : Packet) (a : Standing) (e : Endpoint) → Hears from end (At s) m a → e .phase ≡ phaseIn a → e .n ≡ nIn a
+hearer-stands : (from end : End) (s : Stage) (m : Packet) (a : Standing) (e : Endpoint) → Hears from end (At s) m a → e .phase ≡ phaseIn a
+    → e .n ≡ nIn a
     → stands (endedBy HeardClose (rowMessage m) Going) e ≡ a
 hearer-stands from end s m (At t) e (moved moving theirs leads) phased counted =
     ap (λ (ending : Ending). stands ending e) (heard-ending (rowMessage m) moving) ∙ rw (phased, counted) refl
 hearer-stands from end s m _ e (rested still active) phased counted =
     ap (λ (ending : Ending). stands ending e) (heard-ending (rowMessage m) still) ∙ rw (phased, counted) refl
-hearer-stands from end s m _ e (Hears·closed closing alive) phased counted = ap (λ (ending : Ending). stands ending e) (heard-ending (rowMessage m) closing)
+hearer-stands from end s m _ e (Hears·closed closing alive) phased counted =
+    ap (λ (ending : Ending). stands ending e) (heard-ending (rowMessage m) closing)
 
 -- an end that is still open is not in phase 5
 hearer-low : (from end : End) (s : Stage) (m : Packet) (a : Standing) → Hears from end (At s) m a → IsOpen a → phaseIn a ≡ shut → ⊥
@@ -69,7 +74,8 @@ hearer-low from end s m _ (Hears·closed closing alive) is-open is-shut = is-ope
 
 -- what the confirmation of a packet asks for, confirms and carries, and that it is no READY
 
-answers-none : {A : Type 0} (prompt : MessageType → Bool) (taken : Packet → List A) → ((message : MessageType) (type-data : ℕ) → taken (Confirms message type-data) ≡ [])
+answers-none : {A : Type 0} (prompt : MessageType → Bool) (taken : Packet → List A)
+    → ((message : MessageType) (type-data : ℕ) → taken (Confirms message type-data) ≡ [])
     → (m : Packet) → flatMap taken (answersIn prompt m) ≡ []
 unfolding flatMap
 answers-none prompt taken none (Called e call) = go (askOf call) (prompt (messageOf call))
@@ -86,23 +92,27 @@ data-active : {role flow phase n type-data next count : ℕ} → Moved role flow
 data-active (gives produces batching begins) = (omega arith, omega arith)
 
 -- a packet that is sent or not
-converge-if : (from end : End) {a b : Standing} {p q : List Packet} {m : Packet} (t : Bool) → Sends from end a m a → Converge from end a p b q → Converge from end a (p ++ cond t (m ∷ []) []) b q
+converge-if : (from end : End) {a b : Standing} {p q : List Packet} {m : Packet} (t : Bool) → Sends from end a m a → Converge from end a p b q
+    → Converge from end a (p ++ cond t (m ∷ []) []) b q
 converge-if from end true sends converge = sends-converge from end converge sends
 converge-if from end false sends converge = rw append-nil converge
 
 -- the confirmation of a packet is a quiet message
-answers-converge : (prompt : MessageType → Bool) (from end : End) {s : Stage} {a b : Standing} {p q : List Packet} (m : Packet) → Hears from end (At s) m a
+answers-converge : (prompt : MessageType → Bool) (from end : End) {s : Stage} {a b : Standing} {p q : List Packet} (m : Packet)
+    → Hears from end (At s) m a
     → Converge from end a p b q → Converge from end a (p ++ answersIn prompt m) b q
 answers-converge prompt from end (Called e (OPEN name format)) hears converge = rw append-nil converge
 answers-converge prompt from end (Called e (READY count)) hears converge = rw append-nil converge
 answers-converge prompt from end {s} (Called e (DATA type-data true body)) (moved {t = t} moving theirs leads) converge =
     let move = row-moved (roleOf (turn from (s .phase))) producer (s .phase) (s .n) Data type-data (t .phase) (t .n) leads in
-    converge-if from end (prompt Data) (calms refl (leads-active from s (Called e (DATA type-data true body)) t moving leads (data-active move))) converge
+    converge-if from end (prompt Data)
+    (calms refl (leads-active from s (Called e (DATA type-data true body)) t moving leads (data-active move))) converge
 answers-converge prompt from end (Called e (DATA type-data true body)) (rested still active) converge = clash cc
 answers-converge prompt from end (Called e (DATA type-data true body)) (Hears·closed closing alive) converge = clash cc
 answers-converge prompt from end (Called e (DATA type-data false body)) hears converge = rw append-nil converge
 answers-converge prompt from end (Called e (NOOP type-data true)) (moved moving theirs leads) converge = clash cc
-answers-converge prompt from end (Called e (NOOP type-data true)) (rested still active) converge = converge-if from end (prompt Noop) (calms refl active) converge
+answers-converge prompt from end (Called e (NOOP type-data true)) (rested still active) converge =
+    converge-if from end (prompt Noop) (calms refl active) converge
 answers-converge prompt from end (Called e (NOOP type-data true)) (Hears·closed closing alive) converge = clash cc
 answers-converge prompt from end (Called e (NOOP type-data false)) hears converge = rw append-nil converge
 answers-converge prompt from end (Called e (CLOSE code)) hears converge = rw append-nil converge
@@ -141,7 +151,8 @@ module _ {A : Type 0} (terms : Terms) (model : Model A) where
       → offeredIn m r name format ≡ true → isOpenMessage (rowMessage m) ≡ true → producing end (r .flow) ≡ source terms
   open-source Client r _ (an-open e asked wanted) name format made moves offers is = absurd (clients-open moves)
   open-source Server r _ (an-open e asked wanted) name format made moves offers is =
-      let all = both-true (same asked name && eqb (socketOf (e .flow)) (offeredSocket (r .flow))) (eqb (length wanted) 0 || same wanted format) offers in
+      let all = both-true (same asked name && eqb (socketOf (e .flow)) (offeredSocket (r .flow)))
+      (eqb (length wanted) 0 || same wanted format) offers in
       let pipe = both-true (same asked name) (eqb (socketOf (e .flow)) (offeredSocket (r .flow))) (all .0) in
       offered-source (r .flow) (e .flow) (eqb-true _ _ (pipe .1)) ∙ ap (producing Client) (made .flows)
   open-source end r m (another later always stays) name format made moves offers is = clash cc
@@ -244,10 +255,12 @@ module _ {A : Type 0} (terms : Terms) (model : Model A) where
                   (λ is-open. taken .owes line (hearer-low (source terms) end stage m a hears is-open))
                   (rw was at (linked .awaits-across line)));
               delivers =
-                  writes-delivers dataIn (standing y) answers (answers-none (model .rules .prompt) dataIn (λ message type-data. refl) m) (linked .delivers);
+                  writes-delivers dataIn (standing y) answers (answers-none (model .rules .prompt) dataIn (λ message type-data. refl) m)
+                  (linked .delivers);
               delivers-across = rw after (hears-delivers dataIn stage a m (rw was at (linked .delivers-across)));
               readies =
-                  writes-delivers readyIn (standing y) answers (answers-none (model .rules .prompt) readyIn (λ message type-data. refl) m) (linked .readies);
+                  writes-delivers readyIn (standing y) answers (answers-none (model .rules .prompt) readyIn (λ message type-data. refl) m)
+                  (linked .readies);
               readies-across = rw after (hears-delivers readyIn stage a m (rw was at (linked .readies-across)));
             }
 
@@ -263,7 +276,8 @@ module _ {A : Type 0} (terms : Terms) (model : Model A) where
             converge = refuses-converge (source terms) end (Closes code) moving refl (rw was at (linked .converge));
             awaits = λ line. gone-awaits (model .rules .pick line) (standing x) m (Closes code ∷ []) _ (rw (nothing line) refl) (linked .awaits line);
             awaits-across = λ line.
-                across-gone-awaits (model .rules .pick line) (standing y) m (Closes code ∷ []) _ (rw (nothing line) refl) (linked .awaits-across line);
+                across-gone-awaits (model .rules .pick line) (standing y) m (Closes code ∷ []) _ (rw (nothing line) refl)
+                (linked .awaits-across line);
             delivers = writes-delivers dataIn (standing y) (Closes code ∷ []) refl (linked .delivers);
             delivers-across = rw append-nil (gone-delivers dataIn (standing x) m (linked .delivers-across));
             readies = writes-delivers readyIn (standing y) (Closes code ∷ []) refl (linked .readies);
@@ -352,7 +366,8 @@ module _ {A : Type 0} (model : Model A) (end : End) (x : Side A) (m : Packet) (r
 
   -- what is told of a packet that is heard is what it carries
   pub heard-noted : (terms : Terms) → Proper terms (model .rules) (across end) m → result .number ≡ 0 → result .told ≡ toldIn m
-      → result .replied ≡ map bytesIn (answersIn (model .rules .prompt) m) → x .past .ending ≡ Going → noted-side ≡ tookIn (model .rules .prompt) end seen m next
+      → result .replied ≡ map bytesIn (answersIn (model .rules .prompt) m) → x .past .ending ≡ Going
+      → noted-side ≡ tookIn (model .rules .prompt) end seen m next
   heard-noted terms proper answered told replied going =
       let noted = told-noted terms model (across end) m proper in
       let answers = answers-queued (model .rules .prompt) m in

@@ -1,10 +1,9 @@
 -- `World` has that a world is two runs of one end.
 -- The tables: `Table` has what a row that leads on says, `Turns` where two ends stand by it.
--- The parts of the invariant: `Streams` has confirmations, data and READYs, `Counts` the batches and their offers, `Start` two ends just made.
--- That the tables have the laws: `Packets` has what a send puts on its way, `Taking` what an end makes of it, `Unoffered` what a server makes of an
--- OPEN for what it does not offer, `Tables` all of them.
--- The invariant, of every program that has the laws: `Ends` has one end's part of it, `Link` a send between two ends, `Hearing` a receive, `Step` every
--- call.
+-- The parts of the invariant: `Streams` has confirmations, data and READYs, `Counts` the batches and their offers.
+-- That the tables have the laws: `Packets` has what a send puts on its way, `Taking` what an end makes of it, `Tables` all of them.
+-- The invariant, of every program that has the laws: `Ends` has one end's part of it, `Link` a send between two ends, `Hearing` a receive, `Step`
+-- every call.
 -- Demand 3: `Speaking` has what may be sent at rest, `Demand` the theorem. `Follows` has that a program which does what another does has its laws;
 -- `Example` has three sessions.
 pub mod World
@@ -12,12 +11,10 @@ pub mod Table
 pub mod Turns
 pub mod Streams
 pub mod Counts
-pub mod Start
 pub mod Packets
-pub mod Taking
-pub mod Unoffered
-pub mod Tables
 pub mod Ends
+pub mod Taking
+pub mod Tables
 pub mod Link
 pub mod Hearing
 pub mod Step

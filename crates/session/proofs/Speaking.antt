@@ -54,7 +54,8 @@ named-well = refl
 
 module _ (end : End) (e : Endpoint) (sound : Sound e) (role : e .role ≡ roleOf end) where
   -- the row of a call leads on, and no test refuses it
-  may-call : eqb (e .phase) shut ≡ false → (call : Call) {phase n : ℕ} → Moved (e .role) (e .flow) (e .phase) (e .n) (messageOf call) (typeDataOf call) phase n
+  may-call : eqb (e .phase) shut ≡ false → (call : Call) {phase n : ℕ}
+      → Moved (e .role) (e .flow) (e .phase) (e .n) (messageOf call) (typeDataOf call) phase n
       → askOf call ≡ false → aboveLimit e call ≡ false → misgiven call ≡ false → miscoded e call ≡ false → MayCall e call
   may-call alive call {phase} {n} moves askless small given coded =
       record {

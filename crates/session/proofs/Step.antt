@@ -12,7 +12,8 @@ use Rattle.sending.specs.Calls.{Call, OPEN}
 use Rattle.machine.specs.Good.{Fits}
 use Rattle.machine.specs.Programs.{Program, SendOutcome, ReceiveOutcome}
 use Rattle.machine.specs.Runs.{Sends, Receives}
-use Rattle.session.specs.World.{End, across, Terms, Ending, Side, World, EventFits, side, joined, made, withQueue, isKept, acted, afterReceive, step, viewedSide, Client, Server, Going, HeardClose, WroteClose, sends, receives, makes}
+use Rattle.session.specs.World.{End, across, Terms, Ending, Side, World, EventFits, side, joined, made, withQueue, isKept, acted, afterReceive}
+use Rattle.session.specs.World.{step, viewedSide, Client, Server, Going, HeardClose, WroteClose, sends, receives, makes}
 use Rattle.session.specs.Packets.{Packet, queuedIn, bytesIn, rowMessage, Closes}
 use Rattle.session.specs.Turns.{kindOf, Moves, stageOf, Standing, stands, standing, Hears, Converge, At, ClosedByItself, late}
 use Rattle.session.specs.Demand.{MayAnswer, PhaseFits, heard, other-pipe, other-format, after-own-close}
@@ -21,7 +22,7 @@ use Rattle.session.specs.Laws.{Laws, answersIn, offeredIn, OpenRefused, 
 use Rattle.session.proofs.Table.{phaseIn, nIn}
 use Rattle.session.proofs.Turns.{shut-hears, hears-converge}
 use Rattle.session.proofs.Packets.{OpenOrOther, an-open, another, open-or-other}
-use Rattle.session.proofs.Start.{fresh-joint}
+use Rattle.session.proofs.Ends.{fresh-joint}
 use Rattle.session.proofs.Link.{across-linked, sent-linked}
 use Rattle.session.proofs.Hearing.{leads, clients-open, moves, head-may, heard-linked, refused-linked, late-linked, heard-noted, refused-noted}
 
@@ -36,7 +37,8 @@ gone-hears : (from end : End) {m : Packet} {a : Standing} → Hears from end Clo
 gone-hears from end late = refl
 
 -- the same two ends, seen from the other
-joint-across : {A : Type 0} (terms : Terms) (model : Model A) (end : End) (x y : Side A) → Joint terms model end x y → Joint terms model (across end) y x
+joint-across : {A : Type 0} (terms : Terms) (model : Model A) (end : End) (x y : Side A) → Joint terms model end x y
+    → Joint terms model (across end) y x
 joint-across terms model end x y joint =
     record {
       from-here = joint .from-across;

@@ -127,7 +127,8 @@ module _ (pick : List Entry → List Entry) where
 
   module _ {entries owes : List Entry} {p q : List Packet} where
     -- the other end writes a packet that confirms the oldest that it owes
-    pub across-sends-awaits : (a b : Standing) (s : Stage) (m : Packet) (left after : List Entry) → owes ≡ confirms m ++ left → (IsOpen b → after ≡ left)
+    pub across-sends-awaits : (a b : Standing) (s : Stage) (m : Packet) (left after : List Entry) → owes ≡ confirms m ++ left
+        → (IsOpen b → after ≡ left)
         → Awaits pick a entries p (At s) owes q → Awaits pick a entries p b after (q ++ (m ∷ []))
     unfolding flatMap
     across-sends-awaits a b s m left after files keeps c =
@@ -136,7 +137,8 @@ module _ (pick : List Entry → List Entry) where
 
     -- the other end hears a packet, and confirms or owes what it asks for
     pub across-hears-awaits : (a b : Standing) (s : Stage) (m : Packet) (r : List Packet) (left after : List Entry)
-        → flatMap confirms r ++ left ≡ owes ++ asks m → (IsOpen b → after ≡ left) → Awaits pick a entries (m ∷ p) (At s) owes q → Awaits pick a entries p b after (q ++ r)
+        → flatMap confirms r ++ left ≡ owes ++ asks m → (IsOpen b → after ≡ left) → Awaits pick a entries (m ∷ p) (At s) owes q
+        → Awaits pick a entries p b after (q ++ r)
     unfolding flatMap
     across-hears-awaits a b s m r left after balance keeps c = across-awaits a b s r (asks m) left after refl balance keeps c
 
@@ -153,7 +155,8 @@ module _ {A : Type 0} (carried : Packet → List A) {sent heard : List A} {p : L
       }
 
   -- an end writes packets that carry nothing
-  pub writes-delivers : (b : Standing) (r : List Packet) → flatMap carried r ≡ [] → Delivers carried sent p b heard → Delivers carried sent (p ++ r) b heard
+  pub writes-delivers : (b : Standing) (r : List Packet) → flatMap carried r ≡ [] → Delivers carried sent p b heard
+      → Delivers carried sent (p ++ r) b heard
   writes-delivers b r none c = record { rest = c .rest; whole = c .whole; due = λ listens. c .due listens ∙ sym (flat-none carried p r none) }
 
   -- the hearer stands elsewhere, and listens only where it did
@@ -161,7 +164,8 @@ module _ {A : Type 0} (carried : Packet → List A) {sent heard : List A} {p : L
   across-delivers b c stays d = record { rest = d .rest; whole = d .whole; due = λ listens. d .due (stays listens) }
 
   -- the hearer hears what a packet carries
-  pub hears-delivers : (s : Stage) (b : Standing) (m : Packet) → Delivers carried sent (m ∷ p) (At s) heard → Delivers carried sent p b (heard ++ carried m)
+  pub hears-delivers : (s : Stage) (b : Standing) (m : Packet) → Delivers carried sent (m ∷ p) (At s) heard
+      → Delivers carried sent p b (heard ++ carried m)
   unfolding flatMap
   hears-delivers s b m c =
       record {

@@ -14,7 +14,8 @@ use Rattle.table.specs.declared.Row.the-variants.{NotAllowed, AboveOffer, To}
 use Rattle.table.specs.Table.{allowed, begun, closeRow, dataRow, noopRow, openRow, other, readyRow, rowOf, upTo}
 use Rattle.session.specs.World.{End, across, Ending, endedBy, Client, Server, Going}
 use Rattle.session.specs.Packets.{Packet, rowMessage, typeDataIn}
-use Rattle.session.specs.Turns.{roleOf, turn, Kind, kindOf, Stage, Standing, Active, Alive, Leads, Hears, Moves, Stays, Ends, At, ClosedByOther, ClosedByItself, moved, rested, closed}
+use Rattle.session.specs.Turns.{roleOf, turn, Kind, kindOf, Stage, Standing, Active, Alive, Leads, Hears, Moves, Stays, Ends, At, ClosedByOther}
+use Rattle.session.specs.Turns.{ClosedByItself, moved, rested, closed}
 
 -- "k=0: 2; else .., n=k"
 pub data Begun (phase count : ℕ) : ℕ → ℕ → Type 0 where
@@ -24,7 +25,8 @@ pub data Begun (phase count : ℕ) : ℕ → ℕ → Type 0 where
 -- the rows that lead on
 pub data Moved (role flow phase n : ℕ) : MessageType → ℕ → ℕ → ℕ → Type 0 where
   opens : {type-data : ℕ} → role ≡ client → phase ≡ fresh → Moved role flow phase n Open type-data opening 0
-  offers : {count next m : ℕ} → (role ≡ client → ⊥) → opening ≤ phase → phase ≤ idle → Begun offer count next m → Moved role flow phase n Ready count next m
+  offers : {count next m : ℕ} → (role ≡ client → ⊥) → opening ≤ phase → phase ≤ idle → Begun offer count next m
+      → Moved role flow phase n Ready count next m
   takes : {count next m : ℕ} → role ≡ client → phase ≡ offer → count ≤ n → Begun batch count next m → Moved role flow phase n Ready count next m
   gives : {type-data next m : ℕ} → flow ≡ producer → phase ≡ batch → Begun batch (n - 1) next m → Moved role flow phase n Data type-data next m
   rests : {type-data : ℕ} → idle ≤ phase → phase ≤ batch → Moved role flow phase n Noop type-data phase n
@@ -84,7 +86,10 @@ module _ (role flow phase n : ℕ) where
       P : ℕ → ℕ → Type 0
       P = Moved role flow phase n Ready count
 
-      go : (t : Bool) → eqb role client ≡ t → Where P (cond t (allowed (eqb phase offer) (upTo (leb count n) (begun batch count))) (allowed (eqb phase opening || eqb phase idle) (begun offer count)))
+      go : (t : Bool) → eqb role client ≡ t
+          → Where P
+          (cond t (allowed (eqb phase offer) (upTo (leb count n) (begun batch count)))
+          (allowed (eqb phase opening || eqb phase idle) (begun offer count)))
       go true is-client =
           allowed-where P (eqb phase offer) _
           (λ offered. up-to-where P (leb count n) _
@@ -110,15 +115,18 @@ module _ (role flow phase n : ℕ) where
       allowed-where _ (leb idle phase && leb phase batch) _ (λ there. rests (between phase idle batch there .0) (between phase idle batch there .1))
   row-where Data type-data = data-where type-data
   row-where Close type-data =
-      allowed-where _ (leb opening phase && leb phase batch) _ (λ there. closes (between phase opening batch there .0) (between phase opening batch there .1))
+      allowed-where _ (leb opening phase && leb phase batch) _
+      (λ there. closes (between phase opening batch there .0) (between phase opening batch there .1))
 
 -- a row that leads on is one of these
-pub row-moved : (role flow phase n : ℕ) (message : MessageType) (type-data next count : ℕ) → rowOf role flow phase n message type-data ≡ To next count → Moved role flow phase n message type-data next count
+pub row-moved : (role flow phase n : ℕ) (message : MessageType) (type-data next count : ℕ) → rowOf role flow phase n message type-data ≡ To next count
+    → Moved role flow phase n message type-data next count
 row-moved role flow phase n message type-data next count leads =
     subst (Where (Moved role flow phase n message type-data)) leads (row-where role flow phase n message type-data)
 
 -- no row leads on from phase 5
-pub moved-low : {role flow phase n type-data next count : ℕ} {message : MessageType} → Moved role flow phase n message type-data next count → phase ≤ batch
+pub moved-low : {role flow phase n type-data next count : ℕ} {message : MessageType} → Moved role flow phase n message type-data next count
+    → phase ≤ batch
 moved-low (opens role begins) = omega arith
 moved-low (offers differs low high begins) = omega arith
 moved-low (takes role offered few begins) = omega arith
@@ -136,7 +144,8 @@ pub data Landed : MessageType → ℕ → ℕ → Type 0 where
   goes-on : {message : MessageType} {next count : ℕ} → ((how : Ending) → endedBy how message Going ≡ Going) → next ≤ batch → Landed message next count
   closes-both : Landed Close shut 0
 
-pub moved-lands : {role flow phase n type-data next count : ℕ} {message : MessageType} → Moved role flow phase n message type-data next count → Landed message next count
+pub moved-lands : {role flow phase n type-data next count : ℕ} {message : MessageType} → Moved role flow phase n message type-data next count
+    → Landed message next count
 moved-lands (opens role begins) = goes-on {next = opening} (λ how. refl) (omega arith)
 moved-lands (offers differs low high begins) = goes-on (λ how. refl) (begun-low {begins = offer} (omega arith) begins)
 moved-lands (takes role offered few begins) = goes-on (λ how. refl) (begun-low {begins = batch} (omega arith) begins)
@@ -158,18 +167,22 @@ is-early phase low high = go (eqb phase opening) refl
     go true _ = refl
     go false later = eq-eqb phase idle (omega (arith, eqb-false phase opening later))
 
-pub moved-row : {role flow phase n type-data next count : ℕ} {message : MessageType} → Moved role flow phase n message type-data next count → rowOf role flow phase n message type-data ≡ To next count
+pub moved-row : {role flow phase n type-data next count : ℕ} {message : MessageType} → Moved role flow phase n message type-data next count
+    → rowOf role flow phase n message type-data ≡ To next count
 unfolding openRow readyRow dataRow noopRow closeRow
 moved-row {role = role} {phase = phase} (opens is-client begins) = simp (eq-eqb role client is-client, eq-eqb phase fresh begins) refl
-moved-row {role = role} {phase = phase} (offers differs low high begins) = simp (ne-eqb role client differs, is-early phase low high) (begun-row begins)
+moved-row {role = role} {phase = phase} (offers differs low high begins) =
+    simp (ne-eqb role client differs, is-early phase low high) (begun-row begins)
 moved-row {role = role} {phase = phase} {n = n} {type-data = count} (takes is-client offered few begins) =
     simp (eq-eqb role client is-client, eq-eqb phase offer offered, le-leb count n few) (begun-row begins)
-moved-row {flow = flow} {phase = phase} (gives produces batched begins) = simp (eq-eqb flow producer produces, eq-eqb phase batch batched) (begun-row begins)
+moved-row {flow = flow} {phase = phase} (gives produces batched begins) =
+    simp (eq-eqb flow producer produces, eq-eqb phase batch batched) (begun-row begins)
 moved-row {phase = phase} (rests low high) = simp (le-leb idle phase low, le-leb phase batch high) refl
 moved-row {phase = phase} (closes low high) = simp (le-leb opening phase low, le-leb phase batch high) refl
 
 -- the flow counts in phase 4 alone
-of-flow : {role flow phase n type-data next count : ℕ} {message : MessageType} (seen : ℕ) → (phase ≡ batch → seen ≡ producer) → Moved role flow phase n message type-data next count → Moved role seen phase n message type-data next count
+of-flow : {role flow phase n type-data next count : ℕ} {message : MessageType} (seen : ℕ) → (phase ≡ batch → seen ≡ producer)
+    → Moved role flow phase n message type-data next count → Moved role seen phase n message type-data next count
 of-flow seen there (opens is-client begins) = opens is-client begins
 of-flow seen there (offers differs low high begins) = offers differs low high begins
 of-flow seen there (takes is-client offered few begins) = takes is-client offered few begins
@@ -186,7 +199,8 @@ begun-onward : {phase begins count next m : ℕ} → idle ≤ begins → begins 
 begun-onward low high (nothing none) = later (omega arith) (omega arith)
 begun-onward low high (something some) = later low high
 
-moves-onward : {role flow phase n type-data next count : ℕ} {message : MessageType} → kindOf message ≡ Moves → Moved role flow phase n message type-data next count → Onward phase next
+moves-onward : {role flow phase n type-data next count : ℕ} {message : MessageType} → kindOf message ≡ Moves
+    → Moved role flow phase n message type-data next count → Onward phase next
 moves-onward moving (opens is-client begins) = first begins refl
 moves-onward moving (offers differs low high begins) = begun-onward (omega arith) (omega arith) begins
 moves-onward moving (takes is-client offered few begins) = begun-onward (omega arith) (omega arith) begins
@@ -204,7 +218,9 @@ onward-active (later low high) active = (low, high)
 
 module _ (source : End) (s : Stage) (m : Packet) (t : Stage) (moving : kindOf (rowMessage m) ≡ Moves) (leads : Leads source s m t) where
   leads-onward : Onward (s .phase) (t .phase)
-  leads-onward = moves-onward moving (row-moved (roleOf (turn source (s .phase))) producer (s .phase) (s .n) (rowMessage m) (typeDataIn m) (t .phase) (t .n) leads)
+  leads-onward =
+      moves-onward moving
+      (row-moved (roleOf (turn source (s .phase))) producer (s .phase) (s .n) (rowMessage m) (typeDataIn m) (t .phase) (t .n) leads)
 
   pub leads-alive : Alive (t .phase)
   leads-alive = onward-alive leads-onward
@@ -234,11 +250,13 @@ unfolding turn
 turn-batch source phase batched = simp batched refl
 
 module _ (source end : End) where
-  moves-turn : {flow phase n type-data next count : ℕ} {message : MessageType} → kindOf message ≡ Moves → (flow ≡ producer → phase ≡ batch → source ≡ end) → Moved (roleOf end) flow phase n message type-data next count → turn source phase ≡ end
+  moves-turn : {flow phase n type-data next count : ℕ} {message : MessageType} → kindOf message ≡ Moves
+      → (flow ≡ producer → phase ≡ batch → source ≡ end) → Moved (roleOf end) flow phase n message type-data next count → turn source phase ≡ end
   unfolding turn
   moves-turn moving there (opens role begins) = simp begins (is-client end role)
   moves-turn {phase = phase} moving there (offers differs low high begins) =
-      simp (ne-eqb phase fresh (λ same. omega arith), ne-eqb phase offer (λ same. omega arith), ne-eqb phase batch (λ same. omega arith)) (is-server end differs)
+      simp (ne-eqb phase fresh (λ same. omega arith), ne-eqb phase offer (λ same. omega arith), ne-eqb phase batch (λ same. omega arith))
+      (is-server end differs)
   moves-turn moving there (takes role offered few begins) = simp offered (is-client end role)
   moves-turn {phase = phase} moving there (gives produces batched begins) = turn-batch source phase batched ∙ there produces batched
   moves-turn moving there (rests low high) = clash cc
@@ -263,19 +281,23 @@ module _ (source end : End) (flow phase n : ℕ) (m : Packet) where
       subst From (landing-at next count (onward-alive (moves-onward moving move) .1))
       (moves moving own (ap (λ turning. rowOf (roleOf turning) producer phase n (rowMessage m) (typeDataIn m)) own ∙ row))
 
-  staying-sends : {role type-data next count : ℕ} → kindOf (rowMessage m) ≡ Stays → Moved role flow phase n Noop type-data next count → From (landing next count)
+  staying-sends : {role type-data next count : ℕ} → kindOf (rowMessage m) ≡ Stays → Moved role flow phase n Noop type-data next count
+      → From (landing next count)
   staying-sends quiet (rests low high) = subst From (landing-at phase n high) (calms quiet (low, high))
 
-  ending-sends : {role type-data next count : ℕ} → kindOf (rowMessage m) ≡ Ends → Moved role flow phase n Close type-data next count → From (landing next count)
+  ending-sends : {role type-data next count : ℕ} → kindOf (rowMessage m) ≡ Ends → Moved role flow phase n Close type-data next count
+      → From (landing next count)
   ending-sends closing (closes low high) = ends closing (low, high)
 
   -- an allowed send is a move
-  pub row-sends : (next count : ℕ) → rowOf (roleOf end) flow phase n (rowMessage m) (typeDataIn m) ≡ To next count → (flow ≡ producer → phase ≡ batch → source ≡ end)
+  pub row-sends : (next count : ℕ) → rowOf (roleOf end) flow phase n (rowMessage m) (typeDataIn m) ≡ To next count
+      → (flow ≡ producer → phase ≡ batch → source ≡ end)
       → Sends source end (At (record { phase = phase; n = n })) m (landing next count)
   row-sends next count leads there =
       go (rowMessage m) refl (row-moved (roleOf end) flow phase n (rowMessage m) (typeDataIn m) next count leads)
     where
-      go : (message : MessageType) → rowMessage m ≡ message → Moved (roleOf end) flow phase n (rowMessage m) (typeDataIn m) next count → From (landing next count)
+      go : (message : MessageType) → rowMessage m ≡ message → Moved (roleOf end) flow phase n (rowMessage m) (typeDataIn m) next count
+          → From (landing next count)
       go Open same move = moving-sends next count there (ap kindOf same) move
       go Ready same move = moving-sends next count there (ap kindOf same) move
       go Noop same move = staying-sends (ap kindOf same) (rw same at move)

@@ -73,7 +73,8 @@ module _ (r : Endpoint) (sound : Sound r) where
   call-small e (CLOSE code) within given same = refl
 
 -- the body that is heard is the one sent
-call-body : (e : Endpoint) (call : Call) (content : Content) → ContentSent e call (written e call) content → bodyAt (written e call) content ≡ bodySent call
+call-body : (e : Endpoint) (call : Call) (content : Content) → ContentSent e call (written e call) content
+    → bodyAt (written e call) content ≡ bodySent call
 call-body e (OPEN name format) content sent = simp (sent .is)
 call-body e (READY count) content sent = simp sent
 call-body e (DATA type-data ask body) content sent = simp (sent .is, sent .bytes)
@@ -213,7 +214,8 @@ TakenBy r m name format phase n rest = Heard onRecords r (promptLedger r) m phas
 
 module _ (terms : Terms) (end : End) (r : Endpoint) where
   call-taken : (e : Endpoint) (call : Call) (name format : List ℕ) (phase n : ℕ) (rest : ℕ → List Entry)
-      → MayTake (onRecords .rules) terms end r (promptLedger r) (Called e call) name format phase n rest → TakenBy r (Called e call) name format phase n rest
+      → MayTake (onRecords .rules) terms end r (promptLedger r) (Called e call) name format phase n rest
+      → TakenBy r (Called e call) name format phase n rest
   call-taken e call name format phase n rest may =
       let made = may .proper in
       let room = made .accepted .room in
@@ -274,7 +276,8 @@ module _ (terms : Terms) (end : End) (r : Endpoint) where
       }
 
   close-taken : (code : ℕ) (name format : List ℕ) (phase n : ℕ) (rest : ℕ → List Entry)
-      → MayTake (onRecords .rules) terms end r (promptLedger r) (Closes code) name format phase n rest → TakenBy r (Closes code) name format phase n rest
+      → MayTake (onRecords .rules) terms end r (promptLedger r) (Closes code) name format phase n rest
+      → TakenBy r (Closes code) name format phase n rest
   close-taken code name format phase n rest may =
       let after : Endpoint = atRow r phase n in
       let heard =

@@ -5,7 +5,9 @@ use mathlib.Core.List.{List, [], _∷_, _++_}
 use Rattle.bytes_be.proofs.Tests.{clash}
 use Rattle.session.specs.World.{End, across, Client, Server}
 use Rattle.session.specs.Packets.{Packet, rowMessage}
-use Rattle.session.specs.Turns.{turn, Kind, kindOf, Stage, Standing, IsOpen, Active, Alive, Still, Leads, Hears, Drains, Converge, Moves, Stays, Ends, At, ClosedByOther, ClosedByItself, nothing, quiet, moved, rested, closed, late, empty, head, ahead, behind, over, over-across}
+use Rattle.session.specs.Turns.{turn, Kind, kindOf, Stage, Standing, IsOpen, Active, Alive, Still, Leads, Hears, Drains, Converge, Moves, Stays}
+use Rattle.session.specs.Turns.{Ends, At, ClosedByOther, ClosedByItself, nothing, quiet, moved, rested, closed, late, empty, head, ahead}
+use Rattle.session.specs.Turns.{behind, over, over-across}
 use Rattle.session.proofs.Table.{Sends, moves, calms, ends, leads-active, leads-alive}
 
 pub across-twice : (end : End) → end ≡ across (across end)
@@ -36,7 +38,8 @@ module _ (source : End) where
 
   -- queues and one packet more
 
-  drains-last : {end : End} {a b c : Standing} {m : Packet} {q : List Packet} → Drains source end a q b → Hears source end b m c → Drains source end a (q ++ (m ∷ [])) c
+  drains-last : {end : End} {a b c : Standing} {m : Packet} {q : List Packet} → Drains source end a q b → Hears source end b m c
+      → Drains source end a (q ++ (m ∷ [])) c
   drains-last empty hears = head hears empty
   drains-last (head first drains) hears = head first (drains-last drains hears)
 
@@ -69,7 +72,8 @@ module _ (source : End) where
 
   active-drains : {end : End} {s t : Stage} {q : List Packet} → Active (s .phase) → Drains source end (At s) q (At t) → Active (t .phase)
   active-drains active empty = active
-  active-drains active (head (moved {s = s} {t = t} {m = m} moving theirs leads) drains) = active-drains (leads-active source s m t moving leads active) drains
+  active-drains active (head (moved {s = s} {t = t} {m = m} moving theirs leads) drains) =
+      active-drains (leads-active source s m t moving leads active) drains
   active-drains active (head (rested is-quiet _) drains) = active-drains active drains
   active-drains active (head (closed closing alive) drains) = absurd (shut-drains drains)
 
@@ -97,45 +101,55 @@ module _ (source : End) where
   own-waits end own (head (closed closing alive) drains) = absurd (shut-drains drains)
 
   -- or, if the other end has closed, packets that do as much after its own message
-  own-ended : (end : End) {s : Stage} (m : Packet) (t : Stage) {e : Standing} {q : List Packet} → kindOf (rowMessage m) ≡ Moves → turn source (s .phase) ≡ end → Leads source s m t
+  own-ended : (end : End) {s : Stage} (m : Packet) (t : Stage) {e : Standing} {q : List Packet} → kindOf (rowMessage m) ≡ Moves
+      → turn source (s .phase) ≡ end → Leads source s m t
       → (IsOpen e → ⊥) → Drains source end (At s) q e → Drains source end (At t) q e
   own-ended end m t moving own leads ended empty = absurd (ended tt)
   own-ended end m t moving own leads ended (head (moved {s = s} _ theirs _) drains) = not-theirs end s own theirs
   own-ended end m t moving own leads ended (head (rested {s = s} is-quiet active) drains) =
       head (rested is-quiet (leads-active source s m t moving leads active)) (own-ended end m t moving own leads ended drains)
-  own-ended end m t moving own leads ended (head (closed {s = s} closing alive) drains) = head (closed closing (leads-alive source s m t moving leads)) drains
+  own-ended end m t moving own leads ended (head (closed {s = s} closing alive) drains) =
+      head (closed closing (leads-alive source s m t moving leads)) drains
 
   -- an end sends
 
-  theirs-too : (end : End) {s t : Stage} {m : Packet} → kindOf (rowMessage m) ≡ Moves → turn source (s .phase) ≡ end → Leads source s m t → Hears source (across end) (At s) m (At t)
+  theirs-too : (end : End) {s t : Stage} {m : Packet} → kindOf (rowMessage m) ≡ Moves → turn source (s .phase) ≡ end → Leads source s m t
+      → Hears source (across end) (At s) m (At t)
   theirs-too end moving own leads = moved moving (own ∙ across-twice end) leads
 
-  waits-converge : (end : End) {s t u : Stage} {p q : List Packet} (m : Packet) → Still u p → Waits s q u → kindOf (rowMessage m) ≡ Moves → turn source (s .phase) ≡ end → Leads source s m t
+  waits-converge : (end : End) {s t u : Stage} {p q : List Packet} (m : Packet) → Still u p → Waits s q u → kindOf (rowMessage m) ≡ Moves
+      → turn source (s .phase) ≡ end → Leads source s m t
       → Converge source end (At t) (p ++ (m ∷ [])) (At u) q
   waits-converge end {s = s} {t = t} m still (waits still-across) moving own leads =
-      ahead (still-elsewhere (leads-active source s m t moving leads) still-across) (drains-last (still-drains still) (theirs-too end moving own leads))
+      ahead (still-elsewhere (leads-active source s m t moving leads) still-across)
+      (drains-last (still-drains still) (theirs-too end moving own leads))
 
-  pub sends-converge : (end : End) {a b c : Standing} {p q : List Packet} {m : Packet} → Converge source end a p b q → Sends source end a m c → Converge source end c (p ++ (m ∷ [])) b q
+  pub sends-converge : (end : End) {a b c : Standing} {p q : List Packet} {m : Packet} → Converge source end a p b q → Sends source end a m c
+      → Converge source end c (p ++ (m ∷ [])) b q
   sends-converge end (ahead still drains) (moves {s = s} {t = t} {m = m} moving own leads) =
       ahead (still-elsewhere (leads-active source s m t moving leads) still) (drains-last drains (theirs-too end moving own leads))
   sends-converge end (ahead still drains) (calms is-quiet active) = ahead still (drains-last drains (rested is-quiet active))
   sends-converge end (ahead still drains) (ends closing alive) = over (λ is-open. is-open) (drains-last drains (closed closing alive))
   sends-converge end (behind still drains) (moves {m = m} moving own leads) = waits-converge end m still (own-waits end own drains) moving own leads
   sends-converge end (behind still drains) (calms {m = m} is-quiet active) = behind (still-last m is-quiet (active-drains active drains) still) drains
-  sends-converge end (behind still drains) (ends closing alive) = over (λ is-open. is-open) (drains-last (still-drains still) (closed closing (alive-drains alive drains)))
-  sends-converge end (over-across ended drains) (moves {t = t} {m = m} moving own leads) = over-across ended (own-ended end m t moving own leads ended drains)
+  sends-converge end (behind still drains) (ends closing alive) =
+      over (λ is-open. is-open) (drains-last (still-drains still) (closed closing (alive-drains alive drains)))
+  sends-converge end (over-across ended drains) (moves {t = t} {m = m} moving own leads) =
+      over-across ended (own-ended end m t moving own leads ended drains)
   sends-converge end (over-across ended drains) (calms is-quiet active) = over-across ended drains
   sends-converge end (over-across ended drains) (ends closing alive) = over-across (λ is-open. is-open) (gone-drains _)
 
   -- an end receives the head of the other's queue
-  pub hears-converge : (end : End) {a b : Standing} {p q : List Packet} {m : Packet} → Converge source end a p b (m ∷ q) → (c : Standing) × Hears source end a m c × Converge source end c p b q
+  pub hears-converge : (end : End) {a b : Standing} {p q : List Packet} {m : Packet} → Converge source end a p b (m ∷ q)
+      → (c : Standing) × Hears source end a m c × Converge source end c p b q
   hears-converge end (ahead (quiet is-quiet active still) drains) = (_, rested is-quiet active, ahead still drains)
   hears-converge end (behind still (head hears drains)) = (_, hears, behind still drains)
   hears-converge end (over ended drains) = (_, late, over ended drains)
   hears-converge end (over-across ended (head hears drains)) = (_, hears, over-across ended drains)
 
   -- an end refuses a message that moves the stage, and closes
-  pub refuses-converge : (end : End) {s : Stage} {b : Standing} {p q : List Packet} {m : Packet} (close : Packet) → kindOf (rowMessage m) ≡ Moves → kindOf (rowMessage close) ≡ Ends
+  pub refuses-converge : (end : End) {s : Stage} {b : Standing} {p q : List Packet} {m : Packet} (close : Packet) → kindOf (rowMessage m) ≡ Moves
+      → kindOf (rowMessage close) ≡ Ends
       → Converge source end (At s) p b (m ∷ q) → Converge source end ClosedByItself (p ++ (close ∷ [])) b q
   refuses-converge end close moving closing (ahead (quiet is-quiet active still) drains) = absurd (moves-not-stays moving is-quiet)
   refuses-converge end close moving closing (behind still (head (moved {s = s} {t = t} {m = m} _ theirs leads) drains)) =

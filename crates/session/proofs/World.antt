@@ -6,7 +6,8 @@ use mathlib.Core.Bool.{Bool, true, false, cond}
 use Rattle.machine.specs.Programs.{Queued, Program}
 use Rattle.machine.specs.Runs.{Act, Makes, Sends, Receives, doneBy, leftIn, wroteIn}
 use Rattle.machine.proofs.Runs.{left-append, wrote-append}
-use Rattle.session.specs.World.{End, Client, Server, across, makingOf, History, noted, notedIn, Side, World, side, joined, withQueue, Event, sends, receives, makes, isKept, acted, afterReceive, step, run, OwnRun, TwoRuns}
+use Rattle.session.specs.World.{End, Client, Server, across, makingOf, History, noted, notedIn, Side, World, side, joined, withQueue, Event}
+use Rattle.session.specs.World.{sends, receives, makes, isKept, acted, afterReceive, step, run, OwnRun, TwoRuns}
 
 module _ {A O : Type 0} (p : Program A O) where
   noted-append : (end : End) (past : History) (self : A) (first more : List (Act O))

@@ -16,7 +16,8 @@ use Rattle.endpoint.specs.Record.{awaited, fresh, offer, batch, shut, good}
 use Rattle.sending.specs.Calls.{Call, OPEN, READY, DATA, NOOP, CLOSE, written}
 use Rattle.machine.specs.Good.{Fits}
 use Rattle.machine.specs.Programs.{Queued, Program, tables}
-use Rattle.session.specs.World.{End, Client, Server, across, Terms, makingOf, Ending, Going, HeardClose, WroteClose, History, Side, World, side, Event, receives, AllFit, step, run, begun, viewedSide}
+use Rattle.session.specs.World.{End, Client, Server, across, Terms, makingOf, Ending, Going, HeardClose, WroteClose, History, Side, World, side}
+use Rattle.session.specs.World.{Event, receives, AllFit, step, run, begun, viewedSide}
 use Rattle.session.specs.Turns.{producing, turn}
 
 -- what an end awaits and what it owes, on each line of confirmations: "ACK-REPLY must equal the oldest entry" of its line

@@ -18,7 +18,8 @@ use Rattle.sending.specs.Sending.{sendOf}
 use Rattle.machine.specs.Good.{Sound, Fits}
 use Rattle.machine.specs.Round.{isOffered}
 use Rattle.machine.specs.Programs.{Making, freshBy, howOf, Queued, nothingTold, SendOutcome, ReceiveOutcome, ignored, Program, tables}
-use Rattle.session.specs.World.{End, Client, Server, across, Terms, makingOf, dataSent, readyCount, Side, World, Event, EventFits, step, begun, viewedSide}
+use Rattle.session.specs.World.{End, Client, Server, across, Terms, makingOf, dataSent, readyCount, Side, World, Event, EventFits, step, begun}
+use Rattle.session.specs.World.{viewedSide}
 use Rattle.session.specs.Packets.{Packet, Called, Confirms, Closes, queuedIn, bytesIn, toldIn, rowMessage, typeDataIn, dataIn, readyIn}
 use Rattle.session.specs.Demand.{Ledger, asRecords, MayAnswer, Holds, DemandOf}
 use Rattle.session.specs.Confirmations.{askedIn, confirmedIn, nothingDue}
@@ -167,7 +168,8 @@ module _ {A O : Type 0} (p : Program A O) (model : Model A) where
         → Heard model (endpoint self) (ledger self) m phase n rest (p .receive self (queuedIn m) name format out)
     -- an OPEN for what is not offered is refused
     pub refuses : (terms : Terms) (x : Side A) (y : Side Endpoint) (e : Endpoint) (asked wanted : List ℕ) (name format : List ℕ) (out : O)
-        → model .Fine (x .self) → 14 ≤ p .room out → MayRefuse (model .rules) terms (viewedSide (model .view .endpoint) x) y e asked wanted name format
+        → model .Fine (x .self) → 14 ≤ p .room out
+        → MayRefuse (model .rules) terms (viewedSide (model .view .endpoint) x) y e asked wanted name format
         → OpenRefused model (viewedSide (model .view .endpoint) x) y (written e (OPEN asked wanted)) name format
         (p .receive (x .self) (queuedIn (Called e (OPEN asked wanted))) name format out)
     -- a message after the own close is passed over, and one with no room for a reply stays where it is

@@ -1,0 +1,4 @@
+-- `Runs` has the opening that all runs share, and demand 3 at the end of a run; `Slips` and `Limits` have that each slip breaks a clause there.
+pub mod Runs
+pub mod Slips
+pub mod Limits

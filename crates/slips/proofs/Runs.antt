@@ -1,0 +1,59 @@
+-- The opening that all runs share, and demand 3 at the end of a run. Assumes nothing.
+use mathlib.Core.Path.{_≡_, refl}
+use mathlib.Core.List.{List, [], _∷_}
+use Prim.Native.Nat.{ℕ, _+_}
+use Rattle.double.specs.Limit.{leastLimit}
+use Rattle.endpoint.specs.declared.Endpoint.{Endpoint}
+use Rattle.endpoint.specs.Record.{consumer, producer, freshClient, freshOf, freshServer, givenOf}
+use Rattle.sending.specs.Calls.{Call, OPEN, READY}
+use Rattle.machine.specs.Programs.{Program, tables}
+use Rattle.machine.proofs.Computing.{computing}
+use Rattle.session.specs.World.{End, Client, Server, Terms, Going, World, Event, sends, receives, AllFit, afterReceive, step, run, begun}
+use Rattle.session.specs.Turns.{turn}
+use Rattle.session.specs.Demand.{DemandOf, asRecords, AtRest, Holds}
+
+-- what a run computes with
+unfoldable pub running : Unit {0}
+unfolding computing step run afterReceive turn
+running = tt
+
+-- a client that produces and announces a limit, and a server that consumes
+abbrev terms : Terms
+terms = record { flow = producer; limit = leastLimit; server-flow = consumer }
+
+abbrev pub begin : Program Endpoint ℕ → World Endpoint
+begin p = begun p terms (freshClient producer leastLimit) (freshServer consumer)
+
+-- room for a message of that limit in two frames, whose count and lengths take 10 bytes
+abbrev pub room : ℕ
+room = leastLimit + 10
+
+abbrev pub calls : End → Call → Event ℕ
+calls end call = sends end call room
+
+-- the pipe `a` is on offer
+abbrev pub hears : End → Event ℕ
+hears end = receives end (97 ∷ []) [] room
+
+-- the client opens the pipe, the server makes an offer, and the client agrees to a count; what follows is given
+abbrev pub agreeing : ℕ → ℕ → List (Event ℕ) → List (Event ℕ)
+agreeing offered count rest =
+    calls Client (OPEN (97 ∷ []) [])
+    ∷ hears Server
+    ∷ calls Server (READY offered)
+    ∷ hears Client
+    ∷ calls Client (READY count)
+    ∷ hears Server
+    ∷ rest
+
+-- two ends that go on, with nothing on its way
+pub at-rest : (w : World Endpoint) → w .client .past .ending ≡ Going → w .server .past .ending ≡ Going
+    → w .client .queue ≡ [] → w .server .queue ≡ [] → AtRest w
+at-rest w client server from-client from-server =
+    record { going = elim [ Client ↦ client | Server ↦ server ]; none-coming = elim [ Client ↦ from-client | Server ↦ from-server ] }
+
+-- what demand 3 says of a program that makes as the tables do
+pub at-the-end : (p : Program Endpoint ℕ) → p .make ≡ tables .make → DemandOf p asRecords
+    → (events : List (Event ℕ)) → ((w : World Endpoint) → AllFit p w events) → Holds p asRecords (run p (begin p) events)
+unfolding givenOf freshOf
+at-the-end p makes demand events fit = demand terms _ _ (rw makes refl) (rw makes refl) events (fit _)

@@ -1,0 +1,142 @@
+-- "Slips we have seen", and three more: each is a program that is the tables but for that slip, and demand 3 fails of it.
+-- Two slips of document 01 demand 3 does not see: "Replying to a CLOSE that passes 10..13.", as the reply reaches an end that has itself closed and
+-- passes it over, and "Matching a confirmation to any entry and not the oldest.", as in a session the oldest is the one that comes. The contract of
+-- `fbdp_receive` sees both (`fbdp/specs/Blocks: ReceiveOnBlock`).
+use Prim.Native.Nat.{ℕ, _+_}
+use mathlib.Core.List.{List, [], reverse}
+use mathlib.Core.Bool.{Bool, cond, not, _&&_}
+use lib.ListN.{length}
+use lib.Dec.{eqb, leb}
+use lib.IntN.{pos}
+use lib.Ieee.{Float, binary64, div, lt, ofInt}
+use Rattle.bytes_be.specs.Part.{part, putAt}
+use Rattle.bundle.specs.Reading.{startOf}
+use Rattle.control.specs.declared.MessageType.the-variants.{Data}
+use Rattle.control.specs.Frame.{ackReply, typeOf}
+use Rattle.endpoint.specs.declared.Endpoint.{Endpoint}
+use Rattle.endpoint.specs.Record.{batch, producer, atPhase}
+use Rattle.table.specs.declared.Row.the-variants.{AboveOffer}
+use Rattle.table.specs.Table.{dataRow, hearNumber, moved, sendNumber}
+use Rattle.receiving.specs.Refusing.{refused}
+use Rattle.sending.specs.Calls.{Call}
+use Rattle.machine.specs.Programs.{Queued, nothingTold, Told, SendOutcome, ReceiveOutcome, outcomeOf, Program, tables}
+use Rattle.session.specs.Demand.{DemandOf, asRecords}
+
+-- demand 3 does not hold of a program
+abbrev pub Fails : Program Endpoint ℕ → Type 0
+Fails p = DemandOf p asRecords → ⊥
+
+-- ---- how a program departs from the tables
+
+-- it sends and receives so
+abbrev pub slipping :
+    (Endpoint → Call → ℕ → SendOutcome Endpoint) → (Endpoint → Queued → List ℕ → List ℕ → ℕ → ReceiveOutcome Endpoint) → Program Endpoint ℕ
+slipping send receive = record { room = tables .room; make = tables .make; send = send; receive = receive }
+
+-- it makes this of what the tables give an endpoint
+abbrev pub changing :
+    (Endpoint → SendOutcome Endpoint → SendOutcome Endpoint) → (Endpoint → ReceiveOutcome Endpoint → ReceiveOutcome Endpoint) → Program Endpoint ℕ
+changing sent received =
+    slipping (λ e call out. sent e (tables .send e call out)) (λ e m name format out. received e (tables .receive e m name format out))
+
+-- the same
+abbrev pub asGiven : {A : Type 0} → Endpoint → A → A
+asGiven e done = done
+
+-- the same, but for the endpoint afterwards
+
+abbrev pub sentLeaving : (Endpoint → Endpoint) → SendOutcome Endpoint → SendOutcome Endpoint
+sentLeaving change done = record { number = done .number; bytes = done .bytes; next = change (done .next) }
+
+abbrev pub receivedLeaving : (Endpoint → Endpoint) → ReceiveOutcome Endpoint → ReceiveOutcome Endpoint
+receivedLeaving change done = record { number = done .number; told = done .told; replied = done .replied; next = change (done .next) }
+
+-- where a test holds, in phase 4, "n less 1; at 0, phase 2"
+abbrev pub loweredIf : Bool → Endpoint → Endpoint
+loweredIf test e = cond test (moved e (dataRow producer (e .phase) (e .n))) e
+
+-- "DATA without ACK-REPLY" is told
+abbrev pub tellsData : Told → Bool
+tellsData told = eqb (told .message) (typeOf Data) && not (eqb (told .flags) ackReply)
+
+-- ---- slips of document 01
+
+-- "Counting an ACK-REPLY of a DATA as data."
+abbrev pub countingConfirmations : Program Endpoint ℕ
+countingConfirmations =
+    changing asGiven (λ e done. receivedLeaving (loweredIf (eqb (done .told .message) (typeOf Data) && eqb (done .told .flags) ackReply)) done)
+
+abbrev pub CountingConfirmationsFails : Type 0
+CountingConfirmationsFails = Fails countingConfirmations
+
+-- "Lowering n on a send that 33 then refuses."
+abbrev pub refusalLowered : Endpoint → SendOutcome Endpoint → SendOutcome Endpoint
+refusalLowered e done = sentLeaving (loweredIf (eqb (done .number) 33)) done
+
+abbrev pub loweringOnRefusal : Program Endpoint ℕ
+loweringOnRefusal = changing refusalLowered asGiven
+
+abbrev pub LoweringOnRefusalFails : Type 0
+LoweringOnRefusalFails = Fails loweringOnRefusal
+
+-- "Comparing the limit as a double with a size in megabytes.": a DATA is refused as 16 unless its size, of control frame and body, is below the limit
+abbrev pub megabytes : ℕ → Float
+megabytes bytes = div binary64 (ofInt binary64 (pos bytes)) (ofInt binary64 (pos 1000000))
+
+abbrev pub measured : Endpoint → ReceiveOutcome Endpoint → ReceiveOutcome Endpoint
+measured e done =
+    cond (tellsData (done .told) && not (lt (megabytes (8 + length (done .told .body))) (megabytes (e .limit))))
+    (outcomeOf [] (refused e 16 (typeOf Data)))
+    done
+
+abbrev pub comparingMegabytes : Program Endpoint ℕ
+comparingMegabytes = changing asGiven measured
+
+abbrev pub ComparingMegabytesFails : Type 0
+ComparingMegabytesFails = Fails comparingMegabytes
+
+-- "Reading type-data low byte first.": the two bytes stand behind six others of the control frame
+abbrev pub typeDataSwapped : List ℕ → List ℕ
+typeDataSwapped s = let at = startOf s 0 + 6 in putAt s at (reverse (part s at 2))
+
+abbrev pub readingLowByteFirst : Program Endpoint ℕ
+readingLowByteFirst =
+    slipping (tables .send) (λ e m name format out.
+    tables .receive e (record { bytes = typeDataSwapped (m .bytes); how = m .how }) name format out)
+
+abbrev pub ReadingLowByteFirstFails : Type 0
+ReadingLowByteFirstFails = Fails readingLowByteFirst
+
+-- ---- three more
+
+-- a DATA is heard, and nothing is told of it
+abbrev pub losingData : Program Endpoint ℕ
+losingData =
+    changing asGiven (λ e done.
+    record { number = done .number; told = cond (tellsData (done .told)) nothingTold (done .told); replied = done .replied; next = done .next })
+
+abbrev pub LosingDataFails : Type 0
+LosingDataFails = Fails losingData
+
+-- "k at most n" is asked at neither end: a READY above the offer is sent and heard as one within the greatest offer there is
+abbrev pub raisedIf : Bool → Endpoint → Endpoint
+raisedIf test e = cond test (atPhase e (e .phase) 65535) e
+
+abbrev pub agreeingAboveOffer : Program Endpoint ℕ
+agreeingAboveOffer =
+    slipping (λ e call out. tables .send (raisedIf (eqb (tables .send e call out .number) (sendNumber AboveOffer)) e) call out)
+    (λ e m name format out.
+    tables .receive (raisedIf (eqb (tables .receive e m name format out .number) (hearNumber AboveOffer)) e) m name format out)
+
+abbrev pub AgreeingAboveOfferFails : Type 0
+AgreeingAboveOfferFails = Fails agreeingAboveOffer
+
+-- "A batch once ran past its count": no DATA lowers n at either end, and only a close leads out of phase 4
+abbrev pub staying : Endpoint → Endpoint → Endpoint
+staying e next = cond (eqb (e .phase) batch && leb (next .phase) batch) (atPhase next (e .phase) (e .n)) next
+
+abbrev pub runningPastCount : Program Endpoint ℕ
+runningPastCount = changing (λ e done. sentLeaving (staying e) done) (λ e done. receivedLeaving (staying e) done)
+
+abbrev pub RunningPastCountFails : Type 0
+RunningPastCountFails = Fails runningPastCount
