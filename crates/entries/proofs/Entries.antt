@@ -32,10 +32,12 @@ use Rattle.machine.proofs.Refusals.{receive-comes-to}
 use Rattle.fbdp.specs.Blocks.{MakeAnswer, makeNumber, SendOnBlock, ReceiveOnBlock, answerSlots, heardSlots, keptAfter, keptBy, leaves, replyLength}
 use Rattle.fbdp.specs.Blocks.{stored}
 use Rattle.machine.specs.Programs.{Making, freshBy, toldOf, replies, outcomeOf, ReceiveOutcome, ignored, tables}
-use Rattle.entries.specs.Entries.{Entries, Meets, onBlocks, toldBy, receiveTold, repliesBy, TablesMeet, byTables, DemandOnBlocks}
+use Rattle.entries.specs.Entries.{Entries, Meets, onBlocks, toldBy, receiveTold, repliesBy, TablesMeet, byTables, MadeAreFresh, DemandOnBlocks}
+use Rattle.session.specs.Demand.{promptLedger}
 use Rattle.session.specs.Laws.{onRecords}
 use Rattle.session.proofs.Follows.{Alike, Follows, follows-laws, heldBy}
-use Rattle.session.proofs.Tables.{tables-laws}
+use Rattle.session.proofs.Ends.{fresh-sound}
+use Rattle.session.proofs.Tables.{accepted-given, fresh-due, tables-laws}
 use Rattle.entries.proofs.Told.{answer-told, reply-told}
 use Rattle.session.proofs.Demand.{laws-suffice}
 
@@ -153,6 +155,13 @@ made-back block made number block′ answer accepts =
     let passed = took-first (eqb (length block) 64) (λ one. omega arith) accepted in
     let kept : block′ ≡ stored made block = rw accepted at (answer .kept) in
     (passed .1, λ sound. ap loadOf kept ∙ stored-back made sound block (eqb-true (length block) 64 (passed .0)))
+
+pub made-are-fresh : MadeAreFresh
+made-are-fresh making memory block answer =
+    let back = made-back memory (freshBy making) 0 block answer refl in
+    let given = accepted-given _ (back .0) in
+    let loads = back .1 (fresh-sound making given) in
+    record { given = given; holds = loads; none-due = ap promptLedger loads ∙ fresh-due making }
 
 module _ (entries : Entries) (meets : Meets entries) where
   entries-make : (block : List ℕ) (making : Making) → entries .makes making block .number ≡ 0

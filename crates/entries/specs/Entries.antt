@@ -17,7 +17,7 @@ use Rattle.machine.specs.Good.{Fits}
 use Rattle.machine.specs.Programs.{Making, freshBy, Told, MakeOutcome, SendOutcome, ReceiveOutcome, Program}
 use Rattle.fbdp.specs.Blocks.{MakeAnswer, SendOnBlock, ReceiveOnBlock, answerSlots, keptAfter, keptBy, makeNumber, receivedOn, replyLength, sentOn}
 use Rattle.fbdp.specs.Blocks.{stored}
-use Rattle.session.specs.Demand.{View, promptLedger, DemandOf}
+use Rattle.session.specs.Demand.{View, promptLedger, Fresh, DemandOf}
 
 -- ---- the entries
 
@@ -134,6 +134,11 @@ onBlocks entries =
 
 abbrev pub inBlocks : View (List ℕ)
 inBlocks = record { endpoint = loadOf; ledger = λ block. promptLedger (loadOf block) }
+
+-- a block that was made holds a fresh end
+abbrev pub MadeAreFresh : Type 0
+MadeAreFresh =
+    (making : Making) (memory block : List ℕ) → MakeAnswer (freshBy making) memory 0 block → Fresh inBlocks making block
 
 -- demand 3, over any entries that meet their contracts
 abbrev pub DemandOnBlocks : Type 0

@@ -1,18 +1,12 @@
--- The last clause of demand 3, of any program: "While neither has closed and nothing is in transit, one end may still send a message other than NOOP and
--- CLOSE." "the last clause of demand 3 excludes the first again", the program that refuses everything.
+-- The last clause of demand 3, of any program: "While neither has closed and nothing is in transit, one end may still send a message other than
+-- NOOP and CLOSE." "the last clause of demand 3 excludes the first again", the program that refuses everything.
 use Prim.Native.Nat.{ℕ}
 use mathlib.Core.List.{List}
 use Rattle.sending.specs.Calls.{Call}
-use Rattle.machine.specs.Programs.{freshBy}
-use Rattle.fbdp.specs.Blocks.{MakeAnswer}
-use Rattle.session.specs.World.{End, Client, Server, Terms, makingOf, World, Event, AllFit, side, made, run}
-use Rattle.session.specs.Demand.{AtRest, MaySend}
+use Rattle.session.specs.World.{End, Client, Server, Terms, makingOf, World, Event, AllFit, side, begun, run}
+use Rattle.session.specs.Demand.{Fresh, AtRest, MaySend}
 use Rattle.entries.specs.Entries.{Entries, Meets, onBlocks, inBlocks}
 use Rattle.idle.specs.Idle.{RefusesEverything}
-
--- two ends with these blocks
-abbrev pub ends : List ℕ → List ℕ → World (List ℕ)
-ends client-block server-block = record { client = made client-block; server = made server-block }
 
 module _ (p : Entries) where
   -- "one end may still send": it is accepted in every output with room for it
@@ -21,15 +15,12 @@ module _ (p : Entries) where
     pub call : Call
     pub may : MaySend (onBlocks p) inBlocks (side w end .self) call
 
-  -- for every client and server that was made by the contract of making, and any calls
+  -- for every fresh client and fresh server, and any calls
   abbrev pub GoesOn : Type 0
   GoesOn =
-      (terms : Terms) (memory client-block other-memory server-block : List ℕ)
-      → MakeAnswer (freshBy (makingOf terms Client)) memory 0 client-block
-      → MakeAnswer (freshBy (makingOf terms Server)) other-memory 0 server-block
-      → (events : List (Event (List ℕ))) → AllFit (onBlocks p) (ends client-block server-block) events
-      → AtRest (run (onBlocks p) (ends client-block server-block) events)
-      → MayStillSend (run (onBlocks p) (ends client-block server-block) events)
+      (terms : Terms) (client server : List ℕ) → Fresh inBlocks (makingOf terms Client) client → Fresh inBlocks (makingOf terms Server) server
+      → (events : List (Event (List ℕ))) → AllFit (onBlocks p) (begun client server) events
+      → AtRest (run (onBlocks p) (begun client server) events) → MayStillSend (run (onBlocks p) (begun client server) events)
 
 -- every program that meets the contracts goes on
 abbrev pub MeetingGoesOn : Type 0

@@ -230,10 +230,9 @@ run-keeps prog model laws w (event ∷ rest) fit holds =
     run-keeps prog model laws (step prog w event) rest (fit .1) (step-keeps _ _ prog model laws w event (fit .0) holds)
 
 pub laws-suffice : LawsSuffice
-laws-suffice A O prog model laws terms client server accepts server-accepts events fit =
-    let begins = begun prog terms client server in
-    invariant-holds A O prog model laws (run prog begins events)
-    (run-keeps prog model laws begins events fit (start-keeps A O prog model laws terms client server accepts server-accepts))
+laws-suffice A O prog model laws terms client server fresh server-fresh events fit =
+    invariant-holds A O prog model laws (run prog (begun client server) events)
+    (run-keeps prog model laws (begun client server) events fit (start-keeps A O prog model laws terms client server fresh server-fresh))
 
 -- demand 3
 pub demand : Demand

@@ -4,7 +4,6 @@ use Prim.Native.Nat.{ℕ, _≤_, _<_, _^_}
 use mathlib.Core.List.{List, [], flatMap, _∷_, _++_, map, map-append}
 use mathlib.Core.Bool.{true, _&&_, Bool, false, cond}
 use native.Mathlib.Omega.{arith}
-use lib.Dec.{leb}
 use Rattle.bytes_be.proofs.Tests.{took-first, clash}
 use Rattle.double.specs.Limit.{inLimits, mostLimit}
 use Rattle.endpoint.specs.declared.Entry.{Entry}
@@ -17,15 +16,16 @@ use Rattle.endpoint.specs.declared.Endpoint.{Endpoint}
 use Rattle.table.specs.Table.{other}
 use Rattle.sending.specs.Calls.{Call, OPEN, READY, DATA, NOOP, CLOSE, messageOf, typeDataOf}
 use Rattle.machine.proofs.Rows.{closed-sound}
-use Rattle.machine.specs.Programs.{Queued, SendOutcome}
+use Rattle.machine.specs.Good.{Sound}
+use Rattle.machine.specs.Programs.{Making, AsClient, AsServer, freshBy, Queued, SendOutcome}
 use Rattle.session.specs.World.{End, Terms, makingOf, noHistory, made, Client, Server, across, Datum, Ending, Side, endedBy, afterCall}
 use Rattle.session.specs.World.{afterMessage, Going, HeardClose, WroteClose}
 use Rattle.session.specs.Packets.{Packet, dataIn, readyIn, queuedIn, rowMessage, typeDataIn, Called, Confirms, Closes}
 use Rattle.session.specs.Turns.{roleOf, Standing, nothing, empty, ahead, producing}
-use Rattle.session.specs.Demand.{agreed, offered, Ledger, PhaseFits}
-use Rattle.session.specs.Confirmations.{Awaits, nothingDue}
-use Rattle.session.specs.Invariant.{Within, Taken, Delivers, Knows, Model, flowAt, Settled, OneEnd, Linked, Joint, source, Proper, AllProper}
-use Rattle.session.specs.Laws.{MadeFresh, answersIn, Comes, limitAfter, SentOn}
+use Rattle.session.specs.Demand.{agreed, offered, Ledger, nothingDue, Fresh, PhaseFits}
+use Rattle.session.specs.Confirmations.{Awaits}
+use Rattle.session.specs.Invariant.{Within, Taken, Delivers, Knows, Model, Settled, OneEnd, Linked, Joint, source, Proper, AllProper}
+use Rattle.session.specs.Laws.{answersIn, Comes, limitAfter, SentOn}
 use Rattle.session.proofs.Table.{Moved, opens, offers, takes, gives, rests, closes, row-moved, moved-low, Landed, goes-on, closes-both}
 use Rattle.session.proofs.Table.{moved-lands}
 use Rattle.session.proofs.Counts.{sent-counted, heard-counted, closed-counted}
@@ -50,38 +50,48 @@ nothing-offered Client = record { each = tt; answered = []; open-offer = λ is. 
 nothing-offered Server = record { each = tt; answered = []; open-offer = λ is. absurd (omega (arith, is)); no-offer = λ low other. refl }
 
 -- what making accepts
-pub given-well : (flow limit : ℕ) → givenOf flow limit ≡ Good → goodFlow flow && inLimits limit ≡ true
+given-well : (flow limit : ℕ) → givenOf flow limit ≡ Good → goodFlow flow && inLimits limit ≡ true
 unfolding givenOf
 given-well flow limit given = took-first (goodFlow flow && inLimits limit) (λ same. clash cc) given .0
 
-module _ {A : Type 0} (terms : Terms) (model : Model A) where
-  fresh-end : (end : End) (limit : ℕ) → leb client (roleOf end) && leb (roleOf end) server ≡ true → givenOf (flowAt terms end) limit ≡ Good
-      → (Knows end fresh → Settled terms end (freshOf (roleOf end) (flowAt terms end) limit))
-      → OneEnd terms (model .rules) end (made (freshOf (roleOf end) (flowAt terms end) limit)) []
-  unfolding freshOf
-  fresh-end end limit role given settled =
-      let flow : ℕ = flowAt terms end in
-      record {
-        sound =
-            record { sized = fresh-sized (roleOf end) flow limit; is-good = fresh-good (roleOf end) flow limit role (given-well flow limit given) };
-        role = refl;
-        flows = refl;
-        ends = omega arith;
-        queued = refl;
-        proper = tt;
-        settled = settled;
-        counted = record { within = nothing-agreed end; taken = nothing-offered end };
-      }
+-- a fresh endpoint is good
+pub fresh-sound : (making : Making) → givenOf (freshBy making .flow) (freshBy making .limit) ≡ Good → Sound (freshBy making)
+unfolding freshOf
+fresh-sound (AsClient flow limit) given =
+    record { sized = fresh-sized client flow limit; is-good = fresh-good client flow limit refl (given-well flow limit given) }
+fresh-sound (AsServer flow) given =
+    record { sized = fresh-sized server flow mostLimit; is-good = fresh-good server flow mostLimit refl (given-well flow mostLimit given) }
 
+module _ {A : Type 0} (terms : Terms) (model : Model A) where
   -- a fresh client and a fresh server
-  fresh-linked : givenOf (terms .flow) (terms .limit) ≡ Good → givenOf (terms .server-flow) mostLimit ≡ Good
-      → Linked terms (model .rules) Client (made (freshOf client (terms .flow) (terms .limit))) (made (freshOf server (terms .server-flow) mostLimit)) [] []
-      nothingDue nothingDue
+  fresh-linked : givenOf (freshBy (makingOf terms Client) .flow) (freshBy (makingOf terms Client) .limit) ≡ Good
+      → givenOf (freshBy (makingOf terms Server) .flow) (freshBy (makingOf terms Server) .limit) ≡ Good
+      → Linked terms (model .rules) Client (made (freshBy (makingOf terms Client))) (made (freshBy (makingOf terms Server))) [] [] nothingDue nothingDue
   unfolding freshOf
   fresh-linked given server-given =
       record {
-        here = fresh-end Client (terms .limit) refl given (λ known. record { limited = refl; produced = refl });
-        there = fresh-end Server mostLimit refl server-given (λ known. absurd (omega (arith, known .0)));
+        here =
+            record {
+              sound = fresh-sound (makingOf terms Client) given;
+              role = refl;
+              flows = refl;
+              ends = omega arith;
+              queued = refl;
+              proper = tt;
+              settled = λ known. record { limited = refl; produced = refl };
+              counted = record { within = nothing-agreed Client; taken = nothing-offered Client };
+            };
+        there =
+            record {
+              sound = fresh-sound (makingOf terms Server) server-given;
+              role = refl;
+              flows = refl;
+              ends = omega arith;
+              queued = refl;
+              proper = tt;
+              settled = λ known. absurd (omega (arith, known .0));
+              counted = record { within = nothing-agreed Server; taken = nothing-offered Server };
+            };
         converge = ahead nothing empty;
         awaits = λ line. nothing-awaited (model .rules .pick line) _ _;
         awaits-across = λ line. nothing-awaited (model .rules .pick line) _ _;
@@ -91,18 +101,15 @@ module _ {A : Type 0} (terms : Terms) (model : Model A) where
         readies-across = nothing-delivered readyIn _;
       }
 
-  pub fresh-joint : (x y : A) → MadeFresh model (makingOf terms Client) x → MadeFresh model (makingOf terms Server) y
-      → Joint terms model Client (made x) (made y)
-  unfolding freshOf
-  fresh-joint x y of-client of-server =
+  pub fresh-joint : (x y : A) → model .Fine x → model .Fine y → Fresh (model .view) (makingOf terms Client) x
+      → Fresh (model .view) (makingOf terms Server) y → Joint terms model Client (made x) (made y)
+  fresh-joint x y fine fine-across client server =
       record {
         from-here = [];
         from-across = [];
-        linked =
-            rw (of-client .holds, of-server .holds, of-client .none-due, of-server .none-due)
-            (fresh-linked (of-client .given) (of-server .given));
-        fine = of-client .fine;
-        fine-across = of-server .fine;
+        linked = rw (client .holds, server .holds, client .none-due, server .none-due) (fresh-linked (client .given) (server .given));
+        fine = fine;
+        fine-across = fine-across;
       }
 
 -- an end that wrote a message by a call; one that heard these data and READYs, has ended so and replied these; and one that heard a packet

@@ -5,7 +5,7 @@ use Prim.Native.Nat.{ℕ}
 use mathlib.Core.Bool.{true, false}
 use lib.ListN.{length}
 use Rattle.endpoint.specs.declared.Endpoint.{Endpoint}
-use Rattle.endpoint.specs.Record.{freshOf}
+use Rattle.endpoint.specs.Record.{freshClient, freshServer}
 use Rattle.sending.specs.Calls.{OPEN, READY, DATA, NOOP, CLOSE}
 use Rattle.machine.specs.Programs.{tables}
 use Rattle.machine.proofs.Computing.{computing}
@@ -22,10 +22,9 @@ summary w =
     summed (w .client .past .sent) (w .server .past .sent) (w .client .past .accepted) (w .server .past .accepted) (w .client .past .readies)
     (w .client .past .ending) (w .server .past .ending) (length (w .client .queue)) (length (w .server .queue))
 
--- a client and a server that were made on these terms, on blank records
+-- a client of this flow and limit, and a server of this flow
 abbrev start : ℕ → ℕ → ℕ → World Endpoint
-start flow limit server-flow =
-    begun tables (record { flow = flow; limit = limit; server-flow = server-flow }) (freshOf 0 0 0) (freshOf 0 0 0)
+start flow limit server-flow = begun (freshClient flow limit) (freshServer server-flow)
 
 -- the client opens and the server hears that
 opens : List (Event ℕ)

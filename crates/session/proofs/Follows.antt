@@ -69,13 +69,14 @@ module _ {A B O P : Type 0} (prog : Program A O) (inner : Program B P) (load : A
     pub follows-laws : Laws prog (heldBy load model)
     follows-laws =
         record {
+          begins = λ self making fresh.
+              laws .begins (load self) making (record { given = fresh .given; holds = fresh .holds; none-due = fresh .none-due });
           makes = λ self making accepts.
               let both = follows .makes self making accepts in
               let there = laws .makes (load self) making (both .0) in
-              let same = both .1 (there .fine) in
+              let same = both .1 (laws .begins _ making there) in
               record {
                 given = there .given;
-                fine = fine-held same (there .fine);
                 holds = ap (model .view .endpoint) same ∙ there .holds;
                 none-due = ap (model .view .ledger) same ∙ there .none-due;
               };

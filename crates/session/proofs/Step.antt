@@ -12,7 +12,7 @@ use Rattle.sending.specs.Calls.{Call, OPEN}
 use Rattle.machine.specs.Good.{Fits}
 use Rattle.machine.specs.Programs.{Program, SendOutcome, ReceiveOutcome}
 use Rattle.machine.specs.Runs.{Sends, Receives}
-use Rattle.session.specs.World.{End, across, Terms, Ending, Side, World, EventFits, side, joined, made, withQueue, isKept, acted, afterReceive}
+use Rattle.session.specs.World.{End, across, Terms, makingOf, Ending, Side, World, EventFits, side, joined, made, withQueue, isKept, acted, afterReceive}
 use Rattle.session.specs.World.{step, viewedSide, Client, Server, Going, HeardClose, WroteClose, sends, receives, makes}
 use Rattle.session.specs.Packets.{Packet, queuedIn, bytesIn, rowMessage, Closes}
 use Rattle.session.specs.Turns.{kindOf, Moves, stageOf, Standing, stands, standing, Hears, Converge, At, ClosedByItself, late}
@@ -227,13 +227,17 @@ module _ {A O : Type 0} (prog : Program A O) (model : Model A) (laws : Laws prog
   made-keeps : (terms : Terms) (w : World A) → EventFits prog w (makes terms) → Invariant model (step prog w (makes terms))
   unfolding step
   made-keeps terms w may =
-      let fresh = fresh-joint terms model _ _ (laws .makes _ _ (may .accepts Client)) (laws .makes _ _ (may .accepts Server)) in
+      let client = laws .makes (w .client .self) (makingOf terms Client) (may .accepts Client) in
+      let server = laws .makes (w .server .self) (makingOf terms Server) (may .accepts Server) in
+      let fresh = fresh-joint terms model _ _ (laws .begins _ _ client) (laws .begins _ _ server) client server in
       let quiet : (end : End) → side w end .queue ++ [] ≡ [] = λ end. rw (may .none-coming end) refl in
       record { terms = terms; joint = rw (may .accepts Client, may .accepts Server, quiet Client, quiet Server) fresh }
 
 pub start-keeps : StartKeeps
-start-keeps A O prog model laws terms client server accepts server-accepts =
-    record { terms = terms; joint = fresh-joint terms model _ _ (laws .makes _ _ accepts) (laws .makes _ _ server-accepts) }
+start-keeps A O prog model laws terms client server fresh server-fresh =
+    let fine = laws .begins client (makingOf terms Client) fresh in
+    let server-fine = laws .begins server (makingOf terms Server) server-fresh in
+    record { terms = terms; joint = fresh-joint terms model client server fine server-fine fresh server-fresh }
 
 pub step-keeps : StepKeeps
 unfolding step

@@ -4,7 +4,7 @@ use Prim.Native.Nat.{ℕ, _<_, _^_, _≤_}
 use mathlib.Core.List.{List}
 use mathlib.Core.Bool.{Bool, true, false, not, _&&_, _||_}
 use lib.ListN.{length}
-use lib.Dec.{eqb, lit<, leb}
+use lib.Dec.{eqb, lit<}
 use borrow.Author.Tests.{not-false, eq-eqb, le-ltb, lt-ltb}
 use native.Mathlib.Omega.{arith}
 use Rattle.bytes_be.specs.Part.{same}
@@ -19,7 +19,7 @@ use Rattle.open_write.specs.Frame.{isGood, socketOf}
 use Rattle.open_write.specs.Round.{answerTo}
 use Rattle.open_write.proofs.Round.{read-back}
 use Rattle.endpoint.specs.declared.Endpoint.{Endpoint}
-use Rattle.endpoint.specs.Record.{server, client, entryAt, shut, givenOf, givenNumber, freshOf}
+use Rattle.endpoint.specs.Record.{server, entryAt, shut, givenNumber, freshOf}
 use Rattle.endpoint.proofs.Told.{good-told}
 use Rattle.table.specs.Table.{other}
 use Rattle.receiving.specs.Hearing.{carriedBy, hearMessage, hearOf, openAt}
@@ -28,12 +28,10 @@ use Rattle.sending.specs.Calls.{OPEN, outgoing, written, Call}
 use Rattle.sending.proofs.Decided.{accepted-passed, passed-accepted}
 use Rattle.machine.proofs.Round.{reads-back}
 use Rattle.machine.proofs.Rows.{closed-sound, row-alive}
-use Rattle.machine.specs.Programs.{outcomeOf, Making, AsClient, AsServer, freshBy, madeOf}
+use Rattle.machine.specs.Programs.{outcomeOf, Making, AsClient, AsServer, freshBy}
 use Rattle.bytes_be.proofs.Parts.{length-tabulate}
-use Rattle.double.specs.Limit.{mostLimit}
 use Rattle.endpoint.specs.declared.Given.{Given}
 use Rattle.endpoint.specs.declared.Given.the-variants.{Good, Bad}
-use Rattle.endpoint.proofs.StaysGood.{fresh-good, fresh-sized}
 use Rattle.receiving.specs.declared.Received.{Received}
 use Rattle.receiving.specs.Receiving.{receivedOf}
 use Rattle.sending.specs.declared.Sent.{Sent}
@@ -41,11 +39,11 @@ use Rattle.sending.specs.Sending.{isFull, sendOf, sendRow}
 use Rattle.machine.specs.Good.{Fits, Sound}
 use Rattle.machine.proofs.Refusals.{refused-send-stays}
 use Rattle.session.specs.World.{Terms, Side}
-use Rattle.session.specs.Demand.{MayAnswer, other-pipe, other-format, promptLedger}
-use Rattle.session.specs.Laws.{MayRefuse, onRecords, OpenRefused, MadeFresh, MayCall, Heard, TablesLaws}
+use Rattle.session.specs.Demand.{MayAnswer, other-pipe, other-format, promptLedger, nothingDue}
+use Rattle.session.specs.Laws.{MayRefuse, onRecords, OpenRefused, MayCall, Heard, TablesLaws}
 use Rattle.session.specs.Packets.{bytesIn}
 use Rattle.session.proofs.Taking.{call-leads, call-small, packet-taken}
-use Rattle.session.proofs.Ends.{given-well}
+use Rattle.session.proofs.Ends.{fresh-sound}
 use Rattle.session.proofs.Packets.{sent-on}
 
 -- ---- what it is answered
@@ -174,35 +172,24 @@ may-sent e call may fits room enough =
       fits = enough;
     })
 
--- a making that is accepted leaves a fresh endpoint, which is good, awaits nothing and owes nothing
+-- a making that is accepted leaves a fresh endpoint, which awaits nothing and owes nothing
 
-accepted-given : (given : Given) → givenNumber given ≡ 0 → given ≡ Good
+pub accepted-given : (given : Given) → givenNumber given ≡ 0 → given ≡ Good
 accepted-given Good accepts = refl
 accepted-given Bad accepts = absurd (omega (arith, accepts))
 
-fresh-made : (role flow limit : ℕ) → leb client role && leb role server ≡ true → givenNumber (givenOf flow limit) ≡ 0
-    → (making : Making) → freshBy making ≡ freshOf role flow limit → (e : Endpoint)
-    → MadeFresh onRecords making (madeOf e (freshOf role flow limit) .next)
+pub fresh-due : (making : Making) → promptLedger (freshBy making) ≡ nothingDue
 unfolding freshOf
-fresh-made role flow limit among accepts making is e =
-    let given = accepted-given (givenOf flow limit) accepts in
-    record {
-      given = rw is given;
-      fine = rw accepts (record { sized = fresh-sized role flow limit; is-good = fresh-good role flow limit among (given-well flow limit given) });
-      holds = rw accepts (sym is);
-      none-due = rw accepts refl;
-    }
-
-by-making : (e : Endpoint) (making : Making) → madeOf e (freshBy making) .number ≡ 0 → MadeFresh onRecords making (madeOf e (freshBy making) .next)
-unfolding freshOf
-by-making e (AsClient flow limit) accepts = fresh-made client flow limit refl accepts (AsClient flow limit) refl e
-by-making e (AsServer flow) accepts = fresh-made server flow mostLimit refl accepts (AsServer flow) refl e
+fresh-due (AsClient flow limit) = refl
+fresh-due (AsServer flow) = refl
 
 pub tables-laws : TablesLaws
 unfolding unchanged
 tables-laws =
     record {
-      makes = by-making;
+      begins = λ e making fresh. subst Sound (sym (fresh .holds)) (fresh-sound making (fresh .given));
+      makes = λ e making accepts.
+          record { given = accepted-given _ accepts; holds = rw accepts refl; none-due = rw accepts (fresh-due making) };
       moves = λ e call room sound fits number. sent-on e call room sound fits number;
       stays = λ e call room sound fits refused. ap (λ (s : Sent). s .next) (refused-send-stays e call room refused);
       hears = λ terms end e m name format room phase n rest sound enough may.

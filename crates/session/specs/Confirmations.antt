@@ -12,7 +12,6 @@ use Rattle.endpoint.specs.Record.{capacity}
 use Rattle.sending.specs.Calls.{messageOf, typeDataOf, askOf}
 use Rattle.session.specs.Packets.{Packet, Called, Confirms, Closes}
 use Rattle.session.specs.Turns.{Standing, IsOpen}
-use Rattle.session.specs.Demand.{Ledger}
 
 abbrev pub entryFor : MessageType → ℕ → Entry
 entryFor message type-data = record { message = typeOf message; «type_data» = type-data }
@@ -27,9 +26,6 @@ abbrev pub confirmedIn : Packet → List Entry
 confirmedIn (Called e call) = []
 confirmedIn (Confirms message type-data) = entryFor message type-data ∷ []
 confirmedIn (Closes code) = []
-
-abbrev pub nothingDue : Ledger
-nothingDue = record { waits = λ line. []; owes = λ line. [] }
 
 -- on one line, an end at a that wrote p awaits these entries: first those that q confirms, which the one at b wrote, then those that it owes, and
 -- then those that p asks for; once the other has closed, the latter two are lost

@@ -12,10 +12,11 @@ use Rattle.open.specs.Open.{offeredSocket}
 use Rattle.open_write.specs.Frame.{socketOf}
 use Rattle.endpoint.specs.declared.Endpoint.{Endpoint}
 use Rattle.endpoint.specs.declared.Entry.{Entry}
-use Rattle.endpoint.specs.Record.{awaited, fresh, offer, batch, shut, good}
+use Rattle.endpoint.specs.declared.Given.the-variants.{Good}
+use Rattle.endpoint.specs.Record.{awaited, fresh, offer, batch, shut, good, givenOf}
 use Rattle.sending.specs.Calls.{Call, OPEN, READY, DATA, NOOP, CLOSE, written}
 use Rattle.machine.specs.Good.{Fits}
-use Rattle.machine.specs.Programs.{Queued, Program, tables}
+use Rattle.machine.specs.Programs.{Making, freshBy, Queued, Program, tables}
 use Rattle.session.specs.World.{End, Client, Server, across, Terms, makingOf, Ending, Going, HeardClose, WroteClose, History, Side, World, side}
 use Rattle.session.specs.World.{Event, receives, AllFit, step, run, begun, viewedSide}
 use Rattle.session.specs.Turns.{producing, turn}
@@ -36,6 +37,15 @@ promptLedger e = record { waits = λ line. awaited e; owes = λ line. [] }
 
 abbrev pub asRecords : View Endpoint
 asRecords = record { endpoint = λ e. e; ledger = promptLedger }
+
+-- a fresh end: it was made with a flow and a limit that 34 does not refuse, holds what that gives, awaits nothing and owes nothing
+abbrev pub nothingDue : Ledger
+nothingDue = record { waits = λ line. []; owes = λ line. [] }
+
+pub record Fresh {A : Type 0} (view : View A) (making : Making) (self : A) : Type 0 where
+  pub given : givenOf (freshBy making .flow) (freshBy making .limit) ≡ Good
+  pub holds : view .endpoint self ≡ freshBy making
+  pub none-due : view .ledger self ≡ nothingDue
 
 -- "neither end refuses the other's message": what x answers to the bytes s that y wrote, offering this pipe name and format. It hears them, unless
 -- that is an OPEN for another pipe name or socket, or for another format, or x has itself closed.
@@ -152,12 +162,11 @@ module _ {A O : Type 0} (p : Program A O) (view : View A) where
     pub may-send : AtRest w
         → MaySend (side w (nextEnd (view .endpoint (w .client .self))) .self) (nextCall (view .endpoint (w .client .self)))
 
-  -- for a client and a server of any flow and any limit that making accepts, and every list of calls
+  -- for a fresh client and a fresh server of any flow and limit, and every list of calls
   abbrev pub DemandOf : Type 0
   DemandOf =
-      (terms : Terms) (client server : A)
-      → p .make client (makingOf terms Client) .number ≡ 0 → p .make server (makingOf terms Server) .number ≡ 0
-      → (events : List (Event O)) → AllFit p (begun p terms client server) events → Holds (run p (begun p terms client server) events)
+      (terms : Terms) (client server : A) → Fresh view (makingOf terms Client) client → Fresh view (makingOf terms Server) server
+      → (events : List (Event O)) → AllFit p (begun client server) events → Holds (run p (begun client server) events)
 
 -- demand 3, over the tables
 abbrev pub Demand : Type 0

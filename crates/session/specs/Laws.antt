@@ -9,20 +9,19 @@ use Rattle.control.specs.declared.MessageType.{MessageType}
 use Rattle.control.specs.declared.MessageType.the-variants.{Open, Data}
 use Rattle.endpoint.specs.declared.Endpoint.{Endpoint}
 use Rattle.endpoint.specs.declared.Entry.{Entry}
-use Rattle.endpoint.specs.declared.Given.the-variants.{Good}
-use Rattle.endpoint.specs.Record.{capacity, closed, givenOf, server, shut}
+use Rattle.endpoint.specs.Record.{capacity, closed, server, shut}
 use Rattle.table.specs.declared.Row.the-variants.{To}
 use Rattle.table.specs.Table.{other, rowOf}
 use Rattle.sending.specs.Calls.{Call, OPEN, READY, DATA, NOOP, CLOSE, messageOf, typeDataOf, askOf, aboveLimit, misgiven, miscoded, written}
 use Rattle.sending.specs.Sending.{sendOf}
 use Rattle.machine.specs.Good.{Sound, Fits}
 use Rattle.machine.specs.Round.{isOffered}
-use Rattle.machine.specs.Programs.{Making, freshBy, howOf, Queued, nothingTold, SendOutcome, ReceiveOutcome, ignored, Program, tables}
+use Rattle.machine.specs.Programs.{Making, howOf, Queued, nothingTold, SendOutcome, ReceiveOutcome, ignored, Program, tables}
 use Rattle.session.specs.World.{End, Client, Server, across, Terms, makingOf, dataSent, readyCount, Side, World, Event, EventFits, step, begun}
 use Rattle.session.specs.World.{viewedSide}
 use Rattle.session.specs.Packets.{Packet, Called, Confirms, Closes, queuedIn, bytesIn, toldIn, rowMessage, typeDataIn, dataIn, readyIn}
-use Rattle.session.specs.Demand.{Ledger, asRecords, MayAnswer, Holds, DemandOf}
-use Rattle.session.specs.Confirmations.{askedIn, confirmedIn, nothingDue}
+use Rattle.session.specs.Demand.{Ledger, asRecords, Fresh, MayAnswer, Holds, DemandOf}
+use Rattle.session.specs.Confirmations.{askedIn, confirmedIn}
 use Rattle.session.specs.Invariant.{flowAt, Rules, Model, AcceptedCall, Proper, Invariant}
 
 -- the limit of an end that has heard a packet
@@ -94,13 +93,6 @@ module _ (rules : Rules) where
     pub differs : isOffered e (OPEN asked wanted) (x .self) name format ≡ false
 
 module _ {A : Type 0} (model : Model A) where
-  -- an end that was made holds the fresh endpoint, awaits nothing and owes nothing
-  pub record MadeFresh (making : Making) (next : A) : Type 0 where
-    pub given : givenOf (freshBy making .flow) (freshBy making .limit) ≡ Good
-    pub fine : model .Fine next
-    pub holds : model .view .endpoint next ≡ freshBy making
-    pub none-due : model .view .ledger next ≡ nothingDue
-
   -- a call that was accepted puts a packet on its way that carries what the call sends, leads where its row does, awaits what it asks for, and
   -- owes no more what it confirms
   pub record SentOn (e : Endpoint) (dues : Ledger) (call : Call) (result : SendOutcome A) : Type 0 where
@@ -155,8 +147,9 @@ module _ {A O : Type 0} (p : Program A O) (model : Model A) where
   ledger self = model .view .ledger self
 
   pub record Laws : Type 0 where
-    -- a making that is accepted leaves a fresh end
-    pub makes : (self : A) (making : Making) → p .make self making .number ≡ 0 → MadeFresh model making (p .make self making .next)
+    -- a fresh end is fine, and a making that is accepted leaves one
+    pub begins : (self : A) (making : Making) → Fresh (model .view) making self → model .Fine self
+    pub makes : (self : A) (making : Making) → p .make self making .number ≡ 0 → Fresh (model .view) making (p .make self making .next)
     -- a send that is accepted is a move, and one that is refused changes nothing
     pub moves : (self : A) (call : Call) (out : O) → model .Fine self → Fits call → p .send self call out .number ≡ 0
         → SentOn model (endpoint self) (ledger self) call (p .send self call out)
@@ -186,12 +179,12 @@ module _ {A O : Type 0} (p : Program A O) (model : Model A) where
 
 -- ---- what follows of every program that has the laws
 
--- two ends that were made have the invariant
+-- two fresh ends have the invariant
 abbrev pub StartKeeps : Type 1
 StartKeeps =
     (A O : Type 0) (p : Program A O) (model : Model A) → Laws p model → (terms : Terms) (client server : A)
-    → p .make client (makingOf terms Client) .number ≡ 0 → p .make server (makingOf terms Server) .number ≡ 0
-    → Invariant model (begun p terms client server)
+    → Fresh (model .view) (makingOf terms Client) client → Fresh (model .view) (makingOf terms Server) server
+    → Invariant model (begun client server)
 
 -- whatever is called and delivered keeps it, and both ends made again where nothing is in transit
 abbrev pub StepKeeps : Type 1

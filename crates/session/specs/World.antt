@@ -157,9 +157,12 @@ module _ {A : Type 0} where
   joined Client x y = record { client = x; server = y }
   joined Server x y = record { client = y; server = x }
 
-  -- an end that was just made
+  -- two ends that were just made
   abbrev pub made : A → Side A
   made self = record { self = self; queue = []; past = noHistory }
+
+  abbrev pub begun : A → A → World A
+  begun client server = record { client = made client; server = made server }
 
   abbrev pub withQueue : Side A → List Queued → Side A
   withQueue y queue = record { self = y .self; queue = queue; past = y .past }
@@ -200,16 +203,11 @@ module _ {A O : Type 0} (p : Program A O) where
         server = acted Server (w .server) (Makes (makingOf terms Server));
       }
 
-  -- a client and a server that were just made, whatever they were before
-  abbrev pub begun : Terms → A → A → World A
-  begun terms client server =
-      record { client = made (p .make client (makingOf terms Client) .next); server = made (p .make server (makingOf terms Server) .next) }
-
   unfoldable pub run : World A → List (Event O) → World A
   run w [] = w
   run w (event ∷ rest) = run (step w event) rest
 
-  -- the ends are made again where nothing is in transit, and both making are accepted
+  -- both ends are made again where nothing is in transit and both makings are accepted
   pub record MayMake (w : World A) (terms : Terms) : Type 0 where
     pub none-coming : (end : End) → side w end .queue ≡ []
     pub accepts : (end : End) → p .make (side w end .self) (makingOf terms end) .number ≡ 0

@@ -20,7 +20,7 @@ use Rattle.session.specs.World.{Client, Server, Going, noHistory, afterCall, af
 use Rattle.session.specs.Demand.{DemandOf, asRecords, Holds}
 use Rattle.slips.specs.Slips.{slipping, refusalLowered, loweringOnRefusal, LoweringOnRefusalFails}
 use Rattle.slips.specs.Slips.{measured, comparingMegabytes, ComparingMegabytesFails}
-use Rattle.slips.proofs.Runs.{agreeing, at-rest, at-the-end, begin, calls, room, running}
+use Rattle.slips.proofs.Runs.{agreeing, at-rest, at-the-end, calls, room, running, start}
 
 -- ---- a batch of 1 is agreed
 
@@ -42,15 +42,15 @@ abbrev giving : SendOutcome Endpoint → Program Endpoint ℕ
 giving done = slipping (λ e call out. done) (tables .receive)
 
 -- demand 3 after the client's DATA, where it is known what comes of that
-after-data : (p : Program Endpoint ℕ) → p .make ≡ tables .make → DemandOf p asRecords → run p (begin p) (agreeing 1 1 []) ≡ agreed
+after-data : (p : Program Endpoint ℕ) → DemandOf p asRecords → run p start (agreeing 1 1 []) ≡ agreed
     → (body : List ℕ) (done : SendOutcome Endpoint) → p .send sender (DATA 0 false body) room ≡ done
     → Holds p asRecords (step (giving done) agreed (calls Client (DATA 0 false body)))
 unfolding run step
-after-data p makes demand agrees body done gives =
+after-data p demand agrees body done gives =
     let sending = calls Client (DATA 0 false body) in
     subst (Holds p asRecords)
     (ap (λ (w : World Endpoint). step p w sending) agrees ∙ ap (λ (x : SendOutcome Endpoint). step (giving x) agreed sending) gives)
-    (at-the-end p makes demand (agreeing 1 1 (sending ∷ [])) (λ w. omega arith))
+    (at-the-end p demand (agreeing 1 1 (sending ∷ [])) (λ w. omega arith))
 
 -- there is a body of every length
 some-body : {A : Type 0} (size : ℕ) → ((body : List ℕ) → length body ≡ size → A) → A
@@ -67,7 +67,7 @@ large-refused body long = rw long refl
 lowering-fails : (body : List ℕ) → length body ≡ leastLimit → LoweringOnRefusalFails
 unfolding running
 lowering-fails body long demand =
-    let holds = after-data loweringOnRefusal refl demand refl body _ (ap (refusalLowered sender) (large-refused body long)) in
+    let holds = after-data loweringOnRefusal demand refl body _ (ap (refusalLowered sender) (large-refused body long)) in
     absurd (omega (arith, holds .may-send (at-rest _ refl refl refl refl) .accepted room (omega arith)))
 
 pub lowering-on-refusal-fails : LoweringOnRefusalFails
@@ -106,7 +106,7 @@ module _ (body : List ℕ) (long : length body ≡ leastLimit - 8) where
   unfolding running
   comparing-fails demand =
       let refuses = full-refused (tables .receive hearer message [] [] room) full-told in
-      let holds = after-data comparingMegabytes refl demand refl body _ full-sent in
+      let holds = after-data comparingMegabytes demand refl body _ full-sent in
       elim (rw refuses at (holds .answers Server message [] refl [] [] room (omega arith))) [ ]
 
 pub comparing-megabytes-fails : ComparingMegabytesFails

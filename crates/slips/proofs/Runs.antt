@@ -6,7 +6,7 @@ use Rattle.double.specs.Limit.{leastLimit}
 use Rattle.endpoint.specs.declared.Endpoint.{Endpoint}
 use Rattle.endpoint.specs.Record.{consumer, producer, freshClient, freshOf, freshServer, givenOf}
 use Rattle.sending.specs.Calls.{Call, OPEN, READY}
-use Rattle.machine.specs.Programs.{Program, tables}
+use Rattle.machine.specs.Programs.{Program}
 use Rattle.machine.proofs.Computing.{computing}
 use Rattle.session.specs.World.{End, Client, Server, Terms, Going, World, Event, sends, receives, AllFit, afterReceive, step, run, begun}
 use Rattle.session.specs.Turns.{turn}
@@ -21,8 +21,8 @@ running = tt
 abbrev terms : Terms
 terms = record { flow = producer; limit = leastLimit; server-flow = consumer }
 
-abbrev pub begin : Program Endpoint ℕ → World Endpoint
-begin p = begun p terms (freshClient producer leastLimit) (freshServer consumer)
+abbrev pub start : World Endpoint
+start = begun (freshClient producer leastLimit) (freshServer consumer)
 
 -- room for a message of that limit in two frames, whose count and lengths take 10 bytes
 abbrev pub room : ℕ
@@ -52,8 +52,10 @@ pub at-rest : (w : World Endpoint) → w .client .past .ending ≡ Going → w .
 at-rest w client server from-client from-server =
     record { going = elim [ Client ↦ client | Server ↦ server ]; none-coming = elim [ Client ↦ from-client | Server ↦ from-server ] }
 
--- what demand 3 says of a program that makes as the tables do
-pub at-the-end : (p : Program Endpoint ℕ) → p .make ≡ tables .make → DemandOf p asRecords
-    → (events : List (Event ℕ)) → ((w : World Endpoint) → AllFit p w events) → Holds p asRecords (run p (begin p) events)
+-- what demand 3 says of it
+pub at-the-end : (p : Program Endpoint ℕ) → DemandOf p asRecords → (events : List (Event ℕ)) → ((w : World Endpoint) → AllFit p w events)
+    → Holds p asRecords (run p start events)
 unfolding givenOf freshOf
-at-the-end p makes demand events fit = demand terms _ _ (rw makes refl) (rw makes refl) events (fit _)
+at-the-end p demand events fit =
+    demand terms (freshClient producer leastLimit) (freshServer consumer) (record { given = refl; holds = refl; none-due = refl })
+    (record { given = refl; holds = refl; none-due = refl }) events (fit start)

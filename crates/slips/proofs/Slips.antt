@@ -16,21 +16,21 @@ use Rattle.slips.proofs.Runs.{agreeing, at-rest, at-the-end, calls, hea
 pub reading-low-byte-first-fails : ReadingLowByteFirstFails
 unfolding running
 reading-low-byte-first-fails demand =
-    let holds = at-the-end readingLowByteFirst refl demand (agreeing 1 1 []) (λ w. omega arith) in
+    let holds = at-the-end readingLowByteFirst demand (agreeing 1 1 []) (λ w. omega arith) in
     absurd (omega (arith, ap (λ (counts : List ℕ). getD counts 0 0) (holds .readies-lead Client .1)))
 
 -- of an offer of 1 a batch of 2 is agreed
 pub agreeing-above-offer-fails : AgreeingAboveOfferFails
 unfolding running
 agreeing-above-offer-fails demand =
-    let holds = at-the-end agreeingAboveOffer refl demand (agreeing 1 2 []) (λ w. omega arith) in
+    let holds = at-the-end agreeingAboveOffer demand (agreeing 1 2 []) (λ w. omega arith) in
     absurd (omega (arith, holds .within-offers Server .0))
 
 -- one DATA was sent, none accepted, and nothing is on its way
 pub losing-data-fails : LosingDataFails
 unfolding running
 losing-data-fails demand =
-    let holds = at-the-end losingData refl demand (agreeing 1 1 (calls Client (DATA 0 false []) ∷ hears Server ∷ [])) (λ w. omega arith) in
+    let holds = at-the-end losingData demand (agreeing 1 1 (calls Client (DATA 0 false []) ∷ hears Server ∷ [])) (λ w. omega arith) in
     clash (ap length (holds .nothing-lost Server (λ closed. clash cc) refl))
 
 -- in a batch of 1 two DATA are accepted
@@ -38,7 +38,7 @@ pub running-past-count-fails : RunningPastCountFails
 unfolding running
 running-past-count-fails demand =
     let twice = calls Client (DATA 0 false []) ∷ hears Server ∷ calls Client (DATA 0 false []) ∷ hears Server ∷ [] in
-    let holds = at-the-end runningPastCount refl demand (agreeing 1 1 twice) (λ w. omega arith) in
+    let holds = at-the-end runningPastCount demand (agreeing 1 1 twice) (λ w. omega arith) in
     absurd (omega (arith, holds .within))
 
 -- in a batch of 2 one DATA is confirmed: the client is idle and waits for an offer, and the server is in the batch and may make none
@@ -46,5 +46,5 @@ pub counting-confirmations-fails : CountingConfirmationsFails
 unfolding running
 counting-confirmations-fails demand =
     let once = calls Client (DATA 0 true []) ∷ hears Server ∷ hears Client ∷ [] in
-    let holds = at-the-end countingConfirmations refl demand (agreeing 2 2 once) (λ w. omega arith) in
+    let holds = at-the-end countingConfirmations demand (agreeing 2 2 once) (λ w. omega arith) in
     absurd (omega (arith, holds .may-send (at-rest _ refl refl refl refl) .accepted room (omega arith)))
