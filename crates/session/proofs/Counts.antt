@@ -20,7 +20,7 @@ use Rattle.session.specs.World.{End, across, Datum, Ending, History, dat
 use Rattle.session.specs.Packets.{Packet, rowMessage, typeDataIn, dataIn, readyIn, Called, Confirms, Closes}
 use Rattle.session.specs.Turns.{roleOf}
 use Rattle.session.specs.Demand.{agreed, offered, sum, newest, nonZero, EachAtMost}
-use Rattle.session.specs.Invariant.{left, Within, Taken, Counted}
+use Rattle.session.specs.Invariant.{left, Within, OffersTaken, Counted}
 use Rattle.session.proofs.Table.{Begun, nothing, something, Moved, opens, offers, takes, gives, rests, closes}
 
 -- how many data a message carries
@@ -147,22 +147,22 @@ offering Server message count = readyCount message count
 
 module _ (counts made : List ℕ) where
   -- a message that makes and answers no offer, where none is open
-  others-taken : {phase n next m : ℕ} → phase ≤ batch → (phase ≡ offer → ⊥) → (next ≡ offer → ⊥) → Taken counts made phase n
-      → Taken (counts ++ []) (made ++ []) next m
+  others-taken : {phase n next m : ℕ} → phase ≤ batch → (phase ≡ offer → ⊥) → (next ≡ offer → ⊥) → OffersTaken counts made phase n
+      → OffersTaken (counts ++ []) (made ++ []) next m
   others-taken low neither later t =
       simp append-nil
       (record { each = t .each; answered = []; open-offer = λ is. absurd (later is); no-offer = λ still other. t .no-offer low neither })
 
-  rests-taken : {phase n : ℕ} → Taken counts made phase n → Taken (counts ++ []) (made ++ []) phase n
+  rests-taken : {phase n : ℕ} → OffersTaken counts made phase n → OffersTaken (counts ++ []) (made ++ []) phase n
   rests-taken t = simp append-nil t
 
-  closes-taken : {phase n : ℕ} → Taken counts made phase n → Taken counts made shut 0
+  closes-taken : {phase n : ℕ} → OffersTaken counts made phase n → OffersTaken counts made shut 0
   closes-taken t =
       record { each = t .each; answered = []; open-offer = λ is. absurd (omega (arith, is)); no-offer = λ low other. absurd (omega (arith, low)) }
 
   -- an offer of 0 is none
-  offers-taken : {phase n count next m : ℕ} → phase ≤ idle → Begun offer count next m → Taken counts made phase n
-      → Taken (counts ++ []) (made ++ nonZero (count ∷ [])) next m
+  offers-taken : {phase n count next m : ℕ} → phase ≤ idle → Begun offer count next m → OffersTaken counts made phase n
+      → OffersTaken (counts ++ []) (made ++ nonZero (count ∷ [])) next m
   offers-taken high (nothing none) t = rw none (others-taken (omega (arith, high)) (λ is. omega (arith, is, high)) (λ is. omega (arith, is)) t)
   offers-taken {count = count} high (something some) t =
       simp (ne-eqb count 0 (λ none. omega (arith, none, some)), append-nil)
@@ -173,8 +173,8 @@ module _ (counts made : List ℕ) where
         no-offer = λ low other. absurd (other refl);
       })
 
-  takes-taken : {phase n count next m : ℕ} → phase ≡ offer → count ≤ n → Begun batch count next m → Taken counts made phase n
-      → Taken (counts ++ (count ∷ [])) (made ++ []) next m
+  takes-taken : {phase n count next m : ℕ} → phase ≡ offer → count ≤ n → Begun batch count next m → OffersTaken counts made phase n
+      → OffersTaken (counts ++ (count ∷ [])) (made ++ []) next m
   takes-taken {n = n} {count = count} offered few begins t =
       let last = t .open-offer offered in
       let long = ap length (last .0) ∙ length-append (t .answered) (n ∷ []) in
@@ -190,7 +190,8 @@ module _ (counts made : List ℕ) where
 
   -- the row of a message leads its writer and its hearer from offers taken to offers taken
   row-taken : (writer : End) {flow phase n type-data next m : ℕ} {message : MessageType} → Moved (roleOf writer) flow phase n message type-data next m
-      → Taken counts made phase n → Taken (counts ++ agreement writer message type-data) (made ++ nonZero (offering writer message type-data)) next m
+      → OffersTaken counts made phase n
+      → OffersTaken (counts ++ agreement writer message type-data) (made ++ nonZero (offering writer message type-data)) next m
   row-taken Client (opens is-client begins) t = others-taken (omega (arith, begins)) (λ is. omega (arith, is, begins)) (λ is. omega (arith, is)) t
   row-taken Client (offers differs low high begins) t = absurd (differs refl)
   row-taken Client (takes is-client offered few begins) t = takes-taken offered few begins t

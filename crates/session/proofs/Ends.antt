@@ -24,7 +24,7 @@ use Rattle.session.specs.Packets.{Packet, dataIn, readyIn, queuedIn, row
 use Rattle.session.specs.Turns.{roleOf, Standing, nothing, empty, ahead, producing}
 use Rattle.session.specs.Demand.{agreed, offered, Ledger, nothingDue, Fresh, PhaseFits}
 use Rattle.session.specs.Confirmations.{Awaits}
-use Rattle.session.specs.Invariant.{Within, Taken, Delivers, Knows, Model, Settled, OneEnd, Linked, Joint, source, Proper, AllProper}
+use Rattle.session.specs.Invariant.{Within, OffersTaken, Delivers, Knows, Model, Settled, OneEnd, Linked, Joint, source, Proper, AllProper}
 use Rattle.session.specs.Laws.{answersIn, Comes, limitAfter, SentOn}
 use Rattle.session.proofs.Table.{Moved, opens, offers, takes, gives, rests, closes, row-moved, moved-low, Landed, goes-on, closes-both}
 use Rattle.session.proofs.Table.{moved-lands}
@@ -45,7 +45,7 @@ nothing-agreed : (end : End) → Within (agreed end noHistory) 0 0 fresh 0
 nothing-agreed Client = record { in-all = omega arith; in-newest = omega arith }
 nothing-agreed Server = record { in-all = omega arith; in-newest = omega arith }
 
-nothing-offered : (end : End) → Taken (agreed end noHistory) (offered end noHistory) fresh 0
+nothing-offered : (end : End) → OffersTaken (agreed end noHistory) (offered end noHistory) fresh 0
 nothing-offered Client = record { each = tt; answered = []; open-offer = λ is. absurd (omega (arith, is)); no-offer = λ low other. refl }
 nothing-offered Server = record { each = tt; answered = []; open-offer = λ is. absurd (omega (arith, is)); no-offer = λ low other. refl }
 

@@ -35,7 +35,7 @@ use Rattle.session.proofs.Table.{Sends, calms, Moved, opens, gives, row
 use Rattle.session.proofs.Turns.{across-differs, sends-converge, refuses-converge}
 use Rattle.session.proofs.Streams.{hears-awaits, gone-awaits, across-hears-awaits, across-gone-awaits, writes-delivers, hears-delivers}
 use Rattle.session.proofs.Streams.{gone-delivers}
-use Rattle.session.specs.Laws.{answersIn, MayTake, offeredIn, Heard}
+use Rattle.session.specs.Laws.{answersIn, MayTake, offeredIn, HeardOn}
 use Rattle.session.proofs.Packets.{isOpenMessage, OpenOrOther, an-open, another, open-or-other}
 use Rattle.session.proofs.Ends.{took, tookIn, hearer-knows, heard-sides, refused-sides}
 
@@ -229,7 +229,7 @@ module _ {A : Type 0} (terms : Terms) (model : Model A) where
             }
 
         -- a packet that was heard
-        pub heard-linked : (result : ReceiveOutcome A) → Heard model e dues m (phaseIn a) (nIn a) later result
+        pub heard-linked : (result : ReceiveOutcome A) → HeardOn model e dues m (phaseIn a) (nIn a) later result
             → (name format : List ℕ) → offeredIn m e name format ≡ true → Converge (source terms) end a p (standing y) q
             → Linked terms (model .rules) end (tookIn (model .rules .prompt) end x m (model .view .endpoint (result .next))) (withQueue y (map queuedIn q))
             (p ++ answersIn (model .rules .prompt) m) q (model .view .ledger (result .next)) dues-across

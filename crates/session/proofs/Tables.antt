@@ -40,7 +40,7 @@ use Rattle.machine.specs.Good.{Fits, Sound}
 use Rattle.machine.proofs.Refusals.{refused-send-stays}
 use Rattle.session.specs.World.{Terms, Side}
 use Rattle.session.specs.Demand.{MayAnswer, other-pipe, other-format, promptLedger, nothingDue}
-use Rattle.session.specs.Laws.{MayRefuse, onRecords, OpenRefused, MayCall, Heard, TablesLaws}
+use Rattle.session.specs.Laws.{MayRefuse, onRecords, OpenRefused, MayCall, HeardOn, TablesLaws}
 use Rattle.session.specs.Packets.{bytesIn}
 use Rattle.session.proofs.Taking.{call-leads, call-small, packet-taken}
 use Rattle.session.proofs.Ends.{fresh-sound}
@@ -193,7 +193,7 @@ tables-laws =
       moves = λ e call room sound fits number. sent-on e call room sound fits number;
       stays = λ e call room sound fits refused. ap (λ (s : Sent). s .next) (refused-send-stays e call room refused);
       hears = λ terms end e m name format room phase n rest sound enough may.
-          subst (λ (received : Received). Heard onRecords e (promptLedger e) m phase n rest (outcomeOf (bytesIn m) received))
+          subst (λ (received : Received). HeardOn onRecords e (promptLedger e) m phase n rest (outcomeOf (bytesIn m) received))
           (sym (received-heard e (may .sound) (bytesIn m) name format room enough))
           (packet-taken terms end e m name format phase n rest may);
       refuses = λ terms x y e asked wanted name format room sound enough may.

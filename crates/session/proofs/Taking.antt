@@ -39,7 +39,7 @@ use Rattle.session.specs.World.{End, Terms}
 use Rattle.session.specs.Packets.{Packet, bytesIn, bodySent, Called, Confirms, Closes}
 use Rattle.session.specs.Demand.{promptLedger}
 use Rattle.session.specs.Confirmations.{askedIn, confirmedIn, entryFor}
-use Rattle.session.specs.Laws.{answersIn, onRecords, Comes, limitAfter, MayTake, Heard}
+use Rattle.session.specs.Laws.{answersIn, onRecords, Comes, limitAfter, MayTake, HeardOn}
 use Rattle.session.proofs.Packets.{row-awaited, row-comes}
 
 -- ---- a call
@@ -210,7 +210,7 @@ confirms-all m = append-nil (flatMap confirmedIn (answersIn (λ message. true) m
 
 -- what comes of a packet by the tables
 abbrev pub TakenBy : Endpoint → Packet → List ℕ → List ℕ → ℕ → ℕ → (ℕ → List Entry) → Type 0
-TakenBy r m name format phase n rest = Heard onRecords r (promptLedger r) m phase n rest (outcomeOf (bytesIn m) (hearOf r (bytesIn m) name format))
+TakenBy r m name format phase n rest = HeardOn onRecords r (promptLedger r) m phase n rest (outcomeOf (bytesIn m) (hearOf r (bytesIn m) name format))
 
 module _ (terms : Terms) (end : End) (r : Endpoint) where
   call-taken : (e : Endpoint) (call : Call) (name format : List ℕ) (phase n : ℕ) (rest : ℕ → List Entry)

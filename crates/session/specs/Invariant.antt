@@ -4,7 +4,7 @@
 -- Endings (`PhaseFits`): an end is in phase 5 where it wrote or heard a CLOSE, and nowhere else.
 -- Packets (`queued`, `proper`): each queue holds the messages of calls that were accepted, confirmations and refusals' CLOSEs.
 -- Terms (`Settled`): a client always, and a server from the OPEN until it closes, has the client's limit and agrees on who produces.
--- Counts (`Within`, `Taken`): what was sent and accepted, with what is left of the batch, is at most what was agreed, in all and in the newest
+-- Counts (`Within`, `OffersTaken`): what was sent and accepted, with what is left of the batch, is at most what was agreed, in all and in the newest
 -- batch; and each batch agreed is at most its offer, of which at most one is still to be answered.
 -- Confirmations (`Awaits`), each way: those awaited are those on the way back, then those owed, then those still asked for; the latter two are lost
 -- once the other has closed.
@@ -41,7 +41,7 @@ pub record Within (counts : List ℕ) (all recent phase n : ℕ) : Type 0 where
   pub in-newest : recent + left phase n ≤ newest counts
 
 -- what was agreed is at most what was offered; in phase 3 the last offer is n and still to be answered, in the others all are answered
-pub record Taken (counts offers : List ℕ) (phase n : ℕ) : Type 0 where
+pub record OffersTaken (counts offers : List ℕ) (phase n : ℕ) : Type 0 where
   pub each : EachAtMost counts offers
   pub answered : List ℕ
   pub open-offer : phase ≡ offer → (offers ≡ answered ++ (n ∷ [])) × (length answered ≡ length counts)
@@ -49,7 +49,7 @@ pub record Taken (counts offers : List ℕ) (phase n : ℕ) : Type 0 where
 
 pub record Counted (end : End) (past : History) (e : Endpoint) : Type 0 where
   pub within : Within (agreed end past) (length (past .sent) + length (past .accepted)) (length (past .recent)) (e .phase) (e .n)
-  pub taken : Taken (agreed end past) (offered end past) (e .phase) (e .n)
+  pub taken : OffersTaken (agreed end past) (offered end past) (e .phase) (e .n)
 
 -- an end at b has heard what was sent, but for what p carries to it
 pub record Delivers {A : Type 0} (carried : Packet → List A) (sent : List A) (p : List Packet) (b : Standing) (heard : List A) : Type 0 where

@@ -115,7 +115,7 @@ module _ {A : Type 0} (model : Model A) where
     pub owes : (line : ℕ) → (phase ≡ shut → ⊥) → model .view .ledger (result .next) .owes line ≡ left line
 
   -- a packet that is heard: it is told as it was sent, and confirmed at once or owed
-  pub record Heard (r : Endpoint) (dues : Ledger) (m : Packet) (phase n : ℕ) (rest : ℕ → List Entry) (result : ReceiveOutcome A) : Type 0 where
+  pub record HeardOn (r : Endpoint) (dues : Ledger) (m : Packet) (phase n : ℕ) (rest : ℕ → List Entry) (result : ReceiveOutcome A) : Type 0 where
     pub answered : result .number ≡ 0
     pub told : result .told ≡ toldIn m
     pub replied : result .replied ≡ map bytesIn (answersIn (model .rules .prompt) m)
@@ -158,7 +158,7 @@ module _ {A O : Type 0} (p : Program A O) (model : Model A) where
     -- a move is heard
     pub hears : (terms : Terms) (end : End) (self : A) (m : Packet) (name format : List ℕ) (out : O) (phase n : ℕ) (rest : ℕ → List Entry)
         → model .Fine self → 14 ≤ p .room out → MayTake (model .rules) terms end (endpoint self) (ledger self) m name format phase n rest
-        → Heard model (endpoint self) (ledger self) m phase n rest (p .receive self (queuedIn m) name format out)
+        → HeardOn model (endpoint self) (ledger self) m phase n rest (p .receive self (queuedIn m) name format out)
     -- an OPEN for what is not offered is refused
     pub refuses : (terms : Terms) (x : Side A) (y : Side Endpoint) (e : Endpoint) (asked wanted : List ℕ) (name format : List ℕ) (out : O)
         → model .Fine (x .self) → 14 ≤ p .room out

@@ -1,0 +1,132 @@
+//! What two ends have sent and heard since both were made, and what demand 3 says of it at every moment.
+//!
+//! What is over is not kept: data that were accepted, and offers that were answered.
+
+use std::collections::VecDeque;
+
+use crate::endpoint::{Heard, Send, CLOSE, READY};
+
+/// The two ends.
+pub const CLIENT: usize = 0;
+pub const SERVER: usize = 1;
+pub const ENDS: [usize; 2] = [CLIENT, SERVER];
+
+/// What a DATA carries: its type-data and its body.
+type Item = (u64, Vec<u8>);
+
+/// What one end has sent and heard. Each READY counts where this end sent or heard it.
+#[derive(Clone, Default, PartialEq, Eq, Hash)]
+struct History {
+    /// Whether it wrote a CLOSE, the one that refuses an OPEN included, and whether it heard one.
+    has_closed: bool,
+    heard_close: bool,
+    /// The non-zero READYs of the server to which there is no READY of the client yet, the oldest first.
+    offers: VecDeque<u64>,
+    /// How many data it may still send or accept in its batch.
+    left: u64,
+    /// The data that the other end sent and it has not accepted, the oldest first.
+    due: VecDeque<Item>,
+}
+
+impl History {
+    /// A READY of the server, which offers a batch unless it is READY(0).
+    fn offer(&mut self, count: u64) {
+        if count != 0 {
+            self.offers.push_back(count);
+        }
+    }
+
+    /// A READY of the client. A batch agreed is never more than its offer: the i-th READY of the client is at most the
+    /// i-th non-zero READY of the server, and there are no more of the client's than of those.
+    fn agree(&mut self, count: u64) {
+        let offer = self.offers.pop_front().expect("there are no more READYs of the client than offers");
+        assert!(count <= offer, "a batch agreed is never more than its offer");
+        self.left = count;
+    }
+
+    /// A DATA sent or accepted. Each end stays within what it agreed: the data that it sent and accepted are no more than
+    /// the counts of the client's READYs, in each batch and so in all batches together.
+    fn carry(&mut self) {
+        let left = self.left.checked_sub(1);
+        self.left = left.expect("an end sends and accepts no more data than it agreed to");
+    }
+
+    /// A DATA accepted. The data accepted are a leading part of those that the other end sent.
+    fn accept(&mut self, type_data: u64, body: &[u8]) {
+        let next = self.due.pop_front();
+        let is_next = matches!(next, Some(sent) if sent.0 == type_data && sent.1 == body);
+        assert!(is_next, "data are accepted as they were sent");
+        self.carry();
+    }
+
+    /// Nothing is lost: an end that has not itself written a CLOSE, and to which nothing is on its way, has accepted all
+    /// data that the other end sent. This holds also of an end that heard a CLOSE.
+    fn lost_nothing(&self, on_their_way: usize) -> bool {
+        self.has_closed || on_their_way != 0 || self.due.is_empty()
+    }
+
+    /// Nothing is on its way to an end that heard a CLOSE.
+    fn is_quiet(&self, on_their_way: usize) -> bool {
+        !self.heard_close || on_their_way == 0
+    }
+}
+
+/// The histories of both ends; new ones where both ends are made, and made again.
+#[derive(Clone, Default, PartialEq, Eq, Hash)]
+pub struct Histories([History; 2]);
+
+impl Histories {
+    /// Whether an end has itself written a CLOSE.
+    pub fn has_closed(&self, end: usize) -> bool {
+        self.0[end].has_closed
+    }
+
+    /// Notes a message that an end sent.
+    pub fn note_sent(&mut self, end: usize, send: &Send) {
+        match send {
+            Send::Ready { count } => self.note_ready(end, end, u64::from(*count)),
+            Send::Data { type_data, body, .. } => {
+                self.0[end].carry();
+                self.0[1 - end].due.push_back((u64::from(*type_data), body.clone()));
+            }
+            Send::Close { .. } => self.0[end].has_closed = true,
+            Send::Open { .. } | Send::Noop { .. } => {}
+        }
+    }
+
+    /// Notes the CLOSE with which an end refuses an OPEN.
+    pub fn note_refusal(&mut self, end: usize) {
+        self.0[end].has_closed = true;
+    }
+
+    /// Notes a message other than data that an end heard.
+    pub fn note_heard(&mut self, end: usize, heard: &Heard) {
+        match heard[0] as u8 {
+            READY => self.note_ready(end, 1 - end, heard[2]),
+            CLOSE => self.0[end].heard_close = true,
+            _ => {}
+        }
+    }
+
+    /// Notes a DATA that an end accepted.
+    pub fn note_accepted(&mut self, end: usize, type_data: u64, body: &[u8]) {
+        self.0[end].accept(type_data, body);
+    }
+
+    /// Notes a READY that one of the ends sent, at the end itself or where the other hears it.
+    fn note_ready(&mut self, end: usize, sender: usize, count: u64) {
+        if sender == SERVER {
+            self.0[end].offer(count);
+        } else {
+            self.0[end].agree(count);
+        }
+    }
+
+    /// Watches what holds at every moment, where so many messages are on their way to each end.
+    pub fn watch(&self, on_their_way: [usize; 2]) {
+        for (history, on_their_way) in self.0.iter().zip(on_their_way) {
+            assert!(history.lost_nothing(on_their_way), "nothing is lost on its way to an end that has not closed");
+            assert!(history.is_quiet(on_their_way), "nothing is on its way to an end that heard a CLOSE");
+        }
+    }
+}
