@@ -11,7 +11,7 @@ mod state;
 pub use copies::{made, received, sent};
 pub use histories::{Histories, CLIENT, ENDS, SERVER};
 pub use receive::{receive, Heard};
-pub use rest::{send_at_rest, watch_rest};
+pub use rest::{agree_at_rest, send_at_rest};
 pub use send::{send, Send};
 pub use state::{Awaited, Entry, Flow, Phase, Role, State, BLOCK, LIMITS, MOST_AWAITED};
 

@@ -35,4 +35,4 @@ refusing-stops p refuses goes =
     let server-fresh = made-are-fresh (AsServer consumer) _ madeServer server-made in
     let still = goes terms madeClient madeServer fresh server-fresh [] tt (made-rests madeClient madeServer) in
     let room = length (written (loadOf (side (begun madeClient madeServer) (still .end) .self)) (still .call)) in
-    refuses .refuses-calls _ _ _ (still .may .accepted (replicate room 0) (omega (arith, length-replicate {A = ℕ} room 0)))
+    refuses .refuses-calls _ _ _ (still .may .accepted (replicate room 0) (omega (arith, length-replicate {A = ℕ} room 0)) .0)

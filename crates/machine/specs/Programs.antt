@@ -28,11 +28,11 @@ abbrev pub freshBy : Making → Endpoint
 freshBy (AsClient flow limit) = freshClient flow limit
 freshBy (AsServer flow) = freshServer flow
 
--- what a call is told beside type-data and body: 1 for an ask
+-- the options that a call is given: 1 for an ask
 abbrev pub howOf : Call → ℕ
 howOf call = cond (askOf call) ackRequest 0
 
--- a message on its way: its bytes, and what the call that wrote it was told, 0 for a reply
+-- a message on its way: its bytes, and the options of the call that wrote it, 0 for a reply
 pub record Queued : Type 0 where
   pub bytes : List ℕ
   pub how : ℕ

@@ -1,7 +1,7 @@
 -- A run of one end: whatever is done to it, in any order, and what comes of each act.
 use Prim.Native.Nat.{ℕ}
 use mathlib.Core.List.{List, [], _∷_, _++_, map}
-use mathlib.Core.Bool.{cond}
+use mathlib.Core.Bool.{Bool, cond, _||_}
 use lib.Dec.{eqb}
 use Rattle.sending.specs.Calls.{Call}
 use Rattle.machine.specs.Programs.{Making, howOf, Queued, Told, nothingTold, Program}
@@ -19,9 +19,13 @@ pub record Done (A : Type 0) : Type 0 where
   pub wrote : List Queued
   pub next : A
 
--- a reply was told nothing
+-- a reply was given no options
 abbrev pub asReply : List ℕ → Queued
 asReply bytes = record { bytes = bytes; how = 0 }
+
+-- a receive that answers 1 or 2 has not taken the message, and one that answers 3 has passed it over
+abbrev pub isKept : ℕ → Bool
+isKept number = eqb number 1 || eqb number 2
 
 module _ {A O : Type 0} (p : Program A O) where
   abbrev pub doneBy : A → Act O → Done A
@@ -42,17 +46,27 @@ module _ {A O : Type 0} (p : Program A O) where
         next = p .receive self m name format out .next;
       }
 
-  -- what comes of each of these acts, in their order
-  abbrev pub doneIn : A → List (Act O) → List (Done A)
-  doneIn self [] = []
-  doneIn self (act ∷ rest) = doneBy self act ∷ doneIn (doneBy self act .next) rest
+  -- the message that an act takes
+  abbrev pub takenBy : A → Act O → List Queued
+  takenBy self (Makes making) = []
+  takenBy self (Sends call out) = []
+  takenBy self (Receives m name format out) = cond (isKept (p .receive self m name format out .number)) [] (m ∷ [])
 
-  -- the state that they leave
+  -- the state that these acts leave
   abbrev pub leftIn : A → List (Act O) → A
   leftIn self [] = self
   leftIn self (act ∷ rest) = leftIn (doneBy self act .next) rest
 
-  -- and the messages that they wrote, oldest first
+  -- what is gathered of each of them, in their order: what came of it, the messages that it wrote, and those that it took
+  abbrev pub gatheredIn : {B : Type 0} → (A → Act O → List B) → A → List (Act O) → List B
+  gatheredIn each self [] = []
+  gatheredIn each self (act ∷ rest) = each self act ++ gatheredIn each (doneBy self act .next) rest
+
+  abbrev pub doneIn : A → List (Act O) → List (Done A)
+  doneIn self acts = gatheredIn (λ before act. doneBy before act ∷ []) self acts
+
   abbrev pub wroteIn : A → List (Act O) → List Queued
-  wroteIn self [] = []
-  wroteIn self (act ∷ rest) = doneBy self act .wrote ++ wroteIn (doneBy self act .next) rest
+  wroteIn self acts = gatheredIn (λ before act. doneBy before act .wrote) self acts
+
+  abbrev pub takenIn : A → List (Act O) → List Queued
+  takenIn self acts = gatheredIn takenBy self acts

@@ -19,7 +19,7 @@ use Rattle.machine.specs.Good.{Sound}
 use Rattle.session.specs.World.{End, across, Datum, Ending, History, dataSent, readyCount, recentAfter, afterCall, afterMessage, Client, Server}
 use Rattle.session.specs.Packets.{Packet, rowMessage, typeDataIn, dataIn, readyIn, Called, Confirms, Closes}
 use Rattle.session.specs.Turns.{roleOf}
-use Rattle.session.specs.Demand.{agreed, offered, sum, newest, nonZero, EachAtMost}
+use Rattle.session.specs.Demand.{agreed, offersAt, sum, newest, nonZero, EachAtMost}
 use Rattle.session.specs.Invariant.{left, Within, OffersTaken, Counted}
 use Rattle.session.proofs.Table.{Begun, nothing, something, Moved, opens, offers, takes, gives, rests, closes}
 
@@ -217,7 +217,7 @@ called-agreed Client past call = refl
 called-agreed Server past call = rw append-nil refl
 
 called-offered : (end : End) (past : History) (call : Call)
-    → offered end (afterCall end past call) ≡ offered end past ++ nonZero (offering end (messageOf call) (typeDataOf call))
+    → offersAt end (afterCall end past call) ≡ offersAt end past ++ nonZero (offering end (messageOf call) (typeDataOf call))
 called-offered Client past call = rw append-nil refl
 called-offered Server past call = non-zero-append (past .readies) (readyCount (messageOf call) (typeDataOf call))
 
@@ -228,8 +228,8 @@ module _ (past : History) (m : Packet) (arrived : List Datum) (ending : Ending) 
   heard-agreed Server = refl
 
   heard-offered : (end : End)
-      → offered end (afterMessage end past arrived (readyIn m) ending)
-      ≡ offered end past ++ nonZero (offering (across end) (rowMessage m) (typeDataIn m))
+      → offersAt end (afterMessage end past arrived (readyIn m) ending)
+      ≡ offersAt end past ++ nonZero (offering (across end) (rowMessage m) (typeDataIn m))
   heard-offered Client = non-zero-append (past .readies-heard) (readyIn m)
   heard-offered Server = rw append-nil refl
 
@@ -253,7 +253,7 @@ module _ (end : End) (e : Endpoint) (sound : Sound e) (past : History) (counted 
             });
         taken =
             rw (called-agreed end past call, called-offered end past call, phased, numbered)
-            (row-taken (agreed end past) (offered end past) end moves (counted .taken));
+            (row-taken (agreed end past) (offersAt end past) end moves (counted .taken));
       }
 
   -- an end hears what the other wrote
@@ -273,7 +273,7 @@ module _ (end : End) (e : Endpoint) (sound : Sound e) (past : History) (counted 
             });
         taken =
             rw (heard-agreed past m (dataIn m) ending end, heard-offered past m (dataIn m) ending end, phased, numbered)
-            (row-taken (agreed end past) (offered end past) (across end) moves (counted .taken));
+            (row-taken (agreed end past) (offersAt end past) (across end) moves (counted .taken));
       }
 
 -- an end closes
@@ -282,7 +282,7 @@ nothing-agreed : (end : End) (past : History) (ending : Ending) → agreed end (
 nothing-agreed Client past ending = refl
 nothing-agreed Server past ending = append-nil (past .readies-heard)
 
-nothing-offered : (end : End) (past : History) (ending : Ending) → offered end (afterMessage end past [] [] ending) ≡ offered end past
+nothing-offered : (end : End) (past : History) (ending : Ending) → offersAt end (afterMessage end past [] [] ending) ≡ offersAt end past
 nothing-offered Client past ending = ap nonZero (append-nil (past .readies-heard))
 nothing-offered Server past ending = refl
 
@@ -298,5 +298,5 @@ closed-counted end e past counted ending =
             in-newest = omega (arith, counted .within .in-newest, length-append (past .recent) []);
           });
       taken =
-          rw (nothing-agreed end past ending, nothing-offered end past ending) (closes-taken (agreed end past) (offered end past) (counted .taken));
+          rw (nothing-agreed end past ending, nothing-offered end past ending) (closes-taken (agreed end past) (offersAt end past) (counted .taken));
     }

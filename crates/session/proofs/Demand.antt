@@ -13,15 +13,15 @@ use Rattle.endpoint.specs.declared.Entry.{Entry}
 use Rattle.endpoint.specs.Record.{fresh, opening, idle, offer, batch}
 use Rattle.sending.specs.Calls.{Call, OPEN, READY, DATA}
 use Rattle.machine.specs.Programs.{Queued, Program, tables}
-use Rattle.session.specs.World.{End, across, Datum, Ending, Side, World, Event, AllFit, side, joined, withQueue, afterReceive, step, run, begun}
+use Rattle.session.specs.World.{End, across, Ending, Side, World, Event, AllFit, side, joined, withQueue, afterReceive, step, run, begun}
 use Rattle.session.specs.World.{viewedSide, Client, Server, Going, HeardClose, WroteClose, receives}
-use Rattle.session.specs.Packets.{Packet, queuedIn, dataIn}
-use Rattle.session.specs.Turns.{producing, turn, Stage, IsOpen, Listens, stands, standing}
+use Rattle.session.specs.Packets.{Packet, queuedIn, dataIn, readyIn}
+use Rattle.session.specs.Turns.{producing, turn, Stage, stageOf, Standing, IsOpen, Listens, stands, standing, Converge, ClosedByOther, ClosedByItself}
 use Rattle.session.specs.Demand.{MayAnswer, PhaseFits, agreed, sum, nextEnd, nextCall, AtRest, MaySend, Demand}
 use Rattle.session.specs.Confirmations.{askedIn, confirmedIn}
-use Rattle.session.specs.Invariant.{Model, source, Linked, Joint, Invariant}
+use Rattle.session.specs.Invariant.{Delivers, Model, source, Linked, Joint, Invariant}
 use Rattle.session.specs.Laws.{Laws, InvariantHolds, LawsSuffice, onRecords}
-use Rattle.session.proofs.Turns.{rests-converge, shut-converge}
+use Rattle.session.proofs.Turns.{rests-converge, shut-across, shut-converge, close-converge}
 use Rattle.session.proofs.Speaking.{Speaks, speaks-sent, opens-first, offers-one, takes-all, gives-data}
 use Rattle.session.proofs.Tables.{tables-laws}
 use Rattle.session.proofs.Step.{seen-from, head-delivered, start-keeps, step-keeps}
@@ -48,6 +48,23 @@ listens-still x = go (x .past .ending)
     go Going still = tt
     go HeardClose still = tt
     go WroteClose still = absurd (still refl)
+
+-- what was sent is heard where nothing is on its way to an end that listens
+all-heard : {A : Type 0} (carried : Packet → List A) {sent heard : List A} {p : List Packet} {b : Standing} → Delivers carried sent p b heard → Listens b
+    → p ≡ [] → heard ≡ sent
+unfolding flatMap
+all-heard {A = A} carried {heard = heard} delivers listens none =
+    sym
+    (delivers .whole ∙ ap (λ (rest : List A). heard ++ rest) (delivers .due listens ∙ ap (flatMap carried) none) ∙ append-nil heard)
+
+-- how an end has ended, by where it stands
+wrote-close : (x : Side Endpoint) → standing x ≡ ClosedByItself → x .past .ending ≡ WroteClose
+wrote-close x = go (x .past .ending)
+  where
+    go : (ending : Ending) → stands ending (x .self) ≡ ClosedByItself → ending ≡ WroteClose
+    go Going same = clash cc
+    go HeardClose same = clash cc
+    go WroteClose same = refl
 
 is-open : (x : Side Endpoint) → x .past .ending ≡ Going → IsOpen (standing x)
 is-open x going = rw (ap (λ (ending : Ending). stands ending (x .self)) going) tt
@@ -89,17 +106,6 @@ module _ {A O : Type 0} (prog : Program A O) (model : Model A) (laws : Laws prog
       let kept : withQueue y (m ∷ rest) ≡ y = ap (withQueue y) (sym queued) in
       (rw short refl, simp (queued, short, append-nil) (ap (joined end (side w end)) kept ∙ joined-sides w end))
 
-  -- nothing is lost
-  all-arrived : (end : End) → (side w end .past .ending ≡ WroteClose → ⊥) → side w (across end) .queue ≡ []
-      → side w end .past .accepted ≡ side w (across end) .past .sent
-  unfolding flatMap
-  all-arrived end still none =
-      let back = joint end .linked .delivers-across in
-      let empty-queue = none-queued (joint end .from-across) (sym (joint end .linked .there .queued) ∙ none) in
-      let accepted : List Datum = side w end .past .accepted in
-      let rest-empty = back .due (listens-still (seen (side w end)) still) ∙ ap (flatMap dataIn) empty-queue in
-      sym (back .whole ∙ ap (λ (rest : List Datum). accepted ++ rest) rest-empty ∙ append-nil accepted)
-
   -- "and never more than the batches agreed"
   all-within : length (w .client .past .accepted) + length (w .server .past .accepted) ≤ sum (agreed Client (w .client .past))
   all-within =
@@ -116,10 +122,10 @@ module _ {A O : Type 0} (prog : Program A O) (model : Model A) (laws : Laws prog
     none-across end = none-queued (joint end .from-across) (sym (joint end .linked .there .queued) ∙ rest .none-coming (across end))
 
     -- what is awaited is what is owed
-    none-awaited : (end : End) (line : ℕ)
+    awaits-owed : (end : End) (line : ℕ)
         → model .view .ledger (side w end .self) .waits line ≡ model .view .ledger (side w (across end) .self) .owes line
     unfolding flatMap
-    none-awaited end line =
+    awaits-owed end line =
         let waits = joint end .linked .awaits line in
         let owes : List Entry = model .view .ledger (side w (across end) .self) .owes line in
         waits .held (is-open (seen (side w end)) (rest .going end))
@@ -138,13 +144,16 @@ module _ {A O : Type 0} (prog : Program A O) (model : Model A) (laws : Laws prog
         (model .view .ledger (w .client .self)) (model .view .ledger (w .server .self))
     linked = holds .joint .linked
 
-    -- both ends are in one phase
-    same-phase : here .phase ≡ there .phase
-    same-phase =
+    -- both ends are at one stage
+    same-stage : stageOf here ≡ stageOf there
+    same-stage =
         let none = none-queued (holds .joint .from-here) (sym (linked .here .queued) ∙ rest .none-coming Client) in
         let none-back = none-queued (holds .joint .from-across) (sym (linked .there .queued) ∙ rest .none-coming Server) in
-        let converge = rw (rest .going Client, rest .going Server, none, none-back) at (linked .converge) in
-        ap (λ (s : Stage). s .phase) (rests-converge (source (holds .terms)) Client converge)
+        rests-converge (source (holds .terms)) Client
+        (rw (rest .going Client, rest .going Server, none, none-back) at (linked .converge))
+
+    same-phase : here .phase ≡ there .phase
+    same-phase = ap (λ (s : Stage). s .phase) same-stage
 
     low : here .phase ≤ batch
     low = subst (λ (ending : Ending). PhaseFits ending (here .phase)) (rest .going Client) (linked .here .ends)
@@ -196,6 +205,38 @@ module _ {A O : Type 0} (prog : Program A O) (model : Model A) (laws : Laws prog
             (opens-first Client here (linked .here .sound) (linked .here .role) refl (eqb-true (here .phase) fresh begins))
         from-fresh false other = from-offer (eqb (here .phase) offer) refl (eqb-false (here .phase) fresh other)
 
+-- how the ends have closed
+module _ {A : Type 0} {model : Model A} (w : World A) (holds : Invariant model w) (end : End) where
+  abbrev at : Joint (holds .terms) model end (side w end) (side w (across end))
+  at = seen-from end w holds
+
+  abbrev seen-end : End → Side Endpoint
+  seen-end which = viewedSide (model .view .endpoint) (side w which)
+
+  module _ (closing : side w end .past .ending ≡ HeardClose) where
+    shut-there : Converge (source (holds .terms)) end ClosedByOther (at .from-here) (standing (seen-end (across end))) (at .from-across)
+    shut-there = rw (ap (λ (ending : Ending). stands ending (seen-end end .self)) closing) at (at .linked .converge)
+
+    none-behind : side w (across end) .queue ≡ []
+    none-behind = at .linked .there .queued ∙ ap (map queuedIn) (shut-converge (source (holds .terms)) end shut-there)
+
+    other-wrote : side w (across end) .past .ending ≡ WroteClose
+    other-wrote = wrote-close (seen-end (across end)) (shut-across (source (holds .terms)) end shut-there)
+
+  arrives : side w end .past .ending ≡ WroteClose → side w end .queue ≡ [] → side w (across end) .past .ending ≡ Going → ⊥
+  arrives wrote none going =
+      let gone = ap (λ (ending : Ending). stands ending (seen-end end .self)) wrote in
+      let still = ap (λ (ending : Ending). stands ending (seen-end (across end) .self)) going in
+      let empty-queue = none-queued (at .from-here) (sym (at .linked .here .queued) ∙ none) in
+      close-converge (source (holds .terms)) end (rw (gone, still, empty-queue) at (at .linked .converge))
+
+  all-arrived : (side w end .past .ending ≡ WroteClose → ⊥) → side w (across end) .queue ≡ []
+      → (side w end .past .accepted ≡ side w (across end) .past .sent) × (side w end .past .readies-heard ≡ side w (across end) .past .readies)
+  all-arrived still none =
+      let listens = listens-still (seen-end end) still in
+      let empty-queue = none-queued (at .from-across) (sym (at .linked .there .queued) ∙ none) in
+      (all-heard dataIn (at .linked .delivers-across) listens empty-queue, all-heard readyIn (at .linked .readies-across) listens empty-queue)
+
 pub invariant-holds : InvariantHolds
 invariant-holds A O prog model laws w holds =
     record {
@@ -203,21 +244,22 @@ invariant-holds A O prog model laws w holds =
       answers = λ end m rest queued.
           let at = joint prog model laws w holds end in
           head-answered prog model laws w holds end (at .from-across) refl m rest (sym (at .linked .there .queued) ∙ queued);
-      waits = short-answered prog model laws w holds;
-      nothing-after-close = λ end closing.
-          let at = joint prog model laws w holds end in
-          let seen : Side Endpoint = viewedSide (model .view .endpoint) (side w end) in
-          let gone = ap (λ (ending : Ending). stands ending (seen .self)) closing in
-          at .linked .there .queued ∙ ap (map queuedIn) (shut-converge (source (holds .terms)) end (rw gone at (at .linked .converge)));
+      no-room = short-answered prog model laws w holds;
       closed-by-phase = λ end. joint prog model laws w holds end .linked .here .ends;
+      close-was-written = other-wrote w holds;
+      nothing-after-close = none-behind w holds;
+      close-arrives = arrives w holds;
       data-leads = λ end. let back = joint prog model laws w holds end .linked .delivers-across in (back .rest, sym (back .whole));
       readies-lead = λ end. let back = joint prog model laws w holds end .linked .readies-across in (back .rest, sym (back .whole));
-      nothing-lost = all-arrived prog model laws w holds;
+      nothing-lost = all-arrived w holds;
       within = all-within prog model laws w holds;
       within-own = λ end. omega (arith, joint prog model laws w holds end .linked .here .counted .within .in-all);
       within-newest = λ end. omega (arith, joint prog model laws w holds end .linked .here .counted .within .in-newest);
       within-offers = λ end. joint prog model laws w holds end .linked .here .counted .taken .each;
-      none-awaited = none-awaited prog model laws w holds;
+      same-at-rest = λ rest.
+          let same = same-stage prog model laws w holds rest in
+          (ap (λ (s : Stage). s .phase) same, ap (λ (s : Stage). s .n) same);
+      awaits-what-is-owed = awaits-owed prog model laws w holds;
       may-send = speaking prog model laws w holds;
     }
 

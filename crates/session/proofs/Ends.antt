@@ -22,7 +22,7 @@ use Rattle.session.specs.World.{End, Terms, makingOf, noHistory, made, C
 use Rattle.session.specs.World.{afterMessage, Going, HeardClose, WroteClose}
 use Rattle.session.specs.Packets.{Packet, dataIn, readyIn, queuedIn, rowMessage, typeDataIn, Called, Confirms, Closes}
 use Rattle.session.specs.Turns.{roleOf, Standing, nothing, empty, ahead, producing}
-use Rattle.session.specs.Demand.{agreed, offered, Ledger, nothingDue, Fresh, PhaseFits}
+use Rattle.session.specs.Demand.{agreed, offersAt, Ledger, nothingDue, Fresh, PhaseFits}
 use Rattle.session.specs.Confirmations.{Awaits}
 use Rattle.session.specs.Invariant.{Within, OffersTaken, Delivers, Knows, Model, Settled, OneEnd, Linked, Joint, source, Proper, AllProper}
 use Rattle.session.specs.Laws.{answersIn, Comes, limitAfter, SentOn}
@@ -45,7 +45,7 @@ nothing-agreed : (end : End) → Within (agreed end noHistory) 0 0 fresh 0
 nothing-agreed Client = record { in-all = omega arith; in-newest = omega arith }
 nothing-agreed Server = record { in-all = omega arith; in-newest = omega arith }
 
-nothing-offered : (end : End) → OffersTaken (agreed end noHistory) (offered end noHistory) fresh 0
+nothing-offered : (end : End) → OffersTaken (agreed end noHistory) (offersAt end noHistory) fresh 0
 nothing-offered Client = record { each = tt; answered = []; open-offer = λ is. absurd (omega (arith, is)); no-offer = λ low other. refl }
 nothing-offered Server = record { each = tt; answered = []; open-offer = λ is. absurd (omega (arith, is)); no-offer = λ low other. refl }
 

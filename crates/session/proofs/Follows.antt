@@ -141,5 +141,7 @@ module _ {A B O P : Type 0} (prog : Program A O) (inner : Program B P) (load : A
           bounded = λ self. laws .bounded (load self);
           none = laws .none;
           sends = λ self call fine may fits out enough.
-              follows .numbered self call out fits ∙ laws .sends (load self) call fine may fits (into out) (rw (← (follows .room out)) enough);
+              let there = laws .sends (load self) call fine may fits (into out) (rw (← (follows .room out)) enough) in
+              let next-fine = laws .moves (load self) call (into out) fine fits (there .0) .fine in
+              (follows .numbered self call out fits ∙ there .0, follows .writes self call out fine fits (there .0) next-fine .0 ∙ there .1);
         }

@@ -11,8 +11,8 @@ use Rattle.endpoint.specs.Record.{shut}
 use Rattle.sending.specs.Calls.{Call, OPEN}
 use Rattle.machine.specs.Good.{Fits}
 use Rattle.machine.specs.Programs.{Program, SendOutcome, ReceiveOutcome}
-use Rattle.machine.specs.Runs.{Sends, Receives}
-use Rattle.session.specs.World.{End, across, Terms, makingOf, Ending, Side, World, EventFits, side, joined, made, withQueue, isKept, acted, afterReceive}
+use Rattle.machine.specs.Runs.{isKept, Sends, Receives}
+use Rattle.session.specs.World.{End, across, Terms, makingOf, Ending, Side, World, EventFits, side, joined, made, withQueue, acted, afterReceive}
 use Rattle.session.specs.World.{step, viewedSide, Client, Server, Going, HeardClose, WroteClose, sends, receives, makes}
 use Rattle.session.specs.Packets.{Packet, queuedIn, bytesIn, rowMessage, Closes}
 use Rattle.session.specs.Turns.{kindOf, Moves, stageOf, Standing, stands, standing, Hears, Converge, At, ClosedByItself, late}

@@ -39,7 +39,7 @@ use Rattle.sending.specs.Sending.{isFull, sendOf, sendRow}
 use Rattle.machine.specs.Good.{Fits, Sound}
 use Rattle.machine.proofs.Refusals.{refused-send-stays}
 use Rattle.session.specs.World.{Terms, Side}
-use Rattle.session.specs.Demand.{MayAnswer, other-pipe, other-format, promptLedger, nothingDue}
+use Rattle.session.specs.Demand.{MayAnswer, other-pipe, other-format, promptLedger, nothingDue, FreshRecords}
 use Rattle.session.specs.Laws.{MayRefuse, onRecords, OpenRefused, MayCall, HeardOn, TablesLaws}
 use Rattle.session.specs.Packets.{bytesIn}
 use Rattle.session.proofs.Taking.{call-leads, call-small, packet-taken}
@@ -156,7 +156,8 @@ module _ (e : Endpoint) (sound : Sound e) (s name format : List ℕ) (room : ℕ
   received-late enough is-shut = received-heard enough ∙ simp (eq-eqb (e .phase) shut is-shut)
 
 -- a call that no test refuses is accepted where the output has room
-may-sent : (e : Endpoint) (call : Call) → MayCall e call → Fits call → (room : ℕ) → length (written e call) ≤ room → sendOf e call room .number ≡ 0
+may-sent : (e : Endpoint) (call : Call) → MayCall e call → Fits call → (room : ℕ) → length (written e call) ≤ room
+    → sendOf e call room .number ≡ 0
 unfolding sendRow isFull
 may-sent e call may fits room enough =
     passed-accepted e (outgoing e call) room
@@ -183,6 +184,9 @@ unfolding freshOf
 fresh-due (AsClient flow limit) = refl
 fresh-due (AsServer flow) = refl
 
+pub fresh-records : FreshRecords
+fresh-records making given = record { given = given; holds = refl; none-due = fresh-due making }
+
 pub tables-laws : TablesLaws
 unfolding unchanged
 tables-laws =
@@ -206,5 +210,5 @@ tables-laws =
       short = λ e m name format room sound short. ap (outcomeOf (m .bytes)) (received-short e sound (m .bytes) name format room short);
       bounded = λ e sound line. omega (arith, good-told e (sound .is-good) .waits, length-tabulate (entryAt (e .entries)) 0 (e .w));
       none = λ line. refl;
-      sends = λ e call sound. may-sent e call;
+      sends = λ e call sound may fits room enough. (may-sent e call may fits room enough, refl);
     }

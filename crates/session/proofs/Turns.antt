@@ -163,6 +163,19 @@ module _ (source : End) where
   rests-converge end (ahead still empty) = refl
   rests-converge end (behind still empty) = refl
 
+  -- the CLOSE that an end heard was written by the other
+  pub shut-across : (end : End) {p q : List Packet} {b : Standing} → Converge source end ClosedByOther p b q → b ≡ ClosedByItself
+  shut-across end (behind still drains) = absurd (shut-drains drains)
+  shut-across end (over-across ended drains) = refl
+
+  -- and the one that an end wrote closes the other, once nothing is on its way there
+  gone-stays : {end : End} {t : Stage} {q : List Packet} → Drains source end ClosedByItself q (At t) → ⊥
+  gone-stays (head late drains) = gone-stays drains
+
+  pub close-converge : (end : End) {q : List Packet} {t : Stage} → Converge source end ClosedByItself [] (At t) q → ⊥
+  close-converge end (behind still drains) = gone-stays drains
+  close-converge end (over ended empty) = ended tt
+
   -- nothing is on its way to an end that heard a CLOSE
   pub shut-converge : (end : End) {p q : List Packet} {b : Standing} → Converge source end ClosedByOther p b q → q ≡ []
   shut-converge end (behind still drains) = absurd (shut-drains drains)

@@ -4,89 +4,109 @@ use Prim.Native.Nat.{ℕ}
 use mathlib.Core.List.{List, [], _∷_, _++_, append-assoc, append-nil}
 use mathlib.Core.Bool.{Bool, true, false, cond}
 use Rattle.machine.specs.Programs.{Queued, Program}
-use Rattle.machine.specs.Runs.{Act, Makes, Sends, Receives, doneBy, leftIn, wroteIn}
-use Rattle.machine.proofs.Runs.{left-append, wrote-append}
-use Rattle.session.specs.World.{End, Client, Server, across, makingOf, History, noted, notedIn, Side, World, side, joined, withQueue, Event}
-use Rattle.session.specs.World.{sends, receives, makes, isKept, acted, afterReceive, step, run, OwnRun, TwoRuns}
+use Rattle.machine.specs.Runs.{Act, Makes, Sends, Receives, isKept, doneBy, takenBy, leftIn, gatheredIn, wroteIn, takenIn}
+use Rattle.machine.proofs.Runs.{left-append, gathered-append}
+use Rattle.session.specs.World.{End, Client, Server, across, makingOf, History, noted, notedIn, World, side, joined, withQueue, Event}
+use Rattle.session.specs.World.{sends, receives, makes, acted, afterReceive, step, run, Runs, TwoRuns}
+
+-- the act of one end, and none of the other
+abbrev alone : {O : Type 0} → End → Act O → End → List (Act O)
+alone Client act Client = act ∷ []
+alone Client act Server = []
+alone Server act Client = []
+alone Server act Server = act ∷ []
 
 module _ {A O : Type 0} (p : Program A O) where
+  -- one end acts, and takes what stood at the head of the other's queue
+  one-act : (end : End) (w : World A) (act : Act O) (rest : List Queued) → side w (across end) .queue ≡ takenBy p (side w end .self) act ++ rest
+      → Runs p w (joined end (acted p end (side w end) act) (withQueue (side w (across end)) rest))
+  one-act Client w act rest is =
+      record {
+        acts = alone Client act;
+        left = elim [ Client ↦ refl | Server ↦ refl ];
+        past = elim [ Client ↦ refl | Server ↦ refl ];
+        queued = elim [ Client ↦ simp append-nil | Server ↦ simp append-nil is ];
+      }
+  one-act Server w act rest is =
+      record {
+        acts = alone Server act;
+        left = elim [ Client ↦ refl | Server ↦ refl ];
+        past = elim [ Client ↦ refl | Server ↦ refl ];
+        queued = elim [ Client ↦ simp append-nil is | Server ↦ simp append-nil ];
+      }
+
+  -- a run that goes on
+
   noted-append : (end : End) (past : History) (self : A) (first more : List (Act O))
       → notedIn p end past self (first ++ more) ≡ notedIn p end (notedIn p end past self first) (leftIn p self first) more
   noted-append end past self [] more = refl
   noted-append end past self (act ∷ rest) more = noted-append end (noted end past act (doneBy p self act)) (doneBy p self act .next) rest more
 
-  -- one act, and one message that the other receives or leaves
+  gathered-then : (each : A → Act O → List Queued) (x y : A) (first more : List (Act O)) → y ≡ leftIn p x first
+      → gatheredIn p each x (first ++ more) ≡ gatheredIn p each x first ++ gatheredIn p each y more
+  gathered-then each x y first more is =
+      gathered-append p each x first more ∙ ap (λ (self : A). gatheredIn p each x first ++ gatheredIn p each self more) (sym is)
 
-  own-act : (end : End) (x : Side A) (act : Act O) → OwnRun p end x (acted p end x act)
-  own-act end x act = record { acts = act ∷ []; taken = []; left = refl; queued = rw append-nil refl; past = refl }
-
-  own-queue : (end : End) (x : Side A) (taken queue : List Queued) → x .queue ≡ taken ++ queue → OwnRun p end x (withQueue x queue)
-  own-queue end x taken queue is = record { acts = []; taken = taken; left = refl; queued = append-nil (x .queue) ∙ is; past = refl }
-
-  own-then : (end : End) (x y z : Side A) → OwnRun p end x y → OwnRun p end y z → OwnRun p end x z
-  own-then end x y z first more =
-      let wrote : List Queued = wroteIn p (x .self) (first .acts) in
-      let wrote-more : List Queued = wroteIn p (y .self) (more .acts) in
+  runs-on : (w u v : World A) → Runs p w u → Runs p u v → Runs p w v
+  runs-on w u v first more =
       record {
-        acts = first .acts ++ more .acts;
-        taken = first .taken ++ more .taken;
-        left = more .left ∙ ap (λ (self : A). leftIn p self (more .acts)) (first .left) ∙ sym (left-append p (x .self) (first .acts) (more .acts));
-        queued =
-            ap (λ (l : List Queued). x .queue ++ l)
-            (wrote-append p (x .self) (first .acts) (more .acts) ∙ ap (λ (self : A). wrote ++ wroteIn p self (more .acts)) (sym (first .left)))
-            ∙ sym (append-assoc (x .queue) wrote wrote-more)
-            ∙ ap (λ (l : List Queued). l ++ wrote-more) (first .queued)
-            ∙ append-assoc (first .taken) (y .queue) wrote-more
-            ∙ ap (λ (l : List Queued). first .taken ++ l) (more .queued)
-            ∙ sym (append-assoc (first .taken) (more .taken) (z .queue));
-        past =
-            more .past
-            ∙ (λ i. notedIn p end (first .past i) (first .left i) (more .acts))
-            ∙ sym (noted-append end (x .past) (x .self) (first .acts) (more .acts));
+        acts = λ end. first .acts end ++ more .acts end;
+        left = λ end.
+            more .left end
+            ∙ ap (λ (self : A). leftIn p self (more .acts end)) (first .left end)
+            ∙ sym (left-append p (side w end .self) (first .acts end) (more .acts end));
+        past = λ end.
+            more .past end
+            ∙ (λ i. notedIn p end (first .past end i) (first .left end i) (more .acts end))
+            ∙ sym (noted-append end (side w end .past) (side w end .self) (first .acts end) (more .acts end));
+        queued = λ end.
+            let before : List Queued = side w end .queue in
+            let between : List Queued = side u end .queue in
+            let wrote : List Queued = wroteIn p (side w end .self) (first .acts end) in
+            let wrote-more : List Queued = wroteIn p (side u end .self) (more .acts end) in
+            let taken : List Queued = takenIn p (side w (across end) .self) (first .acts (across end)) in
+            let taken-more : List Queued = takenIn p (side u (across end) .self) (more .acts (across end)) in
+            ap (λ (l : List Queued). before ++ l) (gathered-then _ (side w end .self) (side u end .self) (first .acts end) (more .acts end) (first .left end))
+            ∙ sym (append-assoc before wrote wrote-more)
+            ∙ ap (λ (l : List Queued). l ++ wrote-more) (first .queued end)
+            ∙ append-assoc taken between wrote-more
+            ∙ ap (λ (l : List Queued). taken ++ l) (more .queued end)
+            ∙ sym (append-assoc taken taken-more (side v end .queue))
+            ∙ ap (λ (l : List Queued). l ++ side v end .queue)
+            (sym
+            (gathered-then (takenBy p) (side w (across end) .self) (side u (across end) .self) (first .acts (across end)) (more .acts (across end))
+            (first .left (across end))));
       }
 
-  -- an end that acts, and the one across from it, seen as one world
-  own-joined : (end : End) (x y x′ y′ : Side A) → OwnRun p end x x′ → OwnRun p (across end) y y′ → (other : End)
-      → OwnRun p other (side (joined end x y) other) (side (joined end x′ y′) other)
-  own-joined Client x y x′ y′ mine theirs Client = mine
-  own-joined Client x y x′ y′ mine theirs Server = theirs
-  own-joined Server x y x′ y′ mine theirs Client = theirs
-  own-joined Server x y x′ y′ mine theirs Server = mine
+  runs-still : (w : World A) → Runs p w w
+  runs-still w =
+      record { acts = λ end. []; left = λ end. refl; past = λ end. refl; queued = λ end. append-nil (side w end .queue) }
 
-  own-still : (end : End) (x : Side A) → OwnRun p end x x
-  own-still end x = own-queue end x [] (x .queue) refl
+  -- ---- every event
 
-  own-receive : (end : End) (x y : Side A) (queue : List Queued) → y .queue ≡ queue → (name format : List ℕ) (out : O) (other : End)
-      → OwnRun p other (side (joined end x y) other) (side (afterReceive p end x y queue name format out) other)
+  receive-runs : (end : End) (w : World A) (queue : List Queued) → side w (across end) .queue ≡ queue → (name format : List ℕ) (out : O)
+      → Runs p w (afterReceive p end (side w end) (side w (across end)) queue name format out)
   unfolding afterReceive
-  own-receive end x y [] is name format out other = own-still other (side (joined end x y) other)
-  own-receive end x y (m ∷ rest) is name format out other =
-      own-joined end x y _ _ (own-act end x (Receives m name format out))
-      (go (isKept (p .receive (x .self) m name format out .number))) other
+  receive-runs Client w [] is name format out = runs-still w
+  receive-runs Server w [] is name format out = runs-still w
+  receive-runs end w (m ∷ rest) is name format out =
+      one-act end w (Receives m name format out) _ (is ∙ go (isKept (p .receive (side w end .self) m name format out .number)))
     where
-      go : (kept : Bool) → OwnRun p (across end) y (withQueue y (cond kept (m ∷ rest) rest))
-      go true = own-queue (across end) y [] (m ∷ rest) is
-      go false = own-queue (across end) y (m ∷ []) rest is
+      go : (kept : Bool) → m ∷ rest ≡ cond kept [] (m ∷ []) ++ cond kept (m ∷ rest) rest
+      go true = refl
+      go false = refl
 
-  rejoin : (end : End) (w : World A) (other : End) (z : Side A)
-      → OwnRun p other (side (joined end (side w end) (side w (across end))) other) z → OwnRun p other (side w other) z
-  rejoin Client w other z own = own
-  rejoin Server w other z own = own
-
-  own-step : (w : World A) (event : Event O) (end : End) → OwnRun p end (side w end) (side (step p w event) end)
+  step-runs : (w : World A) (event : Event O) → Runs p w (step p w event)
   unfolding step
-  own-step w (sends sender call out) end =
-      rejoin sender w end _
-      (own-joined sender (side w sender) (side w (across sender)) _ _ (own-act sender (side w sender) (Sends call out))
-      (own-still (across sender) (side w (across sender))) end)
-  own-step w (receives hearer name format out) end =
-      rejoin hearer w end _ (own-receive hearer (side w hearer) (side w (across hearer)) _ refl name format out end)
-  own-step w (makes terms) Client = own-act Client (w .client) (Makes (makingOf terms Client))
-  own-step w (makes terms) Server = own-act Server (w .server) (Makes (makingOf terms Server))
+  step-runs w (sends end call out) = one-act end w (Sends call out) (side w (across end) .queue) refl
+  step-runs w (receives end name format out) = receive-runs end w (side w (across end) .queue) refl name format out
+  step-runs w (makes terms) =
+      let client-made : World A = record { client = acted p Client (w .client) (Makes (makingOf terms Client)); server = w .server } in
+      runs-on w client-made _ (one-act Client w (Makes (makingOf terms Client)) (w .server .queue) refl)
+      (one-act Server client-made (Makes (makingOf terms Server)) (client-made .client .queue) refl)
 
 pub two-runs : TwoRuns
 unfolding run
-two-runs A O p w [] end = own-still p end (side w end)
-two-runs A O p w (event ∷ rest) end =
-    own-then p end (side w end) (side (step p w event) end) (side (run p (step p w event) rest) end) (own-step p w event end)
-    (two-runs A O p (step p w event) rest end)
+two-runs A O p w [] = runs-still p w
+two-runs A O p w (event ∷ rest) =
+    runs-on p w (step p w event) (run p (step p w event) rest) (step-runs p w event) (two-runs A O p (step p w event) rest)

@@ -21,7 +21,8 @@ use Rattle.session.specs.World.{End, Client, Server, across, Terms, maki
 use Rattle.session.specs.World.{Event, receives, AllFit, step, run, begun, viewedSide}
 use Rattle.session.specs.Turns.{producing, turn}
 
--- what an end awaits and what it owes, on each line of confirmations: "ACK-REPLY must equal the oldest entry" of its line
+-- what an end awaits and what it owes, line by line: a line has the messages whose confirmations come in one order, "ACK-REPLY must equal the oldest
+-- entry" of it, and by document 01 there is one
 pub record Ledger : Type 0 where
   pub waits : ℕ → List Entry
   pub owes : ℕ → List Entry
@@ -38,10 +39,11 @@ promptLedger e = record { waits = λ line. awaited e; owes = λ line. [] }
 abbrev pub asRecords : View Endpoint
 asRecords = record { endpoint = λ e. e; ledger = promptLedger }
 
--- a fresh end: it was made with a flow and a limit that 34 does not refuse, holds what that gives, awaits nothing and owes nothing
+-- nothing is awaited or owed
 abbrev pub nothingDue : Ledger
 nothingDue = record { waits = λ line. []; owes = λ line. [] }
 
+-- a fresh end: it was made with a flow and a limit that 34 does not refuse, and holds what that gives
 pub record Fresh {A : Type 0} (view : View A) (making : Making) (self : A) : Type 0 where
   pub given : givenOf (freshBy making .flow) (freshBy making .limit) ≡ Good
   pub holds : view .endpoint self ≡ freshBy making
@@ -83,9 +85,9 @@ abbrev pub nonZero : List ℕ → List ℕ
 nonZero [] = []
 nonZero (count ∷ rest) = cond (eqb count 0) (nonZero rest) (count ∷ nonZero rest)
 
-abbrev pub offered : End → History → List ℕ
-offered Client past = nonZero (past .readies-heard)
-offered Server past = nonZero (past .readies)
+abbrev pub offersAt : End → History → List ℕ
+offersAt Client past = nonZero (past .readies-heard)
+offersAt Server past = nonZero (past .readies)
 
 -- "k at most n": each count is at most the one at its place
 abbrev pub EachAtMost : List ℕ → List ℕ → Type 0
@@ -120,11 +122,12 @@ pub record AtRest {A : Type 0} (w : World A) : Type 0 where
 
 -- of a program whose states hold endpoints
 module _ {A O : Type 0} (p : Program A O) (view : View A) where
-  -- an end may send a call in every output with room for it
+  -- an end may send a call: in every output with room for it, and it is written
   pub record MaySend (self : A) (call : Call) : Type 0 where
     pub fits : Fits call
     pub moves-on : movesOn call ≡ true
-    pub accepted : (out : O) → length (written (view .endpoint self) call) ≤ p .room out → p .send self call out .number ≡ 0
+    pub accepted : (out : O) → length (written (view .endpoint self) call) ≤ p .room out
+        → (p .send self call out .number ≡ 0) × (p .send self call out .bytes ≡ written (view .endpoint self) call)
 
   -- what holds of a world
   pub record Holds (w : World A) : Type 0 where
@@ -135,28 +138,33 @@ module _ {A O : Type 0} (p : Program A O) (view : View A) where
         → (name format : List ℕ) (out : O) → 14 ≤ p .room out
         → MayAnswer (viewedSide (view .endpoint) (side w end)) (viewedSide (view .endpoint) (side w (across end))) (m .bytes) name format
         (p .receive (side w end .self) m name format out .number)
-    -- "2 output too short": nothing changes, and the message stays where it is
-    pub waits : (end : End) (m : Queued) (rest : List Queued) → side w (across end) .queue ≡ m ∷ rest
+    -- 2, "output too short": nothing changes, and the message stays where it is
+    pub no-room : (end : End) (m : Queued) (rest : List Queued) → side w (across end) .queue ≡ m ∷ rest
         → (name format : List ℕ) (out : O) → p .room out < 14
         → (p .receive (side w end .self) m name format out .number ≡ 2) × (step p w (receives end name format out) ≡ w)
-    -- nothing at all arrives at an end that heard a CLOSE
-    pub nothing-after-close : (end : End) → side w end .past .ending ≡ HeardClose → side w (across end) .queue ≡ []
+    -- an end has closed where its phase is 5; the CLOSE that one heard was written by the other, and nothing at all arrives behind it; and the CLOSE
+    -- that one wrote closes the other, once it has arrived
     pub closed-by-phase : (end : End) → PhaseFits (side w end .past .ending) (view .endpoint (side w end .self) .phase)
+    pub close-was-written : (end : End) → side w end .past .ending ≡ HeardClose → side w (across end) .past .ending ≡ WroteClose
+    pub nothing-after-close : (end : End) → side w end .past .ending ≡ HeardClose → side w (across end) .queue ≡ []
+    pub close-arrives : (end : End) → side w end .past .ending ≡ WroteClose → side w end .queue ≡ [] → side w (across end) .past .ending ≡ Going → ⊥
     -- "The data accepted is at every moment a leading part of the data sent", and so are the READYs heard of those sent
     pub data-leads : (end : End) → IsPrefix (side w end .past .accepted) (side w (across end) .past .sent)
     pub readies-lead : (end : End) → IsPrefix (side w end .past .readies-heard) (side w (across end) .past .readies)
-    -- and nothing is lost: an end that has not itself closed, and to which nothing is coming, has accepted all that was sent
+    -- and nothing is lost: an end that has not itself closed, and to which nothing is coming, has accepted all that was sent, and heard every READY
     pub nothing-lost : (end : End) → (side w end .past .ending ≡ WroteClose → ⊥) → side w (across end) .queue ≡ []
-        → side w end .past .accepted ≡ side w (across end) .past .sent
-    -- "and never more than the batches agreed": in all of them, at either end, and in the newest; a batch that is over was the newest until the READY
-    -- that began the next, so this holds of each
+        → (side w end .past .accepted ≡ side w (across end) .past .sent) × (side w end .past .readies-heard ≡ side w (across end) .past .readies)
+    -- "and never more than the batches agreed": in all of them, by either end's count, and in the newest, at the end that accepts; a batch that is over
+    -- was the newest until the READY that began the next, so this holds of each
     pub within : length (w .client .past .accepted) + length (w .server .past .accepted) ≤ sum (agreed Client (w .client .past))
     pub within-own : (end : End) → length (side w end .past .sent) + length (side w end .past .accepted) ≤ sum (agreed end (side w end .past))
     pub within-newest : (end : End) → length (side w end .past .recent) ≤ newest (agreed end (side w end .past))
     -- and a batch agreed is never more than its offer
-    pub within-offers : (end : End) → EachAtMost (agreed end (side w end .past)) (offered end (side w end .past))
-    -- at rest an end awaits what the other owes, and of the tables nothing
-    pub none-awaited : AtRest w → (end : End) (line : ℕ)
+    pub within-offers : (end : End) → EachAtMost (agreed end (side w end .past)) (offersAt end (side w end .past))
+    -- at rest both ends are in one phase with one n, and an end awaits just what the other owes, which by the tables is nothing
+    pub same-at-rest : AtRest w → (view .endpoint (w .client .self) .phase ≡ view .endpoint (w .server .self) .phase)
+        × (view .endpoint (w .client .self) .n ≡ view .endpoint (w .server .self) .n)
+    pub awaits-what-is-owed : AtRest w → (end : End) (line : ℕ)
         → view .ledger (side w end .self) .waits line ≡ view .ledger (side w (across end) .self) .owes line
     -- "one end may still send a message other than NOOP and CLOSE"
     pub may-send : AtRest w
@@ -171,3 +179,7 @@ module _ {A O : Type 0} (p : Program A O) (view : View A) where
 -- demand 3, over the tables
 abbrev pub Demand : Type 0
 Demand = DemandOf tables asRecords
+
+-- of whose states every one that making gives is fresh
+abbrev pub FreshRecords : Type 0
+FreshRecords = (making : Making) → givenOf (freshBy making .flow) (freshBy making .limit) ≡ Good → Fresh asRecords making (freshBy making)

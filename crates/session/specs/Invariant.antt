@@ -26,7 +26,7 @@ use Rattle.machine.specs.Good.{Sound, Fits}
 use Rattle.session.specs.World.{End, Client, Server, across, Terms, History, Side, World, viewedSide}
 use Rattle.session.specs.Packets.{Packet, Called, Confirms, Closes, queuedIn, dataIn, readyIn}
 use Rattle.session.specs.Turns.{Standing, Listens, standing, roleOf, producing, Alive, Converge}
-use Rattle.session.specs.Demand.{View, Ledger, PhaseFits, agreed, offered, sum, newest, EachAtMost}
+use Rattle.session.specs.Demand.{View, Ledger, PhaseFits, agreed, offersAt, sum, newest, EachAtMost}
 use Rattle.session.specs.Confirmations.{Awaits}
 
 -- ---- the parts of one end
@@ -49,7 +49,7 @@ pub record OffersTaken (counts offers : List ℕ) (phase n : ℕ) : Type 0 where
 
 pub record Counted (end : End) (past : History) (e : Endpoint) : Type 0 where
   pub within : Within (agreed end past) (length (past .sent) + length (past .accepted)) (length (past .recent)) (e .phase) (e .n)
-  pub taken : OffersTaken (agreed end past) (offered end past) (e .phase) (e .n)
+  pub taken : OffersTaken (agreed end past) (offersAt end past) (e .phase) (e .n)
 
 -- an end at b has heard what was sent, but for what p carries to it
 pub record Delivers {A : Type 0} (carried : Packet → List A) (sent : List A) (p : List Packet) (b : Standing) (heard : List A) : Type 0 where
@@ -79,7 +79,7 @@ pub record Settled (terms : Terms) (end : End) (e : Endpoint) : Type 0 where
 -- the rules of a program: what it makes sure of in a call that it accepts; which messages it confirms at once, the others being owed first; and which
 -- entries stand on a line, "oldest" being of one line
 pub record Rules : Type 1 where
-  pub Made : Endpoint → Call → Type 0
+  pub Accepts : Endpoint → Call → Type 0
   pub prompt : MessageType → Bool
   pub pick : ℕ → List Entry → List Entry
 
@@ -93,7 +93,7 @@ module _ (terms : Terms) (rules : Rules) where
   -- a call that an end made on these terms, and that was accepted
   pub record AcceptedCall (end : End) (e : Endpoint) (call : Call) : Type 0 where
     pub fits : Fits call
-    pub accepted : rules .Made e call
+    pub accepted : rules .Accepts e call
     pub flows : e .flow ≡ flowAt terms end
     pub limited : e .limit ≡ terms .limit
 

@@ -170,12 +170,13 @@ module _ {A O : Type 0} (p : Program A O) (model : Model A) where
         → p .receive self m name format out ≡ ignored 3 self
     pub short : (self : A) (m : Queued) (name format : List ℕ) (out : O) → model .Fine self → p .room out < 14
         → p .receive self m name format out ≡ ignored 2 self
-    -- no more are awaited than an end may await; and no entries stand on any line as none
+    -- no more are awaited than an end may await; and of no entries none stands on any line
     pub bounded : (self : A) → model .Fine self → (line : ℕ) → length (ledger self .waits line) ≤ capacity
     pub none : (line : ℕ) → model .rules .pick line [] ≡ []
     -- what no test refuses is sent
     pub sends : (self : A) (call : Call) → model .Fine self → MayCall (endpoint self) call → Fits call
-        → (out : O) → length (written (endpoint self) call) ≤ p .room out → p .send self call out .number ≡ 0
+        → (out : O) → length (written (endpoint self) call) ≤ p .room out
+        → (p .send self call out .number ≡ 0) × (p .send self call out .bytes ≡ written (endpoint self) call)
 
 -- ---- what follows of every program that has the laws
 
@@ -212,9 +213,9 @@ onRecords =
     record {
       view = asRecords;
       Fine = Sound;
-      rules = record { Made = ByTables; prompt = λ message. true; pick = λ line entries. entries };
+      rules = record { Accepts = ByTables; prompt = λ message. true; pick = λ line entries. entries };
     }
 
--- the tables have the laws, and so has every program that does what they do
+-- the tables have the laws
 abbrev pub TablesLaws : Type 0
 TablesLaws = Laws tables onRecords

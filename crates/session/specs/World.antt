@@ -13,7 +13,7 @@ use Rattle.control.specs.Frame.{ackReply, typeOf}
 use Rattle.sending.specs.Calls.{Call, OPEN, READY, DATA, NOOP, CLOSE, messageOf, typeDataOf}
 use Rattle.machine.specs.Good.{Fits}
 use Rattle.machine.specs.Programs.{Making, AsClient, AsServer, Queued, Told, Program}
-use Rattle.machine.specs.Runs.{Act, Makes, Sends, Receives, Done, doneBy, leftIn, wroteIn}
+use Rattle.machine.specs.Runs.{Act, Makes, Sends, Receives, Done, isKept, doneBy, leftIn, wroteIn, takenIn}
 
 pub data End : Type 0 where
   Client Server : End
@@ -51,7 +51,7 @@ pub record History : Type 0 where
   -- the counts of the READYs sent and of those heard
   pub readies : List ℕ
   pub readies-heard : List ℕ
-  -- the data accepted since the client's last READY, as this end sent or heard it
+  -- the data accepted since this end sent or heard the client's last READY
   pub recent : List Datum
   pub ending : Ending
 
@@ -92,11 +92,11 @@ recentAfter Server (count ∷ rest) recent = recent
 
 -- a CLOSE ends the one who wrote it and the one who heard it
 abbrev pub endedBy : Ending → MessageType → Ending → Ending
-endedBy how Open before = before
-endedBy how Ready before = before
-endedBy how Noop before = before
-endedBy how Data before = before
-endedBy how Close before = how
+endedBy by-close Open before = before
+endedBy by-close Ready before = before
+endedBy by-close Noop before = before
+endedBy by-close Data before = before
+endedBy by-close Close before = by-close
 
 -- a refusal that is replied to is a CLOSE written
 abbrev pub endedAfter : ℕ → Told → List Queued → Ending → Ending
@@ -128,7 +128,7 @@ afterMessage end past heard readies ending =
       ending = ending;
     }
 
--- only what is accepted is noted of a making and of a call
+-- an accepted making begins a new history; of a call only what is accepted is noted
 abbrev pub noted : {A O : Type 0} → End → History → Act O → Done A → History
 noted end past (Makes making) done = cond (eqb (done .number) 0) noHistory past
 noted end past (Sends call out) done = cond (eqb (done .number) 0) (afterCall end past call) past
@@ -157,7 +157,7 @@ module _ {A : Type 0} where
   joined Client x y = record { client = x; server = y }
   joined Server x y = record { client = y; server = x }
 
-  -- two ends that were just made
+  -- an end that was just made, and two of them
   abbrev pub made : A → Side A
   made self = record { self = self; queue = []; past = noHistory }
 
@@ -177,10 +177,6 @@ pub data Event (O : Type 0) : Type 0 where
   sends : End → Call → O → Event O
   receives : End → List ℕ → List ℕ → O → Event O
   makes : Terms → Event O
-
--- a receive that answers 1 or 2 has not taken the message, and one that answers 3 has passed it over
-abbrev pub isKept : ℕ → Bool
-isKept number = eqb number 1 || eqb number 2
 
 module _ {A O : Type 0} (p : Program A O) where
   abbrev pub acted : End → Side A → Act O → Side A
@@ -222,13 +218,10 @@ module _ {A O : Type 0} (p : Program A O) where
   AllFit w [] = Unit
   AllFit w (event ∷ rest) = EventFits w event × AllFit (step w event) rest
 
--- the same two ends, each seen as another state
+-- an end, seen as another state
 module _ {A B : Type 0} (view : A → B) where
   abbrev pub viewedSide : Side A → Side B
   viewedSide x = record { self = view (x .self); queue = x .queue; past = x .past }
-
-  abbrev pub viewed : World A → World B
-  viewed w = record { client = viewedSide (w .client); server = viewedSide (w .server) }
 
 -- ---- a world is two runs
 
@@ -238,16 +231,15 @@ module _ {A O : Type 0} (p : Program A O) where
   notedIn end past self [] = past
   notedIn end past self (act ∷ rest) = notedIn end (noted end past act (doneBy p self act)) (doneBy p self act .next) rest
 
-  -- an end came from one state to another by acts of its own, and its queue is what they wrote, but for what the other has received
-  pub record OwnRun (end : End) (x y : Side A) : Type 0 where
-    pub acts : List (Act O)
-    pub taken : List Queued
-    pub left : y .self ≡ leftIn p (x .self) acts
-    pub queued : x .queue ++ wroteIn p (x .self) acts ≡ taken ++ y .queue
-    pub past : y .past ≡ notedIn end (x .past) (x .self) acts
+  -- from one world to another each end came by acts of its own; what was on its way from it and what it wrote are what the other took and what is
+  -- on its way now
+  pub record Runs (w v : World A) : Type 0 where
+    pub acts : End → List (Act O)
+    pub left : (end : End) → side v end .self ≡ leftIn p (side w end .self) (acts end)
+    pub past : (end : End) → side v end .past ≡ notedIn end (side w end .past) (side w end .self) (acts end)
+    pub queued : (end : End) → side w end .queue ++ wroteIn p (side w end .self) (acts end)
+        ≡ takenIn p (side w (across end) .self) (acts (across end)) ++ side v end .queue
 
 -- whatever is called and delivered
 abbrev pub TwoRuns : Type 1
-TwoRuns =
-    (A O : Type 0) (p : Program A O) (w : World A) (events : List (Event O)) (end : End)
-    → OwnRun p end (side w end) (side (run p w events) end)
+TwoRuns = (A O : Type 0) (p : Program A O) (w : World A) (events : List (Event O)) → Runs p w (run p w events)

@@ -5,8 +5,7 @@ use mathlib.Core.Bool.{false}
 use Prim.Native.Nat.{ℕ, _-_}
 use native.Mathlib.Omega.{arith}
 use lib.ListN.{length, length-replicate, replicate}
-use lib.Ieee.{div, lt}
-use Rattle.double.specs.Limit.{leastLimit}
+use lib.Ieee.{div, lt, mul}
 use Rattle.control.specs.declared.MessageType.the-variants.{Data}
 use Rattle.control.specs.Frame.{typeOf}
 use Rattle.endpoint.specs.declared.Endpoint.{Endpoint}
@@ -20,15 +19,15 @@ use Rattle.session.specs.World.{Client, Server, Going, noHistory, afterCall, af
 use Rattle.session.specs.Demand.{DemandOf, asRecords, Holds}
 use Rattle.slips.specs.Slips.{slipping, refusalLowered, loweringOnRefusal, LoweringOnRefusalFails}
 use Rattle.slips.specs.Slips.{measured, comparingMegabytes, ComparingMegabytesFails}
-use Rattle.slips.proofs.Runs.{agreeing, at-rest, at-the-end, calls, room, running, start}
+use Rattle.slips.proofs.Runs.{agreeing, at-rest, at-the-end, calls, limit, room, running, start}
 
 -- ---- a batch of 1 is agreed
 
 abbrev sender : Endpoint
-sender = atPhase (freshClient producer leastLimit) batch 1
+sender = atPhase (freshClient producer limit) batch 1
 
 abbrev hearer : Endpoint
-hearer = atPhase (limited (freshServer consumer) leastLimit) batch 1
+hearer = atPhase (limited (freshServer consumer) limit) batch 1
 
 -- each end sent a READY and heard one
 abbrev inBatch : Endpoint → Side Endpoint
@@ -58,24 +57,24 @@ some-body size by = by (replicate size 0) (length-replicate size 0)
 
 -- ---- above the limit
 
-large-refused : (body : List ℕ) → length body ≡ leastLimit
+large-refused : (body : List ℕ) → length body ≡ limit
     → tables .send sender (DATA 0 false body) room ≡ record { number = 33; bytes = written sender (DATA 0 false body); next = sender }
 unfolding computing
 large-refused body long = rw long refl
 
 -- the client is idle and waits for an offer, and the server is in the batch and may make none
-lowering-fails : (body : List ℕ) → length body ≡ leastLimit → LoweringOnRefusalFails
+lowering-fails : (body : List ℕ) → length body ≡ limit → LoweringOnRefusalFails
 unfolding running
 lowering-fails body long demand =
     let holds = after-data loweringOnRefusal demand refl body _ (ap (refusalLowered sender) (large-refused body long)) in
-    absurd (omega (arith, holds .may-send (at-rest _ refl refl refl refl) .accepted room (omega arith)))
+    absurd (omega (arith, holds .may-send (at-rest _ refl refl refl refl) .accepted room (omega arith) .0))
 
 pub lowering-on-refusal-fails : LoweringOnRefusalFails
-lowering-on-refusal-fails = some-body leastLimit lowering-fails
+lowering-on-refusal-fails = some-body limit lowering-fails
 
 -- ---- at the limit
 
-module _ (body : List ℕ) (long : length body ≡ leastLimit - 8) where
+module _ (body : List ℕ) (long : length body ≡ limit - 8) where
   abbrev message : Queued
   message = record { bytes = written sender (DATA 0 false body); how = 0 }
 
@@ -99,7 +98,7 @@ module _ (body : List ℕ) (long : length body ≡ leastLimit - 8) where
 
   -- and the slip refuses it
   full-refused : (done : ReceiveOutcome Endpoint) → done .told ≡ told → measured hearer done .number ≡ 16
-  unfolding computing div lt
+  unfolding computing div lt mul
   full-refused done is = rw (is, long) refl
 
   comparing-fails : ComparingMegabytesFails
@@ -110,4 +109,4 @@ module _ (body : List ℕ) (long : length body ≡ leastLimit - 8) where
       elim (rw refuses at (holds .answers Server message [] refl [] [] room (omega arith))) [ ]
 
 pub comparing-megabytes-fails : ComparingMegabytesFails
-comparing-megabytes-fails = some-body (leastLimit - 8) comparing-fails
+comparing-megabytes-fails = some-body (limit - 8) comparing-fails

@@ -2,7 +2,6 @@
 use mathlib.Core.Path.{_≡_, refl}
 use mathlib.Core.List.{List, [], _∷_}
 use Prim.Native.Nat.{ℕ, _+_}
-use Rattle.double.specs.Limit.{leastLimit}
 use Rattle.endpoint.specs.declared.Endpoint.{Endpoint}
 use Rattle.endpoint.specs.Record.{consumer, producer, freshClient, freshOf, freshServer, givenOf}
 use Rattle.sending.specs.Calls.{Call, OPEN, READY}
@@ -17,16 +16,20 @@ unfoldable pub running : Unit {0}
 unfolding computing step run afterReceive turn
 running = tt
 
--- a client that produces and announces a limit, and a server that consumes
+-- a limit whose megabytes are two doubles, as it is multiplied or divided
+abbrev pub limit : ℕ
+limit = 1000007
+
+-- a client that produces and announces this limit, and a server that consumes
 abbrev terms : Terms
-terms = record { flow = producer; limit = leastLimit; server-flow = consumer }
+terms = record { flow = producer; limit = limit; server-flow = consumer }
 
 abbrev pub start : World Endpoint
-start = begun (freshClient producer leastLimit) (freshServer consumer)
+start = begun (freshClient producer limit) (freshServer consumer)
 
 -- room for a message of that limit in two frames, whose count and lengths take 10 bytes
 abbrev pub room : ℕ
-room = leastLimit + 10
+room = limit + 10
 
 abbrev pub calls : End → Call → Event ℕ
 calls end call = sends end call room
@@ -57,5 +60,5 @@ pub at-the-end : (p : Program Endpoint ℕ) → DemandOf p asRecords → (events
     → Holds p asRecords (run p start events)
 unfolding givenOf freshOf
 at-the-end p demand events fit =
-    demand terms (freshClient producer leastLimit) (freshServer consumer) (record { given = refl; holds = refl; none-due = refl })
+    demand terms (freshClient producer limit) (freshServer consumer) (record { given = refl; holds = refl; none-due = refl })
     (record { given = refl; holds = refl; none-due = refl }) events (fit start)

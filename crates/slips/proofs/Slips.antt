@@ -31,7 +31,7 @@ pub losing-data-fails : LosingDataFails
 unfolding running
 losing-data-fails demand =
     let holds = at-the-end losingData demand (agreeing 1 1 (calls Client (DATA 0 false []) ∷ hears Server ∷ [])) (λ w. omega arith) in
-    clash (ap length (holds .nothing-lost Server (λ closed. clash cc) refl))
+    clash (ap length (holds .nothing-lost Server (λ closed. clash cc) refl .0))
 
 -- in a batch of 1 two DATA are accepted
 pub running-past-count-fails : RunningPastCountFails
@@ -47,4 +47,4 @@ unfolding running
 counting-confirmations-fails demand =
     let once = calls Client (DATA 0 true []) ∷ hears Server ∷ hears Client ∷ [] in
     let holds = at-the-end countingConfirmations demand (agreeing 2 2 once) (λ w. omega arith) in
-    absurd (omega (arith, holds .may-send (at-rest _ refl refl refl refl) .accepted room (omega arith)))
+    absurd (omega (arith, holds .may-send (at-rest _ refl refl refl refl) .accepted room (omega arith) .0))

@@ -8,7 +8,7 @@ use mathlib.Core.Bool.{Bool, cond, not, _&&_}
 use lib.ListN.{length}
 use lib.Dec.{eqb, leb}
 use lib.IntN.{pos}
-use lib.Ieee.{Float, binary64, div, lt, ofInt}
+use lib.Ieee.{Float, binary64, div, lt, mul, ofBits, ofInt}
 use Rattle.bytes_be.specs.Part.{part, putAt}
 use Rattle.bundle.specs.Reading.{startOf}
 use Rattle.control.specs.declared.MessageType.the-variants.{Data}
@@ -79,13 +79,20 @@ loweringOnRefusal = changing refusalLowered asGiven
 abbrev pub LoweringOnRefusalFails : Type 0
 LoweringOnRefusalFails = Fails loweringOnRefusal
 
--- "Comparing the limit as a double with a size in megabytes.": a DATA is refused as 16 unless its size, of control frame and body, is below the limit
+-- "Comparing the limit as a double with a size in megabytes.": the limit is kept as so many times the double 0.000001, a size is divided by a million,
+-- and a DATA is refused as 16 where its size, of control frame and body, is above that
+abbrev pub millionth : Float
+millionth = ofBits binary64 4517329193108106637
+
+abbrev pub keptMegabytes : ℕ → Float
+keptMegabytes limit = mul binary64 (ofInt binary64 (pos limit)) millionth
+
 abbrev pub megabytes : ℕ → Float
-megabytes bytes = div binary64 (ofInt binary64 (pos bytes)) (ofInt binary64 (pos 1000000))
+megabytes size = div binary64 (ofInt binary64 (pos size)) (ofInt binary64 (pos 1000000))
 
 abbrev pub measured : Endpoint → ReceiveOutcome Endpoint → ReceiveOutcome Endpoint
 measured e done =
-    cond (tellsData (done .told) && not (lt (megabytes (8 + length (done .told .body))) (megabytes (e .limit))))
+    cond (tellsData (done .told) && lt (keptMegabytes (e .limit)) (megabytes (8 + length (done .told .body))))
     (outcomeOf [] (refused e 16 (typeOf Data)))
     done
 

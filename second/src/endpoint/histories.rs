@@ -4,6 +4,7 @@
 
 use std::collections::VecDeque;
 
+use crate::control::{self, CONTROL_FRAME};
 use crate::endpoint::{Heard, Send, CLOSE, READY};
 
 /// The two ends.
@@ -44,8 +45,8 @@ impl History {
         self.left = count;
     }
 
-    /// A DATA sent or accepted. Each end stays within what it agreed: the data that it sent and accepted are no more than
-    /// the counts of the client's READYs, in each batch and so in all batches together.
+    /// A DATA sent or accepted. Each end stays within what it agreed: the data that it sent and accepted are no more
+    /// than the counts of the client's READYs, in each batch and so in all batches together.
     fn carry(&mut self) {
         let left = self.left.checked_sub(1);
         self.left = left.expect("an end sends and accepts no more data than it agreed to");
@@ -59,8 +60,8 @@ impl History {
         self.carry();
     }
 
-    /// Nothing is lost: an end that has not itself written a CLOSE, and to which nothing is on its way, has accepted all
-    /// data that the other end sent. This holds also of an end that heard a CLOSE.
+    /// Nothing is lost: an end that has not itself written a CLOSE, and to which nothing is on its way, has accepted
+    /// all data that the other end sent. This holds also of an end that heard a CLOSE.
     fn lost_nothing(&self, on_their_way: usize) -> bool {
         self.has_closed || on_their_way != 0 || self.due.is_empty()
     }
@@ -81,6 +82,10 @@ impl Histories {
         self.0[end].has_closed
     }
 
+    pub fn neither_has_closed(&self) -> bool {
+        !ENDS.into_iter().any(|end| self.has_closed(end))
+    }
+
     /// Notes a message that an end sent.
     pub fn note_sent(&mut self, end: usize, send: &Send) {
         match send {
@@ -94,9 +99,10 @@ impl Histories {
         }
     }
 
-    /// Notes the CLOSE with which an end refuses an OPEN.
-    pub fn note_refusal(&mut self, end: usize) {
-        self.0[end].has_closed = true;
+    /// Notes a reply that an end wrote, which is a confirmation or the CLOSE that refuses an OPEN.
+    pub fn note_reply(&mut self, end: usize, reply: &[u8]) {
+        let control_frame = &reply[reply.len() - CONTROL_FRAME..];
+        self.0[end].has_closed |= control::message_type(control_frame) == CLOSE;
     }
 
     /// Notes a message other than data that an end heard.
@@ -130,3 +136,6 @@ impl Histories {
         }
     }
 }
+
+#[cfg(test)]
+mod tests;

@@ -1,4 +1,5 @@
-//! Tests of two endpoints with each other: every schedule of sends and deliveries in which little is on its way.
+//! Tests of two endpoints with each other: every schedule of sends and deliveries in which little is on its way, and in
+//! which both ends are made again where nothing is.
 
 use std::collections::HashSet;
 
@@ -13,32 +14,26 @@ const MOST_ASKED: usize = 2;
 /// DATA are numbered by their type-data, up to this number and then from 0 again.
 const NUMBERS: u16 = 4;
 
+/// How both ends are made, and made again: the flows of client and server, and the client's limit.
+type Making = ([Flow; 2], u32);
+
 /// The two ends, the client first, with the messages that are on their way to each.
 #[derive(Clone, PartialEq, Eq, Hash)]
 struct Session {
     blocks: [Vec<u8>; 2],
     inboxes: [Vec<Vec<u8>>; 2],
-    has_closed: [bool; 2],
-    heard_close: [bool; 2],
     next_sent: u16,
-    next_accepted: u16,
-    /// How many data each end may still accept in its batch: the client's READY sets it, at the client where it is sent
-    /// and at the server where it is heard.
-    left: [u64; 2],
+    histories: Histories,
 }
 
 impl Session {
-    fn new(client: Flow, server: Flow) -> Session {
-        let make = |role, flow: Flow| made(&[9; 64], role, flow as u8, 50_000_000).1;
-        Session {
-            blocks: [make(Role::Client, client), make(Role::Server, server)],
-            inboxes: [Vec::new(), Vec::new()],
-            has_closed: [false; 2],
-            heard_close: [false; 2],
-            next_sent: 0,
-            next_accepted: 0,
-            left: [0; 2],
-        }
+    /// Both ends made in these blocks, with new histories.
+    fn made_in(blocks: &[Vec<u8>; 2], (flows, limit): Making) -> Session {
+        let make = |end: usize, role, limit| made(&blocks[end], role, flows[end] as u8, limit);
+        let [client, server] = [make(CLIENT, Role::Client, limit), make(SERVER, Role::Server, 50_000_000)];
+        assert_eq!([client.0, server.0], [0; 2]);
+        let blocks = [client.1, server.1];
+        Session { blocks, inboxes: [Vec::new(), Vec::new()], next_sent: 0, histories: Histories::default() }
     }
 
     fn state(&self, end: usize) -> State {
@@ -66,22 +61,20 @@ impl Session {
         let mut after = self.clone();
         after.blocks[end] = sent.block;
         after.inboxes[1 - end].push(sent.out[..sent.written as usize].to_vec());
-        match send {
-            Send::Ready { count } if end == 0 => after.left[end] = u64::from(*count),
-            Send::Data { .. } => after.next_sent = (self.next_sent + 1) % NUMBERS,
-            Send::Close { .. } => after.has_closed[end] = true,
-            _ => {}
+        if let Send::Data { .. } = send {
+            after.next_sent = (self.next_sent + 1) % NUMBERS;
         }
+        after.histories.note_sent(end, send);
         Some(after)
     }
 
     /// The number that an end answers to the next message: it hears it, unless it has closed or is a server of the
     /// client's flow.
     fn expected(&self, end: usize) -> u64 {
-        let [client, server] = [self.state(0), self.state(1)];
-        if self.has_closed[end] {
+        let [client, server] = ENDS.map(|end| self.state(end));
+        if self.histories.has_closed(end) {
             IS_CLOSED
-        } else if end == 1 && server.phase == Phase::Fresh && client.flow == server.flow {
+        } else if end == SERVER && server.phase == Phase::Fresh && client.flow == server.flow {
             NOT_OFFERED
         } else {
             0
@@ -101,81 +94,180 @@ impl Session {
         let received = received(&self.blocks[end], &message, b"pipe", b"", &[0; 14]);
         assert_eq!(received.number, self.expected(end), "{message:?}");
         after.blocks[end] = received.block;
+        after.note_heard(end, &message, &received.heard);
         if received.heard[3] != 0 {
+            after.histories.note_reply(end, &received.out);
             after.inboxes[1 - end].push(received.out);
         }
-        after.has_closed[end] |= received.number == NOT_OFFERED;
-        after.note_heard(end, &received.heard);
         Some(after)
     }
 
-    /// Notes a message that was heard, where it is one, and watches the data that are accepted.
-    fn note_heard(&mut self, end: usize, heard: &Heard) {
-        match heard[0] as u8 {
-            READY if end == 1 => self.left[end] = heard[2],
-            DATA if heard[1] != u64::from(ACK_REPLY) => {
-                assert_eq!(heard[2], u64::from(self.next_accepted), "data are accepted as they were sent");
-                self.next_accepted = (self.next_accepted + 1) % NUMBERS;
-                let left = self.left[end].checked_sub(1);
-                self.left[end] = left.expect("in a batch no more data are accepted than were agreed to");
-            }
-            CLOSE => self.heard_close[end] = true,
-            _ => {}
+    /// Notes a message that was heard, where it is one.
+    fn note_heard(&mut self, end: usize, message: &[u8], heard: &Heard) {
+        if heard[0] as u8 == DATA && heard[1] != u64::from(ACK_REPLY) {
+            let body = &message[heard[12] as usize..][..heard[13] as usize];
+            self.histories.note_accepted(end, heard[2], body);
+        } else {
+            self.histories.note_heard(end, heard);
         }
     }
 
-    /// Watches that nothing is on its way to an end that heard a CLOSE, and that where nothing is on its way at all and
-    /// neither end has closed, they agree on phase and count and the send with which they go on is accepted.
+    /// Whether nothing is on its way.
+    fn all_delivered(&self) -> bool {
+        self.inboxes.iter().all(Vec::is_empty)
+    }
+
+    /// Watches what holds at every moment.
     fn watch(&self) {
-        let is_quiet = |end: usize| !self.heard_close[end] || self.inboxes[end].is_empty();
-        assert!((0..2).all(is_quiet), "nothing is on its way to an end that heard a CLOSE");
-        let [client, server] = [self.state(0), self.state(1)];
-        let closed = client.phase == Phase::Closed || server.phase == Phase::Closed;
-        if closed || self.inboxes.iter().any(|inbox| !inbox.is_empty()) {
-            return;
+        self.histories.watch(ENDS.map(|end| self.inboxes[end].len()));
+        if self.all_delivered() && self.histories.neither_has_closed() {
+            self.watch_rest();
         }
-        assert_eq!((client.phase, client.n), (server.phase, server.n));
+    }
+
+    /// Watches two ends at rest: the send with which they go on is accepted.
+    fn watch_rest(&self) {
+        let [client, server] = ENDS.map(|end| self.state(end));
+        agree_at_rest(&client, &server);
         let (role, send) = send_at_rest(&client);
-        let end = if role == Role::Client { 0 } else { 1 };
+        let end = if role == Role::Client { CLIENT } else { SERVER };
         assert!(self.after_send(end, &send).is_some(), "in phase {:?} the {role:?} may send {send:?}", client.phase);
     }
 
-    /// All sessions that may come next.
-    fn next(&self) -> Vec<Session> {
-        let mut next: Vec<Session> = (0..2).filter_map(|end| self.after_delivery(end)).collect();
-        for end in (0..2).filter(|end| self.inboxes[1 - end].len() < MOST_WAITING) {
+    /// All sessions that may come next; where nothing is on its way, both ends may also be made again.
+    fn next(&self, makings: &[Making]) -> Vec<Session> {
+        let mut next: Vec<Session> = ENDS.iter().filter_map(|end| self.after_delivery(*end)).collect();
+        for end in ENDS.into_iter().filter(|end| self.inboxes[1 - end].len() < MOST_WAITING) {
             next.extend(self.sends(end).iter().filter_map(|send| self.after_send(end, send)));
+        }
+        if self.all_delivered() {
+            next.extend(makings.iter().map(|making| Session::made_in(&self.blocks, *making)));
         }
         next
     }
 }
 
-/// The pairs of phases that a session of these flows reaches, all of which are watched.
-fn reached(client: Flow, server: Flow) -> HashSet<[u8; 2]> {
-    let mut reached = HashSet::from([Session::new(client, server)]);
-    let mut to_try: Vec<Session> = reached.iter().cloned().collect();
+/// The sessions that are reached from blocks of any bytes where both ends are made in these ways, all of which are
+/// watched.
+fn reached(makings: &[Making]) -> HashSet<Session> {
+    let blocks = [vec![9; 64], vec![9; 64]];
+    let mut to_try: Vec<Session> = makings.iter().map(|making| Session::made_in(&blocks, *making)).collect();
+    let mut reached: HashSet<Session> = to_try.iter().cloned().collect();
     while let Some(session) = to_try.pop() {
         session.watch();
-        for next in session.next() {
+        for next in session.next(makings) {
             if reached.insert(next.clone()) {
                 to_try.push(next);
             }
         }
     }
-    reached.iter().map(|session| [session.blocks[0][2], session.blocks[1][2]]).collect()
+    reached
+}
+
+/// The pairs of phases of those sessions whose ends have these flows.
+fn phases(sessions: &HashSet<Session>, flows: [Flow; 2]) -> HashSet<[u8; 2]> {
+    let has_flows = |session: &&Session| ENDS.iter().all(|end| session.blocks[*end][1] == flows[*end] as u8);
+    sessions.iter().filter(has_flows).map(|session| ENDS.map(|end| session.blocks[end][2])).collect()
+}
+
+/// Every pair of flows, with the least and the largest limit.
+fn every_making() -> Vec<Making> {
+    let flows = Flow::ALL.map(|client| Flow::ALL.map(|server| [client, server])).concat();
+    flows.into_iter().flat_map(|flows| [*LIMITS.start(), *LIMITS.end()].map(|limit| (flows, limit))).collect()
 }
 
 #[test]
 fn the_two_ends_understand_each_other_in_every_schedule() {
+    let sessions = reached(&every_making());
     for flow in Flow::ALL {
-        let pairs = reached(flow, flow.other());
+        let pairs = phases(&sessions, [flow, flow.other()]);
         assert!((0..=5).all(|phase| pairs.contains(&[phase, phase])), "every phase is reached at both ends");
     }
 }
 
 #[test]
 fn ends_of_the_same_flow_come_no_further_than_the_open() {
+    let sessions = reached(&Flow::ALL.map(|flow| ([flow; 2], 50_000_000)));
     for flow in Flow::ALL {
-        assert_eq!(reached(flow, flow), HashSet::from([[0, 0], [1, 0], [5, 0], [1, 5], [5, 5]]));
+        assert_eq!(phases(&sessions, [flow; 2]), HashSet::from([[0, 0], [1, 0], [5, 0], [1, 5], [5, 5]]));
     }
+}
+
+/// A session in a batch of two, the client being the producer, with nothing on its way.
+fn in_batch() -> Session {
+    let session = Session::made_in(&[vec![9; 64], vec![9; 64]], ([Flow::Producer, Flow::Consumer], 50_000_000));
+    let session = session.carried(CLIENT, &Send::Open { name: b"pipe".to_vec(), format: Vec::new() });
+    session.carried(SERVER, &Send::Ready { count: 2 }).carried(CLIENT, &Send::Ready { count: 2 })
+}
+
+impl Session {
+    /// The session after a send that is accepted.
+    fn said(&self, end: usize, send: &Send) -> Session {
+        let after = self.after_send(end, send).expect("the send is accepted");
+        after.watch();
+        after
+    }
+
+    /// The session after a send and the delivery of its message.
+    fn carried(&self, end: usize, send: &Send) -> Session {
+        let after = self.said(end, send).after_delivery(1 - end).expect("its message is on its way");
+        after.watch();
+        after
+    }
+
+    /// The session with nothing on its way, all of it being lost.
+    fn losing_all(&self) -> Session {
+        Session { inboxes: [Vec::new(), Vec::new()], ..self.clone() }
+    }
+
+    /// The session with another count at an end.
+    fn counting(&self, end: usize, n: u16) -> Session {
+        let mut session = self.clone();
+        session.blocks[end] = State { n, ..self.state(end) }.block();
+        session
+    }
+}
+
+fn data() -> Send {
+    Send::Data { type_data: 0, ask: 0, body: Vec::new() }
+}
+
+#[test]
+#[should_panic(expected = "nothing is lost")]
+fn data_lost_on_their_way_are_told() {
+    in_batch().said(CLIENT, &data()).losing_all().watch();
+}
+
+#[test]
+#[should_panic(expected = "nothing is lost")]
+fn data_lost_before_a_close_are_told() {
+    in_batch().said(CLIENT, &data()).losing_all().carried(CLIENT, &Send::Close { code: 0 });
+}
+
+#[test]
+#[should_panic(expected = "neither end awaits a confirmation")]
+fn a_confirmation_lost_on_its_way_is_told() {
+    in_batch().carried(SERVER, &Send::Noop { type_data: 8, ask: 1 }).losing_all().watch();
+}
+
+#[test]
+#[should_panic(expected = "no more data than it agreed to")]
+fn an_end_that_sends_more_than_it_agreed_to_is_told() {
+    let session = in_batch().counting(CLIENT, 3);
+    session.said(CLIENT, &data()).said(CLIENT, &data()).said(CLIENT, &data());
+}
+
+#[test]
+#[should_panic(expected = "a batch agreed is never more than its offer")]
+fn a_client_that_agrees_to_more_than_its_offer_is_told() {
+    let session = in_batch().carried(CLIENT, &data()).carried(CLIENT, &data());
+    session.carried(SERVER, &Send::Ready { count: 1 }).counting(CLIENT, 2).said(CLIENT, &Send::Ready { count: 2 });
+}
+
+#[test]
+#[should_panic(expected = "no more READYs of the client than offers")]
+fn a_client_that_agrees_without_an_offer_is_told() {
+    let mut session = in_batch();
+    session.blocks[CLIENT] = session.state(CLIENT).after_ready(2, Phase::Offer).block();
+    session.said(CLIENT, &Send::Ready { count: 2 });
 }

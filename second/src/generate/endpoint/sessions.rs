@@ -6,26 +6,25 @@
 //!
 //! On the way it is watched that the two ends understand each other: neither refuses a message of the other, but for an
 //! OPEN for what is not offered and for what comes after its own close; nothing comes to an end that heard a CLOSE; the
-//! data accepted are the first of those sent, and in each batch no more than the client has agreed to; and while
-//! neither has closed and nothing is on its way, one of them may still send something other than NOOP and CLOSE.
+//! data accepted are the first of those sent, and all of them where nothing is on its way to an end that has not itself
+//! closed; each end sends and accepts no more than the batches that it agreed to, and none of these is more than its
+//! offer; and while neither has closed and nothing is on its way, neither awaits a confirmation and one of them may
+//! still send something other than NOOP and CLOSE. Now and then, where nothing is on its way, both ends are made again,
+//! and all this holds again from there.
 
 use std::collections::VecDeque;
 
 use super::{blocks, reply_room, room_for, sends, REPLY};
 use crate::calls::{Make, Receive, SendMessage};
-use crate::endpoint::{self, Flow, Heard, Phase, Role, Send, State, ACK_REPLY, BLOCK, CLOSE, DATA, OPEN, READY};
+use crate::endpoint::{self, Flow, Heard, Histories, Phase, Role, Send, State};
+use crate::endpoint::{ACK_REPLY, BLOCK, CLIENT, DATA, ENDS, OPEN, SERVER};
 use crate::generate::open::{other_text, short_text};
 use crate::generate::{add, Calls};
-use crate::open::{NOT_OFFERED, OTHER_FORMAT};
+use crate::open::{DEFAULT_LIMIT, NOT_OFFERED, OTHER_FORMAT};
 use crate::random::Random;
 
 /// The room that every message but a DATA fits into.
 const ENOUGH: usize = 700;
-
-/// The two ends.
-const CLIENT: usize = 0;
-const SERVER: usize = 1;
-const ENDS: [usize; 2] = [CLIENT, SERVER];
 
 /// How a session goes: each is done one in so many times.
 #[derive(Clone, Copy)]
@@ -38,6 +37,8 @@ struct Temper {
     no_ask: u64,
     /// A step closes.
     closes: u64,
+    /// A step where nothing is on its way makes both ends again.
+    makes: u64,
     /// A step gives bad arguments or too little room.
     errs: u64,
     /// A READY has a count so large that its batch will not end.
@@ -47,75 +48,103 @@ struct Temper {
 }
 
 const NEVER: u64 = u64::MAX;
-const EVEN: Temper = Temper { strangers: 10, waits: 3, no_ask: 2, closes: 150, errs: 12, long: 20, large: NEVER };
+const EVEN: Temper =
+    Temper { strangers: 10, waits: 3, no_ask: 2, closes: 150, makes: 30, errs: 12, long: 20, large: NEVER };
 
-/// An end: its block, the messages that are on their way to it, and whether it wrote or heard a CLOSE.
+/// An end: its block, and the messages that are on their way to it.
 struct End {
     block: Vec<u8>,
     inbox: VecDeque<Vec<u8>>,
-    has_closed: bool,
-    heard_close: bool,
-    /// How many data it may still accept in its batch: the client's READY sets it, at the client where it is sent and
-    /// at the server where it is heard.
-    left: u64,
 }
 
 impl End {
-    /// An end to which nothing has come.
-    fn new(block: Vec<u8>) -> End {
-        End { block, inbox: VecDeque::new(), has_closed: false, heard_close: false, left: 0 }
-    }
-
     fn state(&self) -> State {
         State::read(&self.block).expect("a block that an endpoint leaves is good")
     }
 }
-
-/// What a DATA carries: its type-data and its body.
-type Item = (u16, Vec<u8>);
 
 struct Session<'a> {
     random: &'a mut Random,
     calls: &'a mut Calls,
     temper: Temper,
     ends: [End; 2],
+    /// The names and formats: what the client opens, and what the server offers.
     opened: (Vec<u8>, Vec<u8>),
     offered: (Vec<u8>, Vec<u8>),
     /// Whether the flows go together, and whether the client has opened what the server offers.
     flows_meet: bool,
     meets: bool,
-    sent: Vec<Item>,
-    accepted: usize,
+    histories: Histories,
 }
 
 impl<'a> Session<'a> {
-    /// Two fresh ends, whose flows, names and formats mostly go together.
+    /// Two fresh ends, made in blocks of any bytes.
     fn new(random: &'a mut Random, calls: &'a mut Calls, temper: Temper, flow: Flow) -> Session<'a> {
+        let ends = ENDS.map(|_| End { block: random.bytes(BLOCK), inbox: VecDeque::new() });
+        let mut session = Session {
+            random,
+            calls,
+            temper,
+            ends,
+            opened: Default::default(),
+            offered: Default::default(),
+            flows_meet: false,
+            meets: false,
+            histories: Histories::default(),
+        };
+        session.make(flow);
+        session
+    }
+
+    /// Makes both ends in their blocks, the client with this flow. Where nothing is on its way both ends may be made
+    /// again at any time, and all that is watched holds again from there, with new histories.
+    fn make(&mut self, flow: Flow) {
+        assert!(self.all_delivered(), "both ends are made only where nothing is on its way");
+        let (limit, server_flow) = (self.limit(), self.choose_pipe(flow));
+        self.make_end(CLIENT, Role::Client, flow, limit);
+        self.make_end(SERVER, Role::Server, server_flow, DEFAULT_LIMIT);
+        (self.flows_meet, self.meets) = (server_flow != flow, false);
+        self.histories = Histories::default();
+        self.watch_step();
+    }
+
+    /// Chooses what a client of this flow opens and what the server offers, and answers the server's flow. They mostly
+    /// go together.
+    fn choose_pipe(&mut self, flow: Flow) -> Flow {
+        let random = &mut *self.random;
         let (name, format) = (short_text(random), if random.one_in(2) { Vec::new() } else { short_text(random) });
-        let mut offered = (name.clone(), format.clone());
-        let mut server_flow = flow.other();
-        if random.one_in(temper.strangers) {
+        self.opened = (name.clone(), format.clone());
+        self.offered = (name, format);
+        if random.one_in(self.temper.strangers) {
             match random.between(0, 3) {
-                0 => server_flow = flow,
-                1 => offered.0 = other_text(random, &name),
-                _ => offered.1 = other_text(random, &format),
+                0 => return flow,
+                1 => self.offered.0 = other_text(random, &self.opened.0),
+                _ => self.offered.1 = other_text(random, &self.opened.1),
             }
         }
-        let limit = match temper.large {
-            NEVER => blocks::limit(random),
-            _ => random.choose(&[1_000_000, 1_000_001, 1_000_100]),
-        };
-        let ends = [(Role::Client, flow), (Role::Server, server_flow)].map(|(role, flow)| {
-            let make = Make { role, block: random.bytes(BLOCK), flow: flow as u8, limit };
-            let limit = if role == Role::Client { limit } else { 50_000_000 };
-            let (number, block) = endpoint::made(&make.block, role, flow as u8, limit);
-            assert_eq!(number, 0);
-            add(calls, make);
-            End::new(block)
-        });
-        let (opened, flows_meet) = ((name, format), server_flow != flow);
-        let (sent, accepted) = (Vec::new(), 0);
-        Session { random, calls, temper, ends, opened, offered, flows_meet, meets: false, sent, accepted }
+        flow.other()
+    }
+
+    /// A limit for the client.
+    fn limit(&mut self) -> u32 {
+        match self.temper.large {
+            NEVER => blocks::limit(self.random),
+            _ => self.random.choose(&[1_000_000, 1_000_001, 1_000_100]),
+        }
+    }
+
+    /// Makes an end in its block.
+    fn make_end(&mut self, end: usize, role: Role, flow: Flow, limit: u32) {
+        let block = self.ends[end].block.clone();
+        let (number, made) = endpoint::made(&block, role, flow as u8, limit);
+        assert_eq!(number, 0, "an end is made whatever its block was");
+        add(self.calls, Make { role, block, flow: flow as u8, limit });
+        self.ends[end].block = made;
+    }
+
+    /// Whether nothing is on its way.
+    fn all_delivered(&self) -> bool {
+        self.ends.iter().all(|end| end.inbox.is_empty())
     }
 
     fn phase(&self, end: usize) -> Phase {
@@ -136,16 +165,11 @@ impl<'a> Session<'a> {
 
     /// Notes what the watch needs to know of a send.
     fn note(&mut self, end: usize, send: &Send) {
-        match send {
-            Send::Ready { count } if end == CLIENT => self.ends[end].left = u64::from(*count),
-            Send::Data { type_data, body, .. } => self.sent.push((*type_data, body.clone())),
-            Send::Close { .. } => self.ends[end].has_closed = true,
-            Send::Open { name, format } => {
-                let format_meets = format.is_empty() || *format == self.offered.1;
-                self.meets = self.flows_meet && *name == self.offered.0 && format_meets;
-            }
-            Send::Ready { .. } | Send::Noop { .. } => {}
+        if let Send::Open { name, format } = send {
+            let format_meets = format.is_empty() || *format == self.offered.1;
+            self.meets = self.flows_meet && *name == self.offered.0 && format_meets;
         }
+        self.histories.note_sent(end, send);
     }
 
     /// Sends from an end into a room that is mostly long enough.
@@ -177,7 +201,9 @@ impl<'a> Session<'a> {
         self.watch(end, &message, received.number, &received.heard);
         self.ends[end].block = received.block;
         if received.heard[3] != 0 {
-            self.ends[1 - end].inbox.push_back(received.out[..REPLY].to_vec());
+            let reply = received.out[..REPLY].to_vec();
+            self.histories.note_reply(end, &reply);
+            self.ends[1 - end].inbox.push_back(reply);
         }
     }
 
@@ -185,10 +211,9 @@ impl<'a> Session<'a> {
     fn watch(&mut self, end: usize, message: &[u8], number: u64, heard: &Heard) {
         match number {
             0 => self.watch_heard(end, message, heard),
-            endpoint::IS_CLOSED => assert!(self.ends[end].has_closed, "only an end that has closed hears nothing"),
+            endpoint::IS_CLOSED => assert!(self.histories.has_closed(end), "only an end that has closed hears nothing"),
             NOT_OFFERED | OTHER_FORMAT => {
                 assert!(end == SERVER && !self.meets, "an OPEN for what is offered is heard");
-                self.ends[end].has_closed = true;
             }
             _ => panic!("an end refuses as {number} what the other sent: {message:?}"),
         }
@@ -199,41 +224,31 @@ impl<'a> Session<'a> {
         let is_confirmation = heard[1] & u64::from(ACK_REPLY) != 0;
         match heard[0] as u8 {
             OPEN => assert!(self.meets, "an OPEN for what is not offered is refused"),
-            READY if end == SERVER => self.ends[end].left = heard[2],
             DATA if !is_confirmation => self.watch_data(end, message, heard),
-            CLOSE => self.ends[end].heard_close = true,
-            _ => {}
+            _ => self.histories.note_heard(end, heard),
         }
     }
 
-    /// Watches the data that are accepted: the next that was sent, and in each batch no more than was agreed to.
+    /// Watches the data that are accepted: the next that were sent, and no more than were agreed to.
     fn watch_data(&mut self, end: usize, message: &[u8], heard: &Heard) {
         let body = &message[heard[12] as usize..][..heard[13] as usize];
-        let (type_data, sent) = &self.sent[self.accepted];
-        assert!(heard[2] == u64::from(*type_data) && body == sent, "data are accepted as they were sent");
-        self.accepted += 1;
-        let left = &mut self.ends[end].left;
-        *left = left.checked_sub(1).expect("in a batch no more data are accepted than were agreed to");
+        self.histories.note_accepted(end, heard[2], body);
     }
 
-    /// Watches what holds after every step.
+    /// Watches what holds at every moment.
     fn watch_step(&mut self) {
-        let is_quiet = |end: &End| !end.heard_close || end.inbox.is_empty();
-        assert!(self.ends.iter().all(is_quiet), "nothing is on its way to an end that heard a CLOSE");
+        self.histories.watch(ENDS.map(|end| self.ends[end].inbox.len()));
         self.watch_progress();
     }
 
     /// Where neither end has closed and nothing is on its way, they agree on phase, count and limit and await no
     /// confirmation, and the send with which they go on is accepted.
     fn watch_progress(&mut self) {
-        let closed = ENDS.iter().any(|end| self.phase(*end) == Phase::Closed);
-        if closed || self.ends.iter().any(|end| !end.inbox.is_empty()) {
+        if !self.all_delivered() || !self.histories.neither_has_closed() {
             return;
         }
-        let [client, server] = [self.ends[CLIENT].state(), self.ends[SERVER].state()];
-        assert_eq!((client.phase, client.n), (server.phase, server.n));
-        assert!(client.phase == Phase::Fresh || client.limit == server.limit, "one limit holds for both");
-        assert!(client.awaited.is_empty() && server.awaited.is_empty(), "all that was asked is confirmed");
+        let [client, server] = ENDS.map(|end| self.ends[end].state());
+        endpoint::agree_at_rest(&client, &server);
         let (role, send) = endpoint::send_at_rest(&client);
         let end = if role == Role::Client { CLIENT } else { SERVER };
         let block = self.ends[end].block.clone();
@@ -313,10 +328,13 @@ impl<'a> Session<'a> {
         }
     }
 
-    /// One step: a delivery, a send, or a close.
+    /// One step: both ends made again, a delivery, a send, or a close.
     fn step(&mut self) {
         let end = self.random.choose(&ENDS);
-        if !self.ends[end].inbox.is_empty() && !self.random.one_in(self.temper.waits) {
+        if self.all_delivered() && self.random.one_in(self.temper.makes) {
+            let flow = self.random.choose(&Flow::ALL);
+            self.make(flow);
+        } else if !self.ends[end].inbox.is_empty() && !self.random.one_in(self.temper.waits) {
             self.deliver(end);
         } else if self.random.one_in(self.temper.closes) {
             let code = self.random.choose(&[0, 1, 2, 3, 4, 5, 6, 100, 101, 102, 103]);
@@ -350,12 +368,13 @@ impl<'a> Session<'a> {
             self.step();
         }
         self.send_into(end, &Send::Close { code }, REPLY);
+        self.watch_step();
         self.drain();
     }
 
     /// Delivers until nothing is on its way.
     fn drain(&mut self) {
-        while self.ends.iter().any(|end| !end.inbox.is_empty()) {
+        while !self.all_delivered() {
             let end = self.random.choose(&ENDS);
             self.deliver(end);
             self.watch_step();
@@ -422,3 +441,6 @@ pub fn closed_in_every_phase(random: &mut Random) -> Calls {
     }
     calls
 }
+
+#[cfg(test)]
+mod tests;

@@ -110,6 +110,20 @@ fn sessions_go_through_every_phase_up_to_every_confirmation() {
     assert!(numbers.contains(&("fbdp_send_noop", 32)) && numbers.contains(&("fbdp_send_data", 32)));
 }
 
+/// The blocks in which a session first makes its ends hold any bytes, and are not good.
+#[test]
+fn sessions_make_both_ends_again_in_every_phase_with_every_flow() {
+    let mut random = Random::new(13);
+    let mut made_again = BTreeSet::new();
+    for call in (0..40).flat_map(|_| sessions::sessions(&mut random)) {
+        if ["fbdp_make_client", "fbdp_make_server"].contains(&call.function().name()) {
+            let (_, before, after) = answered(call.as_ref());
+            made_again.extend(State::read(&before).map(|state| (after[0], state.phase as u8, before[1], after[1])));
+        }
+    }
+    assert_eq!(made_again.len(), 2 * 6 * 2 * 2);
+}
+
 /// Whether a server of the other flow hears the message of a receive.
 fn other_flow_hears(receive: &dyn Call) -> bool {
     let arguments = receive.arguments();

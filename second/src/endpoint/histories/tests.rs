@@ -1,0 +1,206 @@
+//! Tests of the watch: histories that break one clause each, and ones that come close and break none.
+
+use super::*;
+use crate::endpoint::DATA;
+
+fn ready(count: u16) -> Send {
+    Send::Ready { count }
+}
+
+fn data(type_data: u16) -> Send {
+    Send::Data { type_data, ask: 0, body: b"run".to_vec() }
+}
+
+/// What is heard with a message of this type and type-data.
+fn heard(message_type: u8, type_data: u64) -> Heard {
+    let mut heard = [0; 16];
+    (heard[0], heard[2]) = (message_type.into(), type_data);
+    heard
+}
+
+/// A reply of this type.
+fn reply(message_type: u8) -> [u8; 14] {
+    [0, 1, 0, 0, 0, 8, 0x46, 0x42, 0x44, 0x50, 8 * message_type + 1, 0, 0, 100]
+}
+
+/// Notes READYs of an end, each heard by the other.
+fn note_readys(histories: &mut Histories, sender: usize, counts: &[u16]) {
+    for count in counts {
+        histories.note_sent(sender, &ready(*count));
+        histories.note_heard(1 - sender, &heard(READY, (*count).into()));
+    }
+}
+
+/// Histories with these READYs of the server and of the client, each heard by the other.
+fn with_readys(server: &[u16], client: &[u16]) -> Histories {
+    let mut histories = Histories::default();
+    note_readys(&mut histories, SERVER, server);
+    note_readys(&mut histories, CLIENT, client);
+    histories
+}
+
+/// Histories with a batch of two, of which an end has sent the first.
+fn with_data_sent(sender: usize) -> Histories {
+    let mut histories = with_readys(&[2], &[2]);
+    histories.note_sent(sender, &data(0));
+    histories
+}
+
+#[test]
+fn data_on_their_way_and_data_accepted_are_not_lost() {
+    for sender in ENDS {
+        let mut histories = with_data_sent(sender);
+        let mut on_their_way = [0; 2];
+        on_their_way[1 - sender] = 1;
+        histories.watch(on_their_way);
+        histories.note_accepted(1 - sender, 0, b"run");
+        histories.watch([0; 2]);
+    }
+}
+
+/// Neither the CLOSE that it sent nor the one that refuses an OPEN asks an end to accept what comes behind it.
+#[test]
+fn an_end_that_has_closed_may_leave_data() {
+    for sender in ENDS {
+        let mut histories = with_data_sent(sender);
+        histories.note_sent(1 - sender, &Send::Close { code: 0 });
+        histories.watch([0; 2]);
+        let mut histories = with_data_sent(sender);
+        histories.note_reply(1 - sender, &reply(CLOSE));
+        histories.watch([0; 2]);
+        assert!(histories.has_closed(1 - sender) && !histories.neither_has_closed());
+    }
+}
+
+#[test]
+#[should_panic(expected = "nothing is lost")]
+fn data_that_never_come_to_the_server_are_lost() {
+    with_data_sent(CLIENT).watch([0; 2]);
+}
+
+#[test]
+#[should_panic(expected = "nothing is lost")]
+fn data_that_never_come_to_the_client_are_lost() {
+    with_data_sent(SERVER).watch([0; 2]);
+}
+
+#[test]
+#[should_panic(expected = "nothing is lost")]
+fn data_that_never_come_to_an_end_that_heard_a_close_are_lost() {
+    let mut histories = with_data_sent(CLIENT);
+    histories.note_sent(CLIENT, &Send::Close { code: 0 });
+    histories.note_heard(SERVER, &heard(CLOSE, 0));
+    histories.watch([0; 2]);
+}
+
+#[test]
+#[should_panic(expected = "nothing is lost")]
+fn a_confirmation_written_is_no_close() {
+    let mut histories = with_data_sent(CLIENT);
+    histories.note_reply(SERVER, &reply(DATA));
+    histories.watch([0; 2]);
+}
+
+#[test]
+#[should_panic(expected = "nothing is on its way to an end that heard a CLOSE")]
+fn nothing_comes_behind_a_close() {
+    let mut histories = Histories::default();
+    histories.note_heard(CLIENT, &heard(CLOSE, 0));
+    histories.watch([1, 0]);
+}
+
+#[test]
+#[should_panic(expected = "data are accepted as they were sent")]
+fn data_are_not_accepted_out_of_order() {
+    let mut histories = with_data_sent(CLIENT);
+    histories.note_sent(CLIENT, &data(1));
+    histories.note_accepted(SERVER, 1, b"run");
+}
+
+#[test]
+#[should_panic(expected = "data are accepted as they were sent")]
+fn data_are_not_accepted_twice() {
+    let mut histories = with_data_sent(CLIENT);
+    histories.note_accepted(SERVER, 0, b"run");
+    histories.note_accepted(SERVER, 0, b"run");
+}
+
+#[test]
+fn as_many_data_as_agreed_are_sent_and_accepted() {
+    let mut histories = Histories::default();
+    for batch in [[0, 1], [2, 3]] {
+        note_readys(&mut histories, SERVER, &[0, 5]);
+        note_readys(&mut histories, CLIENT, &[2]);
+        for number in batch {
+            histories.note_sent(SERVER, &data(number));
+            histories.note_accepted(CLIENT, number.into(), b"run");
+        }
+    }
+}
+
+#[test]
+#[should_panic(expected = "no more data than it agreed to")]
+fn an_end_sends_no_more_than_it_agreed_to() {
+    let mut histories = with_readys(&[2], &[1]);
+    histories.note_sent(SERVER, &data(0));
+    histories.note_sent(SERVER, &data(1));
+}
+
+/// The client agreed to two, and the server heard of one.
+#[test]
+#[should_panic(expected = "no more data than it agreed to")]
+fn an_end_accepts_no_more_than_it_agreed_to() {
+    let mut histories = with_readys(&[2], &[]);
+    histories.note_sent(CLIENT, &ready(2));
+    histories.note_heard(SERVER, &heard(READY, 1));
+    for number in [0, 1] {
+        histories.note_sent(CLIENT, &data(number));
+        histories.note_accepted(SERVER, number.into(), b"run");
+    }
+}
+
+#[test]
+#[should_panic(expected = "no more data than it agreed to")]
+fn data_sent_and_data_accepted_count_together() {
+    let mut histories = with_readys(&[1], &[1]);
+    for end in ENDS {
+        histories.note_sent(end, &data(0));
+    }
+    histories.note_accepted(CLIENT, 0, b"run");
+}
+
+#[test]
+#[should_panic(expected = "no more data than it agreed to")]
+fn an_offer_alone_agrees_to_nothing() {
+    with_readys(&[2], &[]).note_sent(SERVER, &data(0));
+}
+
+#[test]
+fn a_batch_is_held_against_the_offer_of_its_place() {
+    with_readys(&[0, 5, 0, 2], &[5, 2]);
+    with_readys(&[5, 2, 3], &[0, 1]);
+}
+
+#[test]
+#[should_panic(expected = "a batch agreed is never more than its offer")]
+fn the_client_sends_no_ready_above_its_offer() {
+    with_readys(&[5, 2], &[2]).note_sent(CLIENT, &ready(3));
+}
+
+#[test]
+#[should_panic(expected = "a batch agreed is never more than its offer")]
+fn the_server_hears_no_ready_above_its_offer() {
+    with_readys(&[5, 2], &[2]).note_heard(SERVER, &heard(READY, 3));
+}
+
+#[test]
+#[should_panic(expected = "no more READYs of the client than offers")]
+fn the_client_sends_no_ready_without_an_offer() {
+    with_readys(&[5, 0], &[2]).note_sent(CLIENT, &ready(0));
+}
+
+#[test]
+#[should_panic(expected = "no more READYs of the client than offers")]
+fn the_server_hears_no_ready_without_an_offer() {
+    with_readys(&[5, 0], &[2]).note_heard(SERVER, &heard(READY, 0));
+}
