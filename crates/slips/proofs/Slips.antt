@@ -1,15 +1,16 @@
 -- Slips that are seen by computing a run: each breaks a clause of demand 3 at its end. Assumes nothing.
-use mathlib.Core.Path.{ap, refl}
+use mathlib.Core.Path.{_≡_, ap, refl}
 use mathlib.Core.List.{List, [], _∷_}
 use mathlib.Core.Bool.{true, false}
 use Prim.Native.Nat.{ℕ}
 use native.Mathlib.Omega.{arith}
 use lib.ListN.{getD, length}
 use Rattle.bytes_be.proofs.Tests.{clash}
-use Rattle.sending.specs.Calls.{DATA}
-use Rattle.session.specs.World.{Client, Server}
+use Rattle.sending.specs.Calls.{CLOSE, DATA}
+use Rattle.session.specs.World.{Client, Server, Going, WroteClose}
 use Rattle.slips.specs.Slips.{countingConfirmations, CountingConfirmationsFails, readingLowByteFirst, ReadingLowByteFirstFails}
 use Rattle.slips.specs.Slips.{losingData, LosingDataFails, agreeingAboveOffer, AgreeingAboveOfferFails, runningPastCount, RunningPastCountFails}
+use Rattle.slips.specs.Slips.{passingOverClose, PassingOverCloseFails, hearingReadyAsClose, HearingReadyAsCloseFails}
 use Rattle.slips.proofs.Runs.{agreeing, at-rest, at-the-end, calls, hears, room, running}
 
 -- an offer of 1 is heard as one of 256
@@ -48,3 +49,18 @@ counting-confirmations-fails demand =
     let once = calls Client (DATA 0 true []) ∷ hears Server ∷ hears Client ∷ [] in
     let holds = at-the-end countingConfirmations demand (agreeing 2 2 once) (λ w. omega arith) in
     absurd (omega (arith, holds .may-send (at-rest _ refl refl refl refl) .accepted room (omega arith) .0))
+
+-- the client closes, its CLOSE arrives, and the server goes on
+pub passing-over-close-fails : PassingOverCloseFails
+unfolding running
+passing-over-close-fails demand =
+    let holds = at-the-end passingOverClose demand (agreeing 1 1 (calls Client (CLOSE 0) ∷ hears Server ∷ [])) (λ w. omega arith) in
+    holds .close-arrives Client refl refl refl
+
+-- the client has heard a CLOSE that the server did not write
+pub hearing-ready-as-close-fails : HearingReadyAsCloseFails
+unfolding running
+hearing-ready-as-close-fails demand =
+    let holds = at-the-end hearingReadyAsClose demand (agreeing 1 1 []) (λ w. omega arith) in
+    let wrote : Going ≡ WroteClose = holds .close-was-written Client refl in
+    clash cc

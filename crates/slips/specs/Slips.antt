@@ -1,4 +1,4 @@
--- "Slips we have seen", and three more: each is a program that is the tables but for that slip, and demand 3 fails of it.
+-- "Slips we have seen", and five more: each is a program that is the tables but for that slip, and demand 3 fails of it.
 -- Two slips of document 01 demand 3 does not see: "Replying to a CLOSE that passes 10..13.", as the reply reaches an end that has itself closed and
 -- passes it over, and "Matching a confirmation to any entry and not the oldest.", as in a session the oldest is the one that comes. The contract of
 -- `fbdp_receive` sees both (`fbdp/specs/Blocks: ReceiveOnBlock`).
@@ -11,15 +11,15 @@ use lib.IntN.{pos}
 use lib.Ieee.{Float, binary64, div, lt, mul, ofBits, ofInt}
 use Rattle.bytes_be.specs.Part.{part, putAt}
 use Rattle.bundle.specs.Reading.{startOf}
-use Rattle.control.specs.declared.MessageType.the-variants.{Data}
+use Rattle.control.specs.declared.MessageType.the-variants.{Close, Data, Ready}
 use Rattle.control.specs.Frame.{ackReply, typeOf}
 use Rattle.endpoint.specs.declared.Endpoint.{Endpoint}
-use Rattle.endpoint.specs.Record.{batch, producer, atPhase}
+use Rattle.endpoint.specs.Record.{batch, producer, atPhase, closed}
 use Rattle.table.specs.declared.Row.the-variants.{AboveOffer}
 use Rattle.table.specs.Table.{dataRow, hearNumber, moved, sendNumber}
 use Rattle.receiving.specs.Refusing.{refused}
 use Rattle.sending.specs.Calls.{Call}
-use Rattle.machine.specs.Programs.{Queued, nothingTold, Told, SendOutcome, ReceiveOutcome, outcomeOf, Program, tables}
+use Rattle.machine.specs.Programs.{Queued, nothingTold, Told, SendOutcome, ReceiveOutcome, ignored, outcomeOf, Program, tables}
 use Rattle.session.specs.Demand.{DemandOf, asRecords}
 
 -- demand 3 does not hold of a program
@@ -114,7 +114,7 @@ readingLowByteFirst =
 abbrev pub ReadingLowByteFirstFails : Type 0
 ReadingLowByteFirstFails = Fails readingLowByteFirst
 
--- ---- three more
+-- ---- five more
 
 -- a DATA is heard, and nothing is told of it
 abbrev pub losingData : Program Endpoint ℕ
@@ -147,3 +147,26 @@ runningPastCount = changing (λ e done. sentLeaving (staying e) done) (λ e done
 
 abbrev pub RunningPastCountFails : Type 0
 RunningPastCountFails = Fails runningPastCount
+
+-- a CLOSE is heard, and nothing comes of it
+abbrev pub passingOverClose : Program Endpoint ℕ
+passingOverClose = changing asGiven (λ e done. cond (eqb (done .told .message) (typeOf Close)) (ignored 0 e) done)
+
+abbrev pub PassingOverCloseFails : Type 0
+PassingOverCloseFails = Fails passingOverClose
+
+-- a READY is heard as a CLOSE
+abbrev pub asClose : Endpoint → ReceiveOutcome Endpoint → ReceiveOutcome Endpoint
+asClose e done =
+    record {
+      number = done .number;
+      told = record { message = typeOf Close; flags = 0; type-data = 0; body = [] };
+      replied = [];
+      next = closed e;
+    }
+
+abbrev pub hearingReadyAsClose : Program Endpoint ℕ
+hearingReadyAsClose = changing asGiven (λ e done. cond (eqb (done .told .message) (typeOf Ready)) (asClose e done) done)
+
+abbrev pub HearingReadyAsCloseFails : Type 0
+HearingReadyAsCloseFails = Fails hearingReadyAsClose
