@@ -3,7 +3,7 @@
 use Prim.Native.Nat.{ℕ}
 use mathlib.Core.List.{List}
 use Rattle.sending.specs.Calls.{Call}
-use Rattle.session.specs.World.{End, Client, Server, Terms, makingOf, World, Event, AllFit, side, begun, run}
+use Rattle.session.specs.World.{End, Client, Server, Makings, makingOf, World, Event, AllFit, side, begun, run}
 use Rattle.session.specs.Demand.{Fresh, AtRest, MaySend}
 use Rattle.entries.specs.Entries.{Entries, Meets, onBlocks, inBlocks}
 use Rattle.idle.specs.Idle.{RefusesEverything}
@@ -18,7 +18,7 @@ module _ (p : Entries) where
   -- for every fresh client and fresh server, and any calls
   abbrev pub GoesOn : Type 0
   GoesOn =
-      (terms : Terms) (client server : List ℕ) → Fresh inBlocks (makingOf terms Client) client → Fresh inBlocks (makingOf terms Server) server
+      (makings : Makings) (client server : List ℕ) → Fresh inBlocks (makingOf makings Client) client → Fresh inBlocks (makingOf makings Server) server
       → (events : List (Event (List ℕ))) → AllFit (onBlocks p) (begun client server) events
       → AtRest (run (onBlocks p) (begun client server) events) → MayStillSend (run (onBlocks p) (begun client server) events)
 

@@ -16,8 +16,8 @@ use Rattle.machine.specs.Programs.{Queued, Program, tables}
 use Rattle.session.specs.World.{End, across, Ending, Side, World, Event, AllFit, side, joined, withQueue, afterReceive, step, run, begun}
 use Rattle.session.specs.World.{viewedSide, Client, Server, Going, HeardClose, WroteClose, receives}
 use Rattle.session.specs.Packets.{Packet, queuedIn, dataIn, readyIn}
-use Rattle.session.specs.Turns.{producing, turn, Stage, stageOf, Standing, IsOpen, Listens, stands, standing, Converge, ClosedByOther, ClosedByItself}
-use Rattle.session.specs.Demand.{MayAnswer, PhaseFits, agreed, sum, nextEnd, nextCall, AtRest, MaySend, Demand}
+use Rattle.session.specs.Turns.{Stage, stageOf, Standing, IsOpen, Listens, stands, standing, Converge, ClosedByOther, ClosedByItself}
+use Rattle.session.specs.Demand.{MayAnswer, PhaseFits, agreed, sum, nextEnd, nextCall, AtRest, MaySend, Demand, producing, turn}
 use Rattle.session.specs.Confirmations.{askedIn, confirmedIn}
 use Rattle.session.specs.Invariant.{Delivers, Model, source, Linked, Joint, Invariant}
 use Rattle.session.specs.Laws.{Laws, InvariantHolds, LawsSuffice, onRecords}
@@ -50,7 +50,8 @@ listens-still x = go (x .past .ending)
     go WroteClose still = absurd (still refl)
 
 -- what was sent is heard where nothing is on its way to an end that listens
-all-heard : {A : Type 0} (carried : Packet → List A) {sent heard : List A} {p : List Packet} {b : Standing} → Delivers carried sent p b heard → Listens b
+all-heard : {A : Type 0} (carried : Packet → List A) {sent heard : List A} {p : List Packet} {b : Standing} → Delivers carried sent p b heard
+    → Listens b
     → p ≡ [] → heard ≡ sent
 unfolding flatMap
 all-heard {A = A} carried {heard = heard} delivers listens none =
@@ -73,7 +74,7 @@ module _ {A O : Type 0} (prog : Program A O) (model : Model A) (laws : Laws prog
   abbrev seen : Side A → Side Endpoint
   seen x = viewedSide (model .view .endpoint) x
 
-  joint : (end : End) → Joint (holds .terms) model end (side w end) (side w (across end))
+  joint : (end : End) → Joint (holds .makings) model end (side w end) (side w (across end))
   joint end = seen-from end w holds
 
   -- "neither end refuses the other's message"
@@ -84,7 +85,7 @@ module _ {A O : Type 0} (prog : Program A O) (model : Model A) (laws : Laws prog
   head-answered end [] is m rest queued name format out enough = clash cc
   head-answered end (packet ∷ q) is m rest queued name format out enough =
       subst Answers (first-of queued)
-      (head-delivered prog model laws (holds .terms) end (side w end) (side w (across end)) (joint end .from-here) q packet
+      (head-delivered prog model laws (holds .makings) end (side w end) (side w (across end)) (joint end .from-here) q packet
       (rw is at (joint end .linked)) (joint end .fine) (joint end .fine-across) name format out enough .may)
     where
       Answers : Queued → Type 0
@@ -140,7 +141,7 @@ module _ {A O : Type 0} (prog : Program A O) (model : Model A) (laws : Laws prog
     abbrev there : Endpoint
     there = model .view .endpoint (w .server .self)
 
-    abbrev linked : Linked (holds .terms) (model .rules) Client (seen (w .client)) (seen (w .server)) (holds .joint .from-here) (holds .joint .from-across)
+    abbrev linked : Linked (holds .makings) (model .rules) Client (seen (w .client)) (seen (w .server)) (holds .joint .from-here) (holds .joint .from-across)
         (model .view .ledger (w .client .self)) (model .view .ledger (w .server .self))
     linked = holds .joint .linked
 
@@ -149,7 +150,7 @@ module _ {A O : Type 0} (prog : Program A O) (model : Model A) (laws : Laws prog
     same-stage =
         let none = none-queued (holds .joint .from-here) (sym (linked .here .queued) ∙ rest .none-coming Client) in
         let none-back = none-queued (holds .joint .from-across) (sym (linked .there .queued) ∙ rest .none-coming Server) in
-        rests-converge (source (holds .terms)) Client
+        rests-converge (source (holds .makings)) Client
         (rw (rest .going Client, rest .going Server, none, none-back) at (linked .converge))
 
     same-phase : here .phase ≡ there .phase
@@ -207,28 +208,28 @@ module _ {A O : Type 0} (prog : Program A O) (model : Model A) (laws : Laws prog
 
 -- how the ends have closed
 module _ {A : Type 0} {model : Model A} (w : World A) (holds : Invariant model w) (end : End) where
-  abbrev at : Joint (holds .terms) model end (side w end) (side w (across end))
+  abbrev at : Joint (holds .makings) model end (side w end) (side w (across end))
   at = seen-from end w holds
 
   abbrev seen-end : End → Side Endpoint
   seen-end which = viewedSide (model .view .endpoint) (side w which)
 
   module _ (closing : side w end .past .ending ≡ HeardClose) where
-    shut-there : Converge (source (holds .terms)) end ClosedByOther (at .from-here) (standing (seen-end (across end))) (at .from-across)
+    shut-there : Converge (source (holds .makings)) end ClosedByOther (at .from-here) (standing (seen-end (across end))) (at .from-across)
     shut-there = rw (ap (λ (ending : Ending). stands ending (seen-end end .self)) closing) at (at .linked .converge)
 
     none-behind : side w (across end) .queue ≡ []
-    none-behind = at .linked .there .queued ∙ ap (map queuedIn) (shut-converge (source (holds .terms)) end shut-there)
+    none-behind = at .linked .there .queued ∙ ap (map queuedIn) (shut-converge (source (holds .makings)) end shut-there)
 
     other-wrote : side w (across end) .past .ending ≡ WroteClose
-    other-wrote = wrote-close (seen-end (across end)) (shut-across (source (holds .terms)) end shut-there)
+    other-wrote = wrote-close (seen-end (across end)) (shut-across (source (holds .makings)) end shut-there)
 
   arrives : side w end .past .ending ≡ WroteClose → side w end .queue ≡ [] → side w (across end) .past .ending ≡ Going → ⊥
   arrives wrote none going =
       let gone = ap (λ (ending : Ending). stands ending (seen-end end .self)) wrote in
       let still = ap (λ (ending : Ending). stands ending (seen-end (across end) .self)) going in
       let empty-queue = none-queued (at .from-here) (sym (at .linked .here .queued) ∙ none) in
-      close-converge (source (holds .terms)) end (rw (gone, still, empty-queue) at (at .linked .converge))
+      close-converge (source (holds .makings)) end (rw (gone, still, empty-queue) at (at .linked .converge))
 
   all-arrived : (side w end .past .ending ≡ WroteClose → ⊥) → side w (across end) .queue ≡ []
       → (side w end .past .accepted ≡ side w (across end) .past .sent) × (side w end .past .readies-heard ≡ side w (across end) .past .readies)
@@ -272,9 +273,9 @@ run-keeps prog model laws w (event ∷ rest) fit holds =
     run-keeps prog model laws (step prog w event) rest (fit .1) (step-keeps _ _ prog model laws w event (fit .0) holds)
 
 pub laws-suffice : LawsSuffice
-laws-suffice A O prog model laws terms client server fresh server-fresh events fit =
+laws-suffice A O prog model laws makings client server fresh server-fresh events fit =
     invariant-holds A O prog model laws (run prog (begun client server) events)
-    (run-keeps prog model laws (begun client server) events fit (start-keeps A O prog model laws terms client server fresh server-fresh))
+    (run-keeps prog model laws (begun client server) events fit (start-keeps A O prog model laws makings client server fresh server-fresh))
 
 -- demand 3
 pub demand : Demand

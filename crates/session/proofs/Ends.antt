@@ -18,11 +18,11 @@ use Rattle.sending.specs.Calls.{Call, OPEN, READY, DATA, NOOP, CLOSE, messageOf
 use Rattle.machine.proofs.Rows.{closed-sound}
 use Rattle.machine.specs.Good.{Sound}
 use Rattle.machine.specs.Programs.{Making, AsClient, AsServer, freshBy, Queued, SendOutcome}
-use Rattle.session.specs.World.{End, Terms, makingOf, noHistory, made, Client, Server, across, Datum, Ending, Side, endedBy, afterCall}
+use Rattle.session.specs.World.{End, Makings, makingOf, noHistory, made, Client, Server, across, Datum, Ending, Side, endedBy, afterCall}
 use Rattle.session.specs.World.{afterMessage, Going, HeardClose, WroteClose}
 use Rattle.session.specs.Packets.{Packet, dataIn, readyIn, queuedIn, rowMessage, typeDataIn, Called, Confirms, Closes}
-use Rattle.session.specs.Turns.{roleOf, Standing, nothing, empty, ahead, producing}
-use Rattle.session.specs.Demand.{agreed, offersAt, Ledger, nothingDue, Fresh, PhaseFits}
+use Rattle.session.specs.Turns.{roleOf, Standing, nothing, empty, ahead}
+use Rattle.session.specs.Demand.{agreed, offersAt, Ledger, nothingDue, Fresh, PhaseFits, producing}
 use Rattle.session.specs.Confirmations.{Awaits}
 use Rattle.session.specs.Invariant.{Within, OffersTaken, Delivers, Knows, Model, Settled, OneEnd, Linked, Joint, source, Proper, AllProper}
 use Rattle.session.specs.Laws.{answersIn, Comes, limitAfter, SentOn}
@@ -62,17 +62,17 @@ fresh-sound (AsClient flow limit) given =
 fresh-sound (AsServer flow) given =
     record { sized = fresh-sized server flow mostLimit; is-good = fresh-good server flow mostLimit refl (given-well flow mostLimit given) }
 
-module _ {A : Type 0} (terms : Terms) (model : Model A) where
+module _ {A : Type 0} (makings : Makings) (model : Model A) where
   -- a fresh client and a fresh server
-  fresh-linked : givenOf (freshBy (makingOf terms Client) .flow) (freshBy (makingOf terms Client) .limit) ≡ Good
-      → givenOf (freshBy (makingOf terms Server) .flow) (freshBy (makingOf terms Server) .limit) ≡ Good
-      → Linked terms (model .rules) Client (made (freshBy (makingOf terms Client))) (made (freshBy (makingOf terms Server))) [] [] nothingDue nothingDue
+  fresh-linked : givenOf (freshBy (makingOf makings Client) .flow) (freshBy (makingOf makings Client) .limit) ≡ Good
+      → givenOf (freshBy (makingOf makings Server) .flow) (freshBy (makingOf makings Server) .limit) ≡ Good
+      → Linked makings (model .rules) Client (made (freshBy (makingOf makings Client))) (made (freshBy (makingOf makings Server))) [] [] nothingDue nothingDue
   unfolding freshOf
   fresh-linked given server-given =
       record {
         here =
             record {
-              sound = fresh-sound (makingOf terms Client) given;
+              sound = fresh-sound (makingOf makings Client) given;
               role = refl;
               flows = refl;
               ends = omega arith;
@@ -83,7 +83,7 @@ module _ {A : Type 0} (terms : Terms) (model : Model A) where
             };
         there =
             record {
-              sound = fresh-sound (makingOf terms Server) server-given;
+              sound = fresh-sound (makingOf makings Server) server-given;
               role = refl;
               flows = refl;
               ends = omega arith;
@@ -101,8 +101,8 @@ module _ {A : Type 0} (terms : Terms) (model : Model A) where
         readies-across = nothing-delivered readyIn _;
       }
 
-  pub fresh-joint : (x y : A) → model .Fine x → model .Fine y → Fresh (model .view) (makingOf terms Client) x
-      → Fresh (model .view) (makingOf terms Server) y → Joint terms model Client (made x) (made y)
+  pub fresh-joint : (x y : A) → model .Fine x → model .Fine y → Fresh (model .view) (makingOf makings Client) x
+      → Fresh (model .view) (makingOf makings Server) y → Joint makings model Client (made x) (made y)
   fresh-joint x y fine fine-across client server =
       record {
         from-here = [];
@@ -170,22 +170,22 @@ pub hearer-knows : (end : End) {role flow phase n type-data next count : ℕ} {m
 hearer-knows Client other moves = tt
 hearer-knows Server other moves = server-knows other moves
 
-module _ {A : Type 0} (terms : Terms) (model : Model A) where
-  pub proper-append : (end : End) (p q : List Packet) → AllProper terms (model .rules) end p → AllProper terms (model .rules) end q
-      → AllProper terms (model .rules) end (p ++ q)
+module _ {A : Type 0} (makings : Makings) (model : Model A) where
+  pub proper-append : (end : End) (p q : List Packet) → AllProper makings (model .rules) end p → AllProper makings (model .rules) end q
+      → AllProper makings (model .rules) end (p ++ q)
   proper-append end [] q front back = back
   proper-append end (m ∷ p) q front back = (front .0, proper-append end p q (front .1) back)
 
   queued-append : (x : Side Endpoint) (p r : List Packet) → x .queue ≡ map queuedIn p → x .queue ++ map queuedIn r ≡ map queuedIn (p ++ r)
   queued-append x p r queued = rw queued (sym (map-append queuedIn p r))
 
-  proper-if : (end : End) (m : Packet) (t : Bool) → Proper terms (model .rules) end m → AllProper terms (model .rules) end (cond t (m ∷ []) [])
+  proper-if : (end : End) (m : Packet) (t : Bool) → Proper makings (model .rules) end m → AllProper makings (model .rules) end (cond t (m ∷ []) [])
   proper-if end m true proper = (proper, tt)
   proper-if end m false proper = tt
 
   -- the confirmation of a proper packet is proper
-  answers-proper : (prompt : MessageType → Bool) (end : End) (m : Packet) → Proper terms (model .rules) (across end) m
-      → AllProper terms (model .rules) end (answersIn prompt m)
+  answers-proper : (prompt : MessageType → Bool) (end : End) (m : Packet) → Proper makings (model .rules) (across end) m
+      → AllProper makings (model .rules) end (answersIn prompt m)
   answers-proper prompt end (Called e (OPEN name format)) made = tt
   answers-proper prompt end (Called e (READY count)) made = tt
   answers-proper prompt end (Called e (DATA type-data true body)) made = proper-if end (Confirms Data type-data) (prompt Data) (refl, made .fits)
@@ -197,15 +197,15 @@ module _ {A : Type 0} (terms : Terms) (model : Model A) where
   answers-proper prompt end (Closes code) made = tt
 
   -- a closed client has its limit and flow still
-  closed-settled : (end : End) {e : Endpoint} → Knows end shut → (Knows end (e .phase) → Settled terms end e) → Settled terms end (closed e)
+  closed-settled : (end : End) {e : Endpoint} → Knows end shut → (Knows end (e .phase) → Settled makings end e) → Settled makings end (closed e)
   unfolding closed
   closed-settled Client still settled = record { limited = settled tt .limited; produced = settled tt .produced }
   closed-settled Server still settled = absurd (omega (arith, still .1))
 
-  module _ (end : End) (x : Side Endpoint) (p : List Packet) (here : OneEnd terms (model .rules) end x p) where
+  module _ (end : End) (x : Side Endpoint) (p : List Packet) (here : OneEnd makings (model .rules) end x p) where
     -- an end that sent a call
     pub sent-sides : (dues : Ledger) (call : Call) (result : SendOutcome A) → (sent : SentOn model (x .self) dues call result)
-        → OneEnd terms (model .rules) end (wrote end x call (queuedIn (sent .packet)) (model .view .endpoint (result .next))) (p ++ (sent .packet ∷ []))
+        → OneEnd makings (model .rules) end (wrote end x call (queuedIn (sent .packet)) (model .view .endpoint (result .next))) (p ++ (sent .packet ∷ []))
     sent-sides dues call result sent =
         let comes = sent .comes in
         let leads = rw (here .role) at (sent .leads) in
@@ -219,7 +219,7 @@ module _ {A : Type 0} (terms : Terms) (model : Model A) where
           flows = comes .flow ∙ here .flows;
           ends = rw (going, comes .phased) (landed-ends WroteClose refl (moved-lands moves));
           queued = queued-append x p (sent .packet ∷ []) (here .queued);
-          proper = proper-append end p (sent .packet ∷ []) (here .proper) (sent .proper terms end (here .flows) (here .settled knows .limited), tt);
+          proper = proper-append end p (sent .packet ∷ []) (here .proper) (sent .proper makings end (here .flows) (here .settled knows .limited), tt);
           settled =
               λ still. record {
                 limited = comes .limited ∙ here .settled knows .limited;
@@ -231,11 +231,11 @@ module _ {A : Type 0} (terms : Terms) (model : Model A) where
         }
 
     -- an end that has not closed heard a packet, whose row leads to this phase and n; an OPEN only where it is for who produces
-    pub heard-sides : (m : Packet) (phase n : ℕ) (next : Endpoint) → Proper terms (model .rules) (across end) m
+    pub heard-sides : (m : Packet) (phase n : ℕ) (next : Endpoint) → Proper makings (model .rules) (across end) m
         → Moved (roleOf (across end)) (other (x .self .flow)) (x .self .phase) (x .self .n) (rowMessage m) (typeDataIn m) phase n
-        → (isOpenMessage (rowMessage m) ≡ true → producing end (x .self .flow) ≡ source terms)
+        → (isOpenMessage (rowMessage m) ≡ true → producing end (x .self .flow) ≡ source makings)
         → Comes (x .self) phase n (limitAfter m (x .self .limit)) next
-        → OneEnd terms (model .rules) end (tookIn (model .rules .prompt) end x m next) (p ++ answersIn (model .rules .prompt) m)
+        → OneEnd makings (model .rules) end (tookIn (model .rules .prompt) end x m next) (p ++ answersIn (model .rules .prompt) m)
     heard-sides m phase n next proper moves produces comes =
         record {
           sound = comes .sound;
@@ -251,19 +251,19 @@ module _ {A : Type 0} (terms : Terms) (model : Model A) where
         }
       where
         -- an OPEN brings the terms, and any other packet comes to an end that knows them
-        by-sort : (m : Packet) → OpenOrOther m → Proper terms (model .rules) (across end) m
-            → (isOpenMessage (rowMessage m) ≡ true → producing end (x .self .flow) ≡ source terms)
-            → (isOpenMessage (rowMessage m) ≡ false → Settled terms end (x .self))
-            → (limitAfter m (x .self .limit) ≡ terms .limit) × (producing end (x .self .flow) ≡ source terms)
+        by-sort : (m : Packet) → OpenOrOther m → Proper makings (model .rules) (across end) m
+            → (isOpenMessage (rowMessage m) ≡ true → producing end (x .self .flow) ≡ source makings)
+            → (isOpenMessage (rowMessage m) ≡ false → Settled makings end (x .self))
+            → (limitAfter m (x .self .limit) ≡ makings .limit) × (producing end (x .self .flow) ≡ source makings)
         by-sort _ (an-open e asked wanted) made brings knows = (made .limited, brings refl)
         by-sort _ (another later offered stays) made brings knows = (stays (x .self .limit) ∙ knows later .limited, knows later .produced)
 
-        agreed-on : (limitAfter m (x .self .limit) ≡ terms .limit) × (producing end (x .self .flow) ≡ source terms)
+        agreed-on : (limitAfter m (x .self .limit) ≡ makings .limit) × (producing end (x .self .flow) ≡ source makings)
         agreed-on = by-sort m (open-or-other m) proper produces (λ later. here .settled (hearer-knows end later moves))
 
     -- an end that refused an OPEN
     pub refused-sides : (code : ℕ) → code < 256 ^ 2
-        → OneEnd terms (model .rules) end (took end x [] [] WroteClose (queuedIn (Closes code) ∷ []) (closed (x .self))) (p ++ (Closes code ∷ []))
+        → OneEnd makings (model .rules) end (took end x [] [] WroteClose (queuedIn (Closes code) ∷ []) (closed (x .self))) (p ++ (Closes code ∷ []))
     unfolding closed
     refused-sides code few =
         record {

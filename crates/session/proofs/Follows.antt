@@ -103,9 +103,9 @@ module _ {A B O P : Type 0} (prog : Program A O) (inner : Program B P) (load : A
                 owes = λ line goes. owes-held (same .1) line ∙ there .owes line goes;
               };
           stays = follows .stays;
-          hears = λ terms end self m name format out phase n rest fine enough may.
+          hears = λ makings end self m name format out phase n rest fine enough may.
               let room : 14 ≤ inner .room (into out) = rw (← (follows .room out)) enough in
-              let there = laws .hears terms end (load self) m name format (into out) phase n rest fine room may in
+              let there = laws .hears makings end (load self) m name format (into out) phase n rest fine room may in
               let same = follows .receives self (queuedIn m) name format out fine enough (there .fine) in
               record {
                 answered = same .number ∙ there .answered;
@@ -118,9 +118,9 @@ module _ {A B O P : Type 0} (prog : Program A O) (inner : Program B P) (load : A
                 balance = there .balance;
                 owes = λ line goes. owes-held (same .next) line ∙ there .owes line goes;
               };
-          refuses = λ terms x y e asked wanted name format out fine enough may.
+          refuses = λ makings x y e asked wanted name format out fine enough may.
               let room : 14 ≤ inner .room (into out) = rw (← (follows .room out)) enough in
-              let there = laws .refuses terms (viewedSide load x) y e asked wanted name format (into out) fine room may in
+              let there = laws .refuses makings (viewedSide load x) y e asked wanted name format (into out) fine room may in
               let same = follows .receives (x .self) (queuedIn (Called e (OPEN asked wanted))) name format out fine enough (there .fine) in
               record {
                 may = rw (same .number) (there .may);

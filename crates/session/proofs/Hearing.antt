@@ -23,12 +23,12 @@ use Rattle.table.specs.Table.{other, rowOf}
 use Rattle.sending.specs.Calls.{Call, OPEN, READY, DATA, NOOP, CLOSE, askOf, messageOf, typeDataOf}
 use Rattle.machine.specs.Programs.{Queued, nothingTold, ReceiveOutcome}
 use Rattle.machine.specs.Runs.{asReply}
-use Rattle.session.specs.World.{End, across, Terms, Ending, Side, dataTold, readyTold, endedBy, endedAfter, withQueue, viewedSide, Client}
+use Rattle.session.specs.World.{End, across, Makings, Ending, Side, dataTold, readyTold, endedBy, endedAfter, withQueue, viewedSide, Client}
 use Rattle.session.specs.World.{Server, Going, HeardClose, WroteClose}
 use Rattle.session.specs.Packets.{Packet, queuedIn, bytesIn, toldIn, rowMessage, typeDataIn, dataIn, readyIn, Called, Confirms, Closes}
-use Rattle.session.specs.Turns.{roleOf, producing, turn, Kind, kindOf, Stage, stageOf, Standing, stands, standing, IsOpen, Hears, Converge}
+use Rattle.session.specs.Turns.{roleOf, Kind, kindOf, Stage, stageOf, Standing, stands, standing, IsOpen, Hears, Converge}
 use Rattle.session.specs.Turns.{Moves, Stays, Ends, At, ClosedByItself, moved, rested, closed as Hears·closed}
-use Rattle.session.specs.Demand.{Ledger}
+use Rattle.session.specs.Demand.{Ledger, producing, turn}
 use Rattle.session.specs.Confirmations.{askedIn, confirmedIn}
 use Rattle.session.specs.Invariant.{Knows, Model, source, Proper, OneEnd, Linked}
 use Rattle.session.proofs.Table.{Sends, calms, Moved, opens, gives, row-moved, row-hears, other-role, phaseIn, nIn, leads-alive, leads-active}
@@ -144,11 +144,11 @@ offered-source own theirs sockets = go (eqb own producer) (eqb theirs producer) 
 pub clients-open : {flow phase n type-data next count : ℕ} → Moved (roleOf Server) flow phase n Open type-data next count → ⊥
 clients-open (opens role begins) = omega (arith, role)
 
-module _ {A : Type 0} (terms : Terms) (model : Model A) where
+module _ {A : Type 0} (makings : Makings) (model : Model A) where
   -- and so agrees on who produces
   open-source : (end : End) (r : Endpoint) (m : Packet) → OpenOrOther m → (name format : List ℕ) {seen phase n next count : ℕ}
-      → Proper terms (model .rules) (across end) m → Moved (roleOf (across end)) seen phase n (rowMessage m) (typeDataIn m) next count
-      → offeredIn m r name format ≡ true → isOpenMessage (rowMessage m) ≡ true → producing end (r .flow) ≡ source terms
+      → Proper makings (model .rules) (across end) m → Moved (roleOf (across end)) seen phase n (rowMessage m) (typeDataIn m) next count
+      → offeredIn m r name format ≡ true → isOpenMessage (rowMessage m) ≡ true → producing end (r .flow) ≡ source makings
   open-source Client r _ (an-open e asked wanted) name format made moves offers is = absurd (clients-open moves)
   open-source Server r _ (an-open e asked wanted) name format made moves offers is =
       let all = both-true (same asked name && eqb (socketOf (e .flow)) (offeredSocket (r .flow)))
@@ -158,7 +158,7 @@ module _ {A : Type 0} (terms : Terms) (model : Model A) where
   open-source end r m (another later always stays) name format made moves offers is = clash cc
 
   module _ (nothing : (line : ℕ) → model .rules .pick line [] ≡ []) (end : End) (x y : Side Endpoint) (p q : List Packet) (m : Packet)
-      (dues dues-across : Ledger) (linked : Linked terms (model .rules) end x y p (m ∷ q) dues dues-across) where
+      (dues dues-across : Ledger) (linked : Linked makings (model .rules) end x y p (m ∷ q) dues dues-across) where
     abbrev e : Endpoint
     e = x .self
 
@@ -166,7 +166,7 @@ module _ {A : Type 0} (terms : Terms) (model : Model A) where
     stage = stageOf e
 
     -- the writer of a packet that was received
-    left-sides : OneEnd terms (model .rules) (across end) (withQueue y (map queuedIn q)) q
+    left-sides : OneEnd makings (model .rules) (across end) (withQueue y (map queuedIn q)) q
     left-sides =
         let there = linked .there in
         record {
@@ -201,10 +201,10 @@ module _ {A : Type 0} (terms : Terms) (model : Model A) where
           let asked : Packet → List Entry = λ packet. model .rules .pick line (askedIn packet) in
           omega (arith, linked .awaits-across line .few (rw was tt), length-append (model .rules .pick line (askedIn m)) (flatMap asked q))
 
-      module _ (a : Standing) (hears : Hears (source terms) end (At stage) m a) where
+      module _ (a : Standing) (hears : Hears (source makings) end (At stage) m a) where
         pub leads : rowOf (other (roleOf end)) (other (e .flow)) (e .phase) (e .n) (rowMessage m) (typeDataIn m) ≡ To (phaseIn a) (nIn a)
         leads =
-            row-hears (source terms) end (e .flow) stage m a hears
+            row-hears (source makings) end (e .flow) stage m a hears
             (λ theirs batching. hearer-consumes end (e .flow) (linked .here .settled (batch-known end (e .phase) batching) .produced ∙ theirs))
 
         pub moves : Moved (roleOf (across end)) (other (e .flow)) (e .phase) (e .n) (rowMessage m) (typeDataIn m) (phaseIn a) (nIn a)
@@ -212,11 +212,11 @@ module _ {A : Type 0} (terms : Terms) (model : Model A) where
             row-moved (roleOf (across end)) (other (e .flow)) (e .phase) (e .n) (rowMessage m) (typeDataIn m) (phaseIn a) (nIn a)
             (rw (other-role end) leads)
 
-        data-limit : rowMessage m ≡ Data → e .limit ≡ terms .limit
+        data-limit : rowMessage m ≡ Data → e .limit ≡ makings .limit
         data-limit bears = linked .here .settled (hearer-knows end (ap isOpenMessage bears) moves) .limited
 
         pub head-may : (name format : List ℕ) → offeredIn m e name format ≡ true
-            → MayTake (model .rules) terms end e dues m name format (phaseIn a) (nIn a) later
+            → MayTake (model .rules) makings end e dues m name format (phaseIn a) (nIn a) later
         head-may name format offers =
             record {
               sound = linked .here .sound;
@@ -230,29 +230,29 @@ module _ {A : Type 0} (terms : Terms) (model : Model A) where
 
         -- a packet that was heard
         pub heard-linked : (result : ReceiveOutcome A) → HeardOn model e dues m (phaseIn a) (nIn a) later result
-            → (name format : List ℕ) → offeredIn m e name format ≡ true → Converge (source terms) end a p (standing y) q
-            → Linked terms (model .rules) end (tookIn (model .rules .prompt) end x m (model .view .endpoint (result .next))) (withQueue y (map queuedIn q))
+            → (name format : List ℕ) → offeredIn m e name format ≡ true → Converge (source makings) end a p (standing y) q
+            → Linked makings (model .rules) end (tookIn (model .rules .prompt) end x m (model .view .endpoint (result .next))) (withQueue y (map queuedIn q))
             (p ++ answersIn (model .rules .prompt) m) q (model .view .ledger (result .next)) dues-across
         heard-linked result taken name format offers converge =
             let comes = taken .comes in
             let next : Endpoint = model .view .endpoint (result .next) in
             let answers : List Packet = answersIn (model .rules .prompt) m in
             let produces = open-source end e m (open-or-other m) name format (linked .there .proper .0) moves offers in
-            let after = hearer-stands (source terms) end stage m a next hears (comes .phased) (comes .counted) in
+            let after = hearer-stands (source makings) end stage m a next hears (comes .phased) (comes .counted) in
             record {
-              here = heard-sides terms model end x p (linked .here) m (phaseIn a) (nIn a) next (linked .there .proper .0) moves produces comes;
+              here = heard-sides makings model end x p (linked .here) m (phaseIn a) (nIn a) next (linked .there .proper .0) moves produces comes;
               there = left-sides;
-              converge = rw after (answers-converge (model .rules .prompt) (source terms) end m hears converge);
+              converge = rw after (answers-converge (model .rules .prompt) (source makings) end m hears converge);
               awaits = λ line.
                   let asks : Packet → List Entry = λ packet. model .rules .pick line (askedIn packet) in
                   rw after
                   (hears-awaits (model .rules .pick line) (standing x) a m answers _
                   (answers-none (model .rules .prompt) asks (λ message type-data. nothing line) m) (linked .awaits line)
-                  (λ is-open. taken .awaits line (hearer-low (source terms) end stage m a hears is-open)));
+                  (λ is-open. taken .awaits line (hearer-low (source makings) end stage m a hears is-open)));
               awaits-across = λ line.
                   rw after
                   (across-hears-awaits (model .rules .pick line) (standing y) a stage m answers (taken .left line) _ (taken .balance line)
-                  (λ is-open. taken .owes line (hearer-low (source terms) end stage m a hears is-open))
+                  (λ is-open. taken .owes line (hearer-low (source makings) end stage m a hears is-open))
                   (rw was at (linked .awaits-across line)));
               delivers =
                   writes-delivers dataIn (standing y) answers (answers-none (model .rules .prompt) dataIn (λ message type-data. refl) m)
@@ -266,14 +266,14 @@ module _ {A : Type 0} (terms : Terms) (model : Model A) where
 
       -- an OPEN that was refused, with the code of its CLOSE
       pub refused-linked : (code : ℕ) (after : Ledger) → code < 256 ^ 2 → kindOf (rowMessage m) ≡ Moves
-          → Linked terms (model .rules) end (took end x [] [] WroteClose (queuedIn (Closes code) ∷ []) (closed e)) (withQueue y (map queuedIn q))
+          → Linked makings (model .rules) end (took end x [] [] WroteClose (queuedIn (Closes code) ∷ []) (closed e)) (withQueue y (map queuedIn q))
           (p ++ (Closes code ∷ [])) q after dues-across
       unfolding flatMap
       refused-linked code after few moving =
           record {
-            here = refused-sides terms model end x p (linked .here) code few;
+            here = refused-sides makings model end x p (linked .here) code few;
             there = left-sides;
-            converge = refuses-converge (source terms) end (Closes code) moving refl (rw was at (linked .converge));
+            converge = refuses-converge (source makings) end (Closes code) moving refl (rw was at (linked .converge));
             awaits = λ line. gone-awaits (model .rules .pick line) (standing x) m (Closes code ∷ []) _ (rw (nothing line) refl) (linked .awaits line);
             awaits-across = λ line.
                 across-gone-awaits (model .rules .pick line) (standing y) m (Closes code ∷ []) _ (rw (nothing line) refl)
@@ -285,8 +285,8 @@ module _ {A : Type 0} (terms : Terms) (model : Model A) where
           }
 
     -- a packet that came after the own close
-    pub late-linked : x .past .ending ≡ WroteClose → Converge (source terms) end ClosedByItself p (standing y) q
-        → Linked terms (model .rules) end x (withQueue y (map queuedIn q)) p q dues dues-across
+    pub late-linked : x .past .ending ≡ WroteClose → Converge (source makings) end ClosedByItself p (standing y) q
+        → Linked makings (model .rules) end x (withQueue y (map queuedIn q)) p q dues dues-across
     late-linked wrote converge =
         let gone : standing x ≡ ClosedByItself = ap (λ (ending : Ending). stands ending e) wrote in
         record {
@@ -333,10 +333,10 @@ confirmation-noted Noop type-data can = record { carries = refl; readies = refl;
 confirmation-noted Data type-data can = record { carries = refl; readies = refl; ends = λ replied before. refl }
 confirmation-noted Close type-data can = clash cc
 
-told-noted : {A : Type 0} (terms : Terms) (model : Model A) (end : End) (m : Packet) → Proper terms (model .rules) end m → NotedAs m
-told-noted terms model end (Called e call) proper = called-noted e call
-told-noted terms model end (Confirms message type-data) proper = confirmation-noted message type-data (proper .0)
-told-noted terms model end (Closes code) proper = record { carries = refl; readies = refl; ends = λ replied before. refl }
+told-noted : {A : Type 0} (makings : Makings) (model : Model A) (end : End) (m : Packet) → Proper makings (model .rules) end m → NotedAs m
+told-noted makings model end (Called e call) proper = called-noted e call
+told-noted makings model end (Confirms message type-data) proper = confirmation-noted message type-data (proper .0)
+told-noted makings model end (Closes code) proper = record { carries = refl; readies = refl; ends = λ replied before. refl }
 
 -- the confirmation is told nothing
 answers-queued : (prompt : MessageType → Bool) (m : Packet) → map asReply (map bytesIn (answersIn prompt m)) ≡ map queuedIn (answersIn prompt m)
@@ -365,11 +365,11 @@ module _ {A : Type 0} (model : Model A) (end : End) (x : Side A) (m : Packet) (r
       (endedAfter (result .number) (result .told) (map asReply (result .replied)) (x .past .ending)) (map asReply (result .replied)) next
 
   -- what is told of a packet that is heard is what it carries
-  pub heard-noted : (terms : Terms) → Proper terms (model .rules) (across end) m → result .number ≡ 0 → result .told ≡ toldIn m
+  pub heard-noted : (makings : Makings) → Proper makings (model .rules) (across end) m → result .number ≡ 0 → result .told ≡ toldIn m
       → result .replied ≡ map bytesIn (answersIn (model .rules .prompt) m) → x .past .ending ≡ Going
       → noted-side ≡ tookIn (model .rules .prompt) end seen m next
-  heard-noted terms proper answered told replied going =
-      let noted = told-noted terms model (across end) m proper in
+  heard-noted makings proper answered told replied going =
+      let noted = told-noted makings model (across end) m proper in
       let answers = answers-queued (model .rules .prompt) m in
       rw (answered, told, replied, going, answers, noted .carries, noted .readies, noted .ends (map queuedIn (answersIn (model .rules .prompt) m)) Going) refl
 

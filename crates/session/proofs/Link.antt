@@ -11,10 +11,10 @@ use Rattle.endpoint.specs.declared.Endpoint.{Endpoint}
 use Rattle.endpoint.specs.Record.{capacity, producer, shut}
 use Rattle.sending.specs.Calls.{Call, messageOf, typeDataOf}
 use Rattle.machine.specs.Programs.{SendOutcome}
-use Rattle.session.specs.World.{End, across, Terms, Ending, Side, endedBy, Going, WroteClose}
+use Rattle.session.specs.World.{End, across, Makings, Ending, Side, endedBy, Going, WroteClose}
 use Rattle.session.specs.Packets.{Packet, queuedIn, dataIn, readyIn}
-use Rattle.session.specs.Turns.{roleOf, producing, stageOf, stands, standing, IsOpen, Listens, At, ClosedByItself}
-use Rattle.session.specs.Demand.{Ledger}
+use Rattle.session.specs.Turns.{roleOf, stageOf, stands, standing, IsOpen, Listens, At, ClosedByItself}
+use Rattle.session.specs.Demand.{Ledger, producing}
 use Rattle.session.specs.Invariant.{Model, source, OneEnd, Linked}
 use Rattle.session.specs.Laws.{SentOn}
 use Rattle.session.proofs.Table.{row-moved, moved-low, Landed, goes-on, closes-both, moved-lands, landing, landing-at, row-sends}
@@ -41,18 +41,18 @@ lands-shut next count closed = go (eqb next shut) refl closed
     go false is shut-down = absurd (shut-down tt)
 
 -- who produces, seen from an end that does
-own-source : (terms : Terms) (end : End) (own : ℕ) → producing end own ≡ source terms → own ≡ producer → source terms ≡ end
-own-source terms end own agreed is-producer = sym agreed ∙ rw is-producer refl
+own-source : (makings : Makings) (end : End) (own : ℕ) → producing end own ≡ source makings → own ≡ producer → source makings ≡ end
+own-source makings end own agreed is-producer = sym agreed ∙ rw is-producer refl
 
-module _ {A : Type 0} (terms : Terms) (model : Model A) (end : End) (x y : Side Endpoint) (p q : List Packet) (dues dues-across : Ledger)
-    (linked : Linked terms (model .rules) end x y p q dues dues-across) where
+module _ {A : Type 0} (makings : Makings) (model : Model A) (end : End) (x y : Side Endpoint) (p q : List Packet) (dues dues-across : Ledger)
+    (linked : Linked makings (model .rules) end x y p q dues dues-across) where
   -- the same two ends, seen from the other
-  pub across-linked : Linked terms (model .rules) (across end) y x q p dues-across dues
+  pub across-linked : Linked makings (model .rules) (across end) y x q p dues-across dues
   across-linked =
       record {
         here = linked .there;
-        there = subst (λ (e : End). OneEnd terms (model .rules) e x p) (across-twice end) (linked .here);
-        converge = across-converge (source terms) end (linked .converge);
+        there = subst (λ (e : End). OneEnd makings (model .rules) e x p) (across-twice end) (linked .here);
+        converge = across-converge (source makings) end (linked .converge);
         awaits = linked .awaits-across;
         awaits-across = linked .awaits;
         delivers = linked .delivers-across;
@@ -64,7 +64,7 @@ module _ {A : Type 0} (terms : Terms) (model : Model A) (end : End) (x y : Side 
   -- an accepted send
   pub sent-linked : (call : Call) (result : SendOutcome A) → (sent : SentOn model (x .self) dues call result)
       → ((line : ℕ) → length (model .view .ledger (result .next) .waits line) ≤ capacity)
-      → Linked terms (model .rules) end (wrote end x call (queuedIn (sent .packet)) (model .view .endpoint (result .next))) y (p ++ (sent .packet ∷ [])) q
+      → Linked makings (model .rules) end (wrote end x call (queuedIn (sent .packet)) (model .view .endpoint (result .next))) y (p ++ (sent .packet ∷ [])) q
       (model .view .ledger (result .next)) dues-across
   unfolding flatMap
   sent-linked call result sent bounded =
@@ -81,13 +81,13 @@ module _ {A : Type 0} (terms : Terms) (model : Model A) (end : End) (x y : Side 
       let was : standing x ≡ At (stageOf e) = ap (λ (ending : Ending). stands ending e) going in
       let listened : Listens (standing x) = rw was tt in
       record {
-        here = sent-sides terms model end x p here dues call result sent;
+        here = sent-sides makings model end x p here dues call result sent;
         there = linked .there;
         converge =
             rw after
-            (sends-converge (source terms) end (rw was at (linked .converge))
-            (row-sends (source terms) end (e .flow) (e .phase) (e .n) m (sent .phase) (sent .n) (rw (here .role) at (sent .sends))
-            (λ produces batching. own-source terms end (e .flow) (knows .produced) produces)));
+            (sends-converge (source makings) end (rw was at (linked .converge))
+            (row-sends (source makings) end (e .flow) (e .phase) (e .n) m (sent .phase) (sent .n) (rw (here .role) at (sent .sends))
+            (λ produces batching. own-source makings end (e .flow) (knows .produced) produces)));
         awaits = λ line.
             rw after
             (sends-awaits (model .rules .pick line) (stageOf e) (landing (sent .phase) (sent .n)) m _

@@ -167,7 +167,7 @@ sent-on e call room sound fits zero-number =
       packet = Called e call;
       queued = refl;
       proper =
-          λ terms end flows limited. record {
+          λ makings end flows limited. record {
             fits = fits;
             accepted = record { room = room; accepted = zero-number };
             flows = flows;

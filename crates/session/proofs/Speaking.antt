@@ -15,8 +15,8 @@ use Rattle.machine.specs.Good.{Fits, Sound}
 use Rattle.machine.proofs.Rows.{n-small}
 use Rattle.machine.specs.Programs.{Program}
 use Rattle.session.specs.World.{End, across, Client, Server}
-use Rattle.session.specs.Turns.{roleOf, producing}
-use Rattle.session.specs.Demand.{MaySend, movesOn}
+use Rattle.session.specs.Turns.{roleOf}
+use Rattle.session.specs.Demand.{MaySend, movesOn, producing}
 use Rattle.session.specs.Invariant.{Model}
 use Rattle.session.specs.Laws.{Laws, MayCall}
 use Rattle.session.proofs.Turns.{across-differs}

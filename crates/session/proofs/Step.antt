@@ -12,7 +12,7 @@ use Rattle.sending.specs.Calls.{Call, OPEN}
 use Rattle.machine.specs.Good.{Fits}
 use Rattle.machine.specs.Programs.{Program, SendOutcome, ReceiveOutcome}
 use Rattle.machine.specs.Runs.{isKept, Sends, Receives}
-use Rattle.session.specs.World.{End, across, Terms, makingOf, Ending, Side, World, EventFits, side, joined, made, withQueue, acted, afterReceive}
+use Rattle.session.specs.World.{End, across, Makings, makingOf, Ending, Side, World, EventFits, side, joined, made, withQueue, acted, afterReceive}
 use Rattle.session.specs.World.{step, viewedSide, Client, Server, Going, HeardClose, WroteClose, sends, receives, makes}
 use Rattle.session.specs.Packets.{Packet, queuedIn, bytesIn, rowMessage, Closes}
 use Rattle.session.specs.Turns.{kindOf, Moves, stageOf, Standing, stands, standing, Hears, Converge, At, ClosedByItself, late}
@@ -37,38 +37,39 @@ gone-hears : (from end : End) {m : Packet} {a : Standing} → Hears from end Clo
 gone-hears from end late = refl
 
 -- the same two ends, seen from the other
-joint-across : {A : Type 0} (terms : Terms) (model : Model A) (end : End) (x y : Side A) → Joint terms model end x y
-    → Joint terms model (across end) y x
-joint-across terms model end x y joint =
+joint-across : {A : Type 0} (makings : Makings) (model : Model A) (end : End) (x y : Side A) → Joint makings model end x y
+    → Joint makings model (across end) y x
+joint-across makings model end x y joint =
     record {
       from-here = joint .from-across;
       from-across = joint .from-here;
-      linked = across-linked terms model end _ _ (joint .from-here) (joint .from-across) _ _ (joint .linked);
+      linked = across-linked makings model end _ _ (joint .from-here) (joint .from-across) _ _ (joint .linked);
       fine = joint .fine-across;
       fine-across = joint .fine;
     }
 
 pub seen-from : {A : Type 0} {model : Model A} (end : End) (w : World A) (holds : Invariant model w)
-    → Joint (holds .terms) model end (side w end) (side w (across end))
+    → Joint (holds .makings) model end (side w end) (side w (across end))
 seen-from Client w holds = holds .joint
-seen-from {model = model} Server w holds = joint-across (holds .terms) model Client (w .client) (w .server) (holds .joint)
+seen-from {model = model} Server w holds = joint-across (holds .makings) model Client (w .client) (w .server) (holds .joint)
 
-seen-as : {A : Type 0} (terms : Terms) (model : Model A) (end : End) (x y : Side A) → Joint terms model end x y → Invariant model (joined end x y)
-seen-as terms model Client x y joint = record { terms = terms; joint = joint }
-seen-as terms model Server x y joint = record { terms = terms; joint = joint-across terms model Server x y joint }
+seen-as : {A : Type 0} (makings : Makings) (model : Model A) (end : End) (x y : Side A) → Joint makings model end x y
+    → Invariant model (joined end x y)
+seen-as makings model Client x y joint = record { makings = makings; joint = joint }
+seen-as makings model Server x y joint = record { makings = makings; joint = joint-across makings model Server x y joint }
 
 module _ {A O : Type 0} (prog : Program A O) (model : Model A) (laws : Laws prog model) where
   abbrev seen : Side A → Side Endpoint
   seen x = viewedSide (model .view .endpoint) x
 
-  module _ (terms : Terms) where
+  module _ (makings : Makings) where
     abbrev LinkedAs : End → Side A → Side A → List Packet → List Packet → Type 0
-    LinkedAs end x y p q = Linked terms (model .rules) end (seen x) (seen y) p q (model .view .ledger (x .self)) (model .view .ledger (y .self))
+    LinkedAs end x y p q = Linked makings (model .rules) end (seen x) (seen y) p q (model .view .ledger (x .self)) (model .view .ledger (y .self))
 
     -- the head of a queue is heard, refused as an OPEN for what is not offered, or passed over after an own close
     pub record Delivered (end : End) (x y : Side A) (m : Packet) (q : List Packet) (name format : List ℕ) (out : O) : Type 0 where
       pub may : MayAnswer (seen x) (seen y) (bytesIn m) name format (prog .receive (x .self) (queuedIn m) name format out .number)
-      pub delivered : Joint terms model end (acted prog end x (Receives (queuedIn m) name format out)) (withQueue y (map queuedIn q))
+      pub delivered : Joint makings model end (acted prog end x (Receives (queuedIn m) name format out)) (withQueue y (map queuedIn q))
 
     module _ (end : End) (x y : Side A) (p q : List Packet) (m : Packet) (linked : LinkedAs end x y p (m ∷ q)) (fine : model .Fine (x .self))
         (fine-across : model .Fine (y .self)) (name format : List ℕ) (out : O) (enough : 14 ≤ prog .room out) where
@@ -88,19 +89,19 @@ module _ {A O : Type 0} (prog : Program A O) (model : Model A) (laws : Laws prog
                   from-across = q;
                   linked =
                       rw (noted, refusal .after)
-                      (refused-linked terms model (laws .none) end (seen x) (seen y) p q m _ _ linked going (refusal .code) _ (refusal .small) moving);
+                      (refused-linked makings model (laws .none) end (seen x) (seen y) p q m _ _ linked going (refusal .code) _ (refusal .small) moving);
                   fine = refusal .fine;
                   fine-across = fine-across;
                 };
           }
 
-      heard-delivered : x .past .ending ≡ Going → (a : Standing) → Hears (source terms) end (At (stageOf (seen x .self))) m a
-          → Converge (source terms) end a p (standing (seen y)) q → offeredIn m (seen x .self) name format ≡ true
+      heard-delivered : x .past .ending ≡ Going → (a : Standing) → Hears (source makings) end (At (stageOf (seen x .self))) m a
+          → Converge (source makings) end a p (standing (seen y)) q → offeredIn m (seen x .self) name format ≡ true
           → Delivered end x y m q name format out
       heard-delivered going a hears converge offers =
-          let may = head-may terms model (laws .none) end (seen x) (seen y) p q m _ _ linked going a hears name format offers in
-          let taken = laws .hears terms end (x .self) m name format out (phaseIn a) (nIn a) _ fine enough may in
-          let noted = heard-noted model end x m result terms (linked .there .proper .0) (taken .answered) (taken .told) (taken .replied) going in
+          let may = head-may makings model (laws .none) end (seen x) (seen y) p q m _ _ linked going a hears name format offers in
+          let taken = laws .hears makings end (x .self) m name format out (phaseIn a) (nIn a) _ fine enough may in
+          let noted = heard-noted model end x m result makings (linked .there .proper .0) (taken .answered) (taken .told) (taken .replied) going in
           record {
             may = rw (taken .answered) heard;
             delivered =
@@ -109,13 +110,13 @@ module _ {A O : Type 0} (prog : Program A O) (model : Model A) (laws : Laws prog
                   from-across = q;
                   linked =
                       rw noted
-                      (heard-linked terms model (laws .none) end (seen x) (seen y) p q m _ _ linked going a hears result taken name format offers converge);
+                      (heard-linked makings model (laws .none) end (seen x) (seen y) p q m _ _ linked going a hears result taken name format offers converge);
                   fine = taken .fine;
                   fine-across = fine-across;
                 };
           }
 
-      late-delivered : x .past .ending ≡ WroteClose → (a : Standing) → a ≡ ClosedByItself → Converge (source terms) end a p (standing (seen y)) q
+      late-delivered : x .past .ending ≡ WroteClose → (a : Standing) → a ≡ ClosedByItself → Converge (source makings) end a p (standing (seen y)) q
           → Delivered end x y m q name format out
       late-delivered wrote a gone converge =
           let is-shut : seen x .self .phase ≡ shut = subst (λ (ending : Ending). PhaseFits ending (seen x .self .phase)) wrote (linked .here .ends) in
@@ -128,7 +129,7 @@ module _ {A O : Type 0} (prog : Program A O) (model : Model A) (laws : Laws prog
                   from-across = q;
                   linked =
                       simp (passed, append-nil)
-                      (late-linked terms model (laws .none) end (seen x) (seen y) p q m _ _ linked wrote (rw gone at converge));
+                      (late-linked makings model (laws .none) end (seen x) (seen y) p q m _ _ linked wrote (rw gone at converge));
                   fine = subst (λ (after : ReceiveOutcome A). model .Fine (after .next)) (sym passed) fine;
                   fine-across = fine-across;
                 };
@@ -137,13 +138,13 @@ module _ {A O : Type 0} (prog : Program A O) (model : Model A) (laws : Laws prog
     -- a packet that is not offered is an OPEN to a server
     unoffered-delivered : (end : End) (x y : Side A) (p q : List Packet) (m : Packet) → OpenOrOther m
         → (linked : LinkedAs end x y p (m ∷ q)) (fine : model .Fine (x .self)) (fine-across : model .Fine (y .self)) (name format : List ℕ) (out : O)
-        → 14 ≤ prog .room out → (going : x .past .ending ≡ Going) → (a : Standing) → Hears (source terms) end (At (stageOf (seen x .self))) m a
+        → 14 ≤ prog .room out → (going : x .past .ending ≡ Going) → (a : Standing) → Hears (source makings) end (At (stageOf (seen x .self))) m a
         → offeredIn m (seen x .self) name format ≡ false → Delivered end x y m q name format out
     unoffered-delivered Client x y p q m (an-open e asked wanted) linked fine fine-across name format out enough going a hears differs =
-        absurd (clients-open (moves terms model (laws .none) Client (seen x) (seen y) p q m _ _ linked going a hears))
+        absurd (clients-open (moves makings model (laws .none) Client (seen x) (seen y) p q m _ _ linked going a hears))
     unoffered-delivered Server x y p q m (an-open e asked wanted) linked fine fine-across name format out enough going a hears differs =
         refused-delivered Server x y p q m linked fine fine-across name format out enough going refl
-        (laws .refuses terms x (seen y) e asked wanted name format out fine enough
+        (laws .refuses makings x (seen y) e asked wanted name format out fine enough
         (record {
           sound = linked .here .sound;
           serves = linked .here .role;
@@ -152,7 +153,7 @@ module _ {A O : Type 0} (prog : Program A O) (model : Model A) (laws : Laws prog
           same-limit = linked .there .settled tt .limited ∙ sym (linked .there .proper .0 .limited);
           phase = phaseIn a;
           n = nIn a;
-          leads = rw (linked .here .role) (leads terms model (laws .none) Server (seen x) (seen y) p q m _ _ linked going a hears);
+          leads = rw (linked .here .role) (leads makings model (laws .none) Server (seen x) (seen y) p q m _ _ linked going a hears);
           differs = differs;
         }))
     unoffered-delivered end x y p q m (another later always stays) linked fine fine-across name format out enough going a hears differs =
@@ -163,39 +164,39 @@ module _ {A O : Type 0} (prog : Program A O) (model : Model A) (laws : Laws prog
         (fine-across : model .Fine (y .self)) (name format : List ℕ) (out : O) (enough : 14 ≤ prog .room out) where
       pub head-delivered : Delivered end x y m q name format out
       head-delivered =
-          let step = hears-converge (source terms) end (linked .converge) in
+          let step = hears-converge (source makings) end (linked .converge) in
           by-ending (x .past .ending) refl (step .0) (step .1) (step .2)
         where
-          by-offer : x .past .ending ≡ Going → (a : Standing) → Hears (source terms) end (At (stageOf (seen x .self))) m a
-              → Converge (source terms) end a p (standing (seen y)) q
+          by-offer : x .past .ending ≡ Going → (a : Standing) → Hears (source makings) end (At (stageOf (seen x .self))) m a
+              → Converge (source makings) end a p (standing (seen y)) q
               → (t : Bool) → offeredIn m (seen x .self) name format ≡ t → Delivered end x y m q name format out
           by-offer going a hears converge true offers =
               heard-delivered end x y p q m linked fine fine-across name format out enough going a hears converge offers
           by-offer going a hears converge false differs =
               unoffered-delivered end x y p q m (open-or-other m) linked fine fine-across name format out enough going a hears differs
 
-          by-ending : (ending : Ending) → x .past .ending ≡ ending → (a : Standing) → Hears (source terms) end (stands ending (seen x .self)) m a
-              → Converge (source terms) end a p (standing (seen y)) q → Delivered end x y m q name format out
+          by-ending : (ending : Ending) → x .past .ending ≡ ending → (a : Standing) → Hears (source makings) end (stands ending (seen x .self)) m a
+              → Converge (source makings) end a p (standing (seen y)) q → Delivered end x y m q name format out
           by-ending Going going a hears converge = by-offer going a hears converge (offeredIn m (seen x .self) name format) refl
-          by-ending HeardClose shut-down a hears converge = absurd (shut-hears (source terms) hears)
+          by-ending HeardClose shut-down a hears converge = absurd (shut-hears (source makings) hears)
           by-ending WroteClose wrote a hears converge =
-              late-delivered end x y p q m linked fine fine-across name format out enough wrote a (gone-hears (source terms) end hears) converge
+              late-delivered end x y p q m linked fine fine-across name format out enough wrote a (gone-hears (source makings) end hears) converge
 
     -- the queue of y, as the packets that it holds, is received by x
     received-keeps : (end : End) (x y : Side A) (p q : List Packet) → y .queue ≡ map queuedIn q → LinkedAs end x y p q → model .Fine (x .self)
         → model .Fine (y .self) → (name format : List ℕ) (out : O) → Invariant model (afterReceive prog end x y (map queuedIn q) name format out)
     unfolding afterReceive
     received-keeps end x y p [] queued linked fine fine-across name format out =
-        seen-as terms model end x y (record { from-here = p; from-across = []; linked = linked; fine = fine; fine-across = fine-across })
+        seen-as makings model end x y (record { from-here = p; from-across = []; linked = linked; fine = fine; fine-across = fine-across })
     received-keeps end x y p (m ∷ q) queued linked fine fine-across name format out = go (ltb (prog .room out) 14) refl
       where
         go : (t : Bool) → ltb (prog .room out) 14 ≡ t → Invariant model (afterReceive prog end x y (map queuedIn (m ∷ q)) name format out)
         go true short =
             simp (laws .short (x .self) (queuedIn m) name format out fine (ltb-true _ _ short), append-nil, ← queued)
-            (seen-as terms model end x y (record { from-here = p; from-across = m ∷ q; linked = linked; fine = fine; fine-across = fine-across }))
+            (seen-as makings model end x y (record { from-here = p; from-across = m ∷ q; linked = linked; fine = fine; fine-across = fine-across }))
         go false room =
             let head = head-delivered end x y p q m linked fine fine-across name format out (ltb-false _ _ room) in
-            rw (answer-takes (head .may)) (seen-as terms model end _ _ (head .delivered))
+            rw (answer-takes (head .may)) (seen-as makings model end _ _ (head .delivered))
 
     -- a send, accepted or refused
     sent-keeps : (end : End) (x y : Side A) (p q : List Packet) → LinkedAs end x y p q → model .Fine (x .self) → model .Fine (y .self)
@@ -209,45 +210,45 @@ module _ {A O : Type 0} (prog : Program A O) (model : Model A) (laws : Laws prog
         go true accepts =
             let sent = laws .moves (x .self) call out fine fits (eqb-true _ _ accepts) in
             rw accepts
-            (seen-as terms model end _ y
+            (seen-as makings model end _ y
             (record {
               from-here = p ++ (sent .packet ∷ []);
               from-across = q;
               linked =
                   rw (sent .queued)
-                  (sent-linked terms model end (seen x) (seen y) p q _ _ linked call result sent (laws .bounded (result .next) (sent .fine)));
+                  (sent-linked makings model end (seen x) (seen y) p q _ _ linked call result sent (laws .bounded (result .next) (sent .fine)));
               fine = sent .fine;
               fine-across = fine-across;
             }))
         go false refuses =
             simp (refuses, laws .stays (x .self) call out fine fits (eqb-false _ _ refuses), append-nil)
-            (seen-as terms model end x y (record { from-here = p; from-across = q; linked = linked; fine = fine; fine-across = fine-across }))
+            (seen-as makings model end x y (record { from-here = p; from-across = q; linked = linked; fine = fine; fine-across = fine-across }))
 
   -- both ends made again
-  made-keeps : (terms : Terms) (w : World A) → EventFits prog w (makes terms) → Invariant model (step prog w (makes terms))
+  made-keeps : (makings : Makings) (w : World A) → EventFits prog w (makes makings) → Invariant model (step prog w (makes makings))
   unfolding step
-  made-keeps terms w may =
-      let client = laws .makes (w .client .self) (makingOf terms Client) (may .accepts Client) in
-      let server = laws .makes (w .server .self) (makingOf terms Server) (may .accepts Server) in
-      let fresh = fresh-joint terms model _ _ (laws .begins _ _ client) (laws .begins _ _ server) client server in
+  made-keeps makings w may =
+      let client = laws .makes (w .client .self) (makingOf makings Client) (may .accepts Client) in
+      let server = laws .makes (w .server .self) (makingOf makings Server) (may .accepts Server) in
+      let fresh = fresh-joint makings model _ _ (laws .begins _ _ client) (laws .begins _ _ server) client server in
       let quiet : (end : End) → side w end .queue ++ [] ≡ [] = λ end. rw (may .none-coming end) refl in
-      record { terms = terms; joint = rw (may .accepts Client, may .accepts Server, quiet Client, quiet Server) fresh }
+      record { makings = makings; joint = rw (may .accepts Client, may .accepts Server, quiet Client, quiet Server) fresh }
 
 pub start-keeps : StartKeeps
-start-keeps A O prog model laws terms client server fresh server-fresh =
-    let fine = laws .begins client (makingOf terms Client) fresh in
-    let server-fine = laws .begins server (makingOf terms Server) server-fresh in
-    record { terms = terms; joint = fresh-joint terms model client server fine server-fine fresh server-fresh }
+start-keeps A O prog model laws makings client server fresh server-fresh =
+    let fine = laws .begins client (makingOf makings Client) fresh in
+    let server-fine = laws .begins server (makingOf makings Server) server-fresh in
+    record { makings = makings; joint = fresh-joint makings model client server fine server-fine fresh server-fresh }
 
 pub step-keeps : StepKeeps
 unfolding step
 step-keeps A O prog model laws w (sends end call out) fits holds =
     let joint = seen-from end w holds in
-    sent-keeps prog model laws (holds .terms) end (side w end) (side w (across end)) (joint .from-here) (joint .from-across) (joint .linked)
+    sent-keeps prog model laws (holds .makings) end (side w end) (side w (across end)) (joint .from-here) (joint .from-across) (joint .linked)
     (joint .fine) (joint .fine-across) call out fits
 step-keeps A O prog model laws w (receives end name format out) fits holds =
     let joint = seen-from end w holds in
     rw (joint .linked .there .queued)
-    (received-keeps prog model laws (holds .terms) end (side w end) (side w (across end)) (joint .from-here) (joint .from-across)
+    (received-keeps prog model laws (holds .makings) end (side w end) (side w (across end)) (joint .from-here) (joint .from-across)
     (joint .linked .there .queued) (joint .linked) (joint .fine) (joint .fine-across) name format out)
-step-keeps A O prog model laws w (makes terms) fits holds = made-keeps prog model laws terms w fits
+step-keeps A O prog model laws w (makes makings) fits holds = made-keeps prog model laws makings w fits

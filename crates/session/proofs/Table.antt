@@ -14,8 +14,9 @@ use Rattle.table.specs.declared.Row.the-variants.{NotAllowed, AboveOffer, To}
 use Rattle.table.specs.Table.{allowed, begun, closeRow, dataRow, noopRow, openRow, other, readyRow, rowOf, upTo}
 use Rattle.session.specs.World.{End, across, Ending, endedBy, Client, Server, Going}
 use Rattle.session.specs.Packets.{Packet, rowMessage, typeDataIn}
-use Rattle.session.specs.Turns.{roleOf, turn, Kind, kindOf, Stage, Standing, Active, Alive, Leads, Hears, Moves, Stays, Ends, At, ClosedByOther}
+use Rattle.session.specs.Turns.{roleOf, Kind, kindOf, Stage, Standing, Active, Alive, Leads, Hears, Moves, Stays, Ends, At, ClosedByOther}
 use Rattle.session.specs.Turns.{ClosedByItself, moved, rested, closed}
+use Rattle.session.specs.Demand.{turn}
 
 -- "k=0: 2; else .., n=k"
 pub data Begun (phase count : ℕ) : ℕ → ℕ → Type 0 where

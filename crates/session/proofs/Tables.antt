@@ -38,7 +38,7 @@ use Rattle.sending.specs.declared.Sent.{Sent}
 use Rattle.sending.specs.Sending.{isFull, sendOf, sendRow}
 use Rattle.machine.specs.Good.{Fits, Sound}
 use Rattle.machine.proofs.Refusals.{refused-send-stays}
-use Rattle.session.specs.World.{Terms, Side}
+use Rattle.session.specs.World.{Makings, Side}
 use Rattle.session.specs.Demand.{MayAnswer, other-pipe, other-format, promptLedger, nothingDue, FreshRecords}
 use Rattle.session.specs.Laws.{MayRefuse, onRecords, OpenRefused, MayCall, HeardOn, TablesLaws}
 use Rattle.session.specs.Packets.{bytesIn}
@@ -74,8 +74,8 @@ module _ (flow : ℕ) (name format : List ℕ) (opening : Opening) (serverFlow :
 
 -- ---- what a server does
 
-module _ (terms : Terms) (x y : Side Endpoint) (e : Endpoint) (asked wanted : List ℕ) (name format : List ℕ)
-    (refusable : MayRefuse (onRecords .rules) terms x y e asked wanted name format) where
+module _ (makings : Makings) (x y : Side Endpoint) (e : Endpoint) (asked wanted : List ℕ) (name format : List ℕ)
+    (refusable : MayRefuse (onRecords .rules) makings x y e asked wanted name format) where
   abbrev r : Endpoint
   r = x .self
 
@@ -196,15 +196,15 @@ tables-laws =
           record { given = accepted-given _ accepts; holds = rw accepts refl; none-due = rw accepts (fresh-due making) };
       moves = λ e call room sound fits number. sent-on e call room sound fits number;
       stays = λ e call room sound fits refused. ap (λ (s : Sent). s .next) (refused-send-stays e call room refused);
-      hears = λ terms end e m name format room phase n rest sound enough may.
+      hears = λ makings end e m name format room phase n rest sound enough may.
           subst (λ (received : Received). HeardOn onRecords e (promptLedger e) m phase n rest (outcomeOf (bytesIn m) received))
           (sym (received-heard e (may .sound) (bytesIn m) name format room enough))
-          (packet-taken terms end e m name format phase n rest may);
-      refuses = λ terms x y e asked wanted name format room sound enough may.
+          (packet-taken makings end e m name format phase n rest may);
+      refuses = λ makings x y e asked wanted name format room sound enough may.
           let s : List ℕ = written e (OPEN asked wanted) in
           subst (λ (received : Received). OpenRefused onRecords x y s name format (outcomeOf s received))
           (sym (received-heard (x .self) (may .sound) s name format room enough))
-          (open-refused terms x y e asked wanted name format may);
+          (open-refused makings x y e asked wanted name format may);
       late = λ e m name format room sound enough is-shut.
           ap (outcomeOf (m .bytes)) (received-late e sound (m .bytes) name format room enough is-shut);
       short = λ e m name format room sound short. ap (outcomeOf (m .bytes)) (received-short e sound (m .bytes) name format room short);

@@ -35,7 +35,7 @@ use Rattle.machine.specs.Round.{ContentSent, afterHearing, confirmation, isRepl
 use Rattle.machine.proofs.Replies.{replies-heard}
 use Rattle.machine.proofs.Round.{heard-as-sent, own-flags}
 use Rattle.machine.specs.Programs.{bodyAt, toldOf, replies, outcomeOf}
-use Rattle.session.specs.World.{End, Terms}
+use Rattle.session.specs.World.{End, Makings}
 use Rattle.session.specs.Packets.{Packet, bytesIn, bodySent, Called, Confirms, Closes}
 use Rattle.session.specs.Demand.{promptLedger}
 use Rattle.session.specs.Confirmations.{askedIn, confirmedIn, entryFor}
@@ -212,9 +212,9 @@ confirms-all m = append-nil (flatMap confirmedIn (answersIn (λ message. true) m
 abbrev pub TakenBy : Endpoint → Packet → List ℕ → List ℕ → ℕ → ℕ → (ℕ → List Entry) → Type 0
 TakenBy r m name format phase n rest = HeardOn onRecords r (promptLedger r) m phase n rest (outcomeOf (bytesIn m) (hearOf r (bytesIn m) name format))
 
-module _ (terms : Terms) (end : End) (r : Endpoint) where
+module _ (makings : Makings) (end : End) (r : Endpoint) where
   call-taken : (e : Endpoint) (call : Call) (name format : List ℕ) (phase n : ℕ) (rest : ℕ → List Entry)
-      → MayTake (onRecords .rules) terms end r (promptLedger r) (Called e call) name format phase n rest
+      → MayTake (onRecords .rules) makings end r (promptLedger r) (Called e call) name format phase n rest
       → TakenBy r (Called e call) name format phase n rest
   call-taken e call name format phase n rest may =
       let made = may .proper in
@@ -246,7 +246,7 @@ module _ (terms : Terms) (end : End) (r : Endpoint) where
       }
 
   confirmation-taken : (message : MessageType) (type-data : ℕ) (name format : List ℕ) (phase n : ℕ) (rest : ℕ → List Entry)
-      → MayTake (onRecords .rules) terms end r (promptLedger r) (Confirms message type-data) name format phase n rest
+      → MayTake (onRecords .rules) makings end r (promptLedger r) (Confirms message type-data) name format phase n rest
       → TakenBy r (Confirms message type-data) name format phase n rest
   confirmation-taken message type-data name format phase n rest may =
       let proper = may .proper in
@@ -276,7 +276,7 @@ module _ (terms : Terms) (end : End) (r : Endpoint) where
       }
 
   close-taken : (code : ℕ) (name format : List ℕ) (phase n : ℕ) (rest : ℕ → List Entry)
-      → MayTake (onRecords .rules) terms end r (promptLedger r) (Closes code) name format phase n rest
+      → MayTake (onRecords .rules) makings end r (promptLedger r) (Closes code) name format phase n rest
       → TakenBy r (Closes code) name format phase n rest
   close-taken code name format phase n rest may =
       let after : Endpoint = atRow r phase n in
@@ -302,7 +302,7 @@ module _ (terms : Terms) (end : End) (r : Endpoint) where
 
   -- a packet that an end may take is taken
   pub packet-taken : (m : Packet) (name format : List ℕ) (phase n : ℕ) (rest : ℕ → List Entry)
-      → MayTake (onRecords .rules) terms end r (promptLedger r) m name format phase n rest → TakenBy r m name format phase n rest
+      → MayTake (onRecords .rules) makings end r (promptLedger r) m name format phase n rest → TakenBy r m name format phase n rest
   packet-taken (Called e call) = call-taken e call
   packet-taken (Confirms message type-data) = confirmation-taken message type-data
   packet-taken (Closes code) = close-taken code

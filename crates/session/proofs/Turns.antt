@@ -5,9 +5,10 @@ use mathlib.Core.List.{List, [], _∷_, _++_}
 use Rattle.bytes_be.proofs.Tests.{clash}
 use Rattle.session.specs.World.{End, across, Client, Server}
 use Rattle.session.specs.Packets.{Packet, rowMessage}
-use Rattle.session.specs.Turns.{turn, Kind, kindOf, Stage, Standing, IsOpen, Active, Alive, Still, Leads, Hears, Drains, Converge, Moves, Stays}
+use Rattle.session.specs.Turns.{Kind, kindOf, Stage, Standing, IsOpen, Active, Alive, Still, Leads, Hears, Drains, Converge, Moves, Stays}
 use Rattle.session.specs.Turns.{Ends, At, ClosedByOther, ClosedByItself, nothing, quiet, moved, rested, closed, late, empty, head, ahead}
 use Rattle.session.specs.Turns.{behind, over, over-across}
+use Rattle.session.specs.Demand.{turn}
 use Rattle.session.proofs.Table.{Sends, moves, calms, ends, leads-active, leads-alive}
 
 pub across-twice : (end : End) → end ≡ across (across end)

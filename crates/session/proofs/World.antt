@@ -66,7 +66,8 @@ module _ {A O : Type 0} (p : Program A O) where
             let wrote-more : List Queued = wroteIn p (side u end .self) (more .acts end) in
             let taken : List Queued = takenIn p (side w (across end) .self) (first .acts (across end)) in
             let taken-more : List Queued = takenIn p (side u (across end) .self) (more .acts (across end)) in
-            ap (λ (l : List Queued). before ++ l) (gathered-then _ (side w end .self) (side u end .self) (first .acts end) (more .acts end) (first .left end))
+            ap (λ (l : List Queued). before ++ l)
+            (gathered-then _ (side w end .self) (side u end .self) (first .acts end) (more .acts end) (first .left end))
             ∙ sym (append-assoc before wrote wrote-more)
             ∙ ap (λ (l : List Queued). l ++ wrote-more) (first .queued end)
             ∙ append-assoc taken between wrote-more
@@ -100,10 +101,10 @@ module _ {A O : Type 0} (p : Program A O) where
   unfolding step
   step-runs w (sends end call out) = one-act end w (Sends call out) (side w (across end) .queue) refl
   step-runs w (receives end name format out) = receive-runs end w (side w (across end) .queue) refl name format out
-  step-runs w (makes terms) =
-      let client-made : World A = record { client = acted p Client (w .client) (Makes (makingOf terms Client)); server = w .server } in
-      runs-on w client-made _ (one-act Client w (Makes (makingOf terms Client)) (w .server .queue) refl)
-      (one-act Server client-made (Makes (makingOf terms Server)) (client-made .client .queue) refl)
+  step-runs w (makes makings) =
+      let client-made : World A = record { client = acted p Client (w .client) (Makes (makingOf makings Client)); server = w .server } in
+      runs-on w client-made _ (one-act Client w (Makes (makingOf makings Client)) (w .server .queue) refl)
+      (one-act Server client-made (Makes (makingOf makings Server)) (client-made .client .queue) refl)
 
 pub two-runs : TwoRuns
 unfolding run

@@ -13,13 +13,12 @@ use Rattle.open_write.specs.Frame.{socketOf}
 use Rattle.endpoint.specs.declared.Endpoint.{Endpoint}
 use Rattle.endpoint.specs.declared.Entry.{Entry}
 use Rattle.endpoint.specs.declared.Given.the-variants.{Good}
-use Rattle.endpoint.specs.Record.{awaited, fresh, offer, batch, shut, good, givenOf}
+use Rattle.endpoint.specs.Record.{awaited, producer, fresh, offer, batch, shut, good, givenOf}
 use Rattle.sending.specs.Calls.{Call, OPEN, READY, DATA, NOOP, CLOSE, written}
 use Rattle.machine.specs.Good.{Fits}
 use Rattle.machine.specs.Programs.{Making, freshBy, Queued, Program, tables}
-use Rattle.session.specs.World.{End, Client, Server, across, Terms, makingOf, Ending, Going, HeardClose, WroteClose, History, Side, World, side}
+use Rattle.session.specs.World.{End, Client, Server, across, Makings, makingOf, Ending, Going, HeardClose, WroteClose, History, Side, World, side}
 use Rattle.session.specs.World.{Event, receives, AllFit, step, run, begun, viewedSide}
-use Rattle.session.specs.Turns.{producing, turn}
 
 -- what an end awaits and what it owes, line by line: a line has the messages whose confirmations come in one order, "ACK-REPLY must equal the oldest
 -- entry" of it, and by document 01 there is one
@@ -103,6 +102,14 @@ movesOn (DATA type-data ask body) = true
 movesOn (NOOP type-data ask) = false
 movesOn (CLOSE code) = false
 
+-- the end that produces, seen from an end of this flow
+abbrev pub producing : End → ℕ → End
+producing end flow = cond (eqb flow producer) end (across end)
+
+-- whose turn it is, where `source` produces: OPEN is the client's, an offer the server's, its taking the client's, and DATA the producer's
+unfoldable pub turn : End → ℕ → End
+turn source phase = cond (eqb phase fresh || eqb phase offer) Client (cond (eqb phase batch) source Server)
+
 -- what may be sent at rest, where both ends are in the client's phase, by the end whose turn it is: in phase 0 an OPEN for the pipe `a`, in
 -- phase 3 a READY for the whole offer, in phase 4 a DATA with no ask and an empty body, in phases 1 and 2 an offer of one
 abbrev pub nextEnd : Endpoint → End
@@ -173,7 +180,7 @@ module _ {A O : Type 0} (p : Program A O) (view : View A) where
   -- for a fresh client and a fresh server of any flow and limit, and every list of calls
   abbrev pub DemandOf : Type 0
   DemandOf =
-      (terms : Terms) (client server : A) → Fresh view (makingOf terms Client) client → Fresh view (makingOf terms Server) server
+      (makings : Makings) (client server : A) → Fresh view (makingOf makings Client) client → Fresh view (makingOf makings Server) server
       → (events : List (Event O)) → AllFit p (begun client server) events → Holds (run p (begun client server) events)
 
 -- demand 3, over the tables

@@ -23,10 +23,10 @@ use Rattle.endpoint.specs.Record.{offer, batch}
 use Rattle.receiving.specs.Hearing.{confirmable}
 use Rattle.sending.specs.Calls.{Call}
 use Rattle.machine.specs.Good.{Sound, Fits}
-use Rattle.session.specs.World.{End, Client, Server, across, Terms, History, Side, World, viewedSide}
+use Rattle.session.specs.World.{End, Client, Server, across, Makings, History, Side, World, viewedSide}
 use Rattle.session.specs.Packets.{Packet, Called, Confirms, Closes, queuedIn, dataIn, readyIn}
-use Rattle.session.specs.Turns.{Standing, Listens, standing, roleOf, producing, Alive, Converge}
-use Rattle.session.specs.Demand.{View, Ledger, PhaseFits, agreed, offersAt, sum, newest, EachAtMost}
+use Rattle.session.specs.Turns.{Standing, Listens, standing, roleOf, Alive, Converge}
+use Rattle.session.specs.Demand.{View, Ledger, PhaseFits, agreed, offersAt, sum, newest, EachAtMost, producing}
 use Rattle.session.specs.Confirmations.{Awaits}
 
 -- ---- the parts of one end
@@ -63,16 +63,16 @@ Knows Client phase = Unit
 Knows Server phase = Alive phase
 
 -- the end that produces, once the server has heard the OPEN of the client
-abbrev pub source : Terms → End
-source terms = producing Client (terms .flow)
+abbrev pub source : Makings → End
+source makings = producing Client (makings .flow)
 
-abbrev pub flowAt : Terms → End → ℕ
-flowAt terms Client = terms .flow
-flowAt terms Server = terms .server-flow
+abbrev pub flowAt : Makings → End → ℕ
+flowAt makings Client = makings .flow
+flowAt makings Server = makings .server-flow
 
-pub record Settled (terms : Terms) (end : End) (e : Endpoint) : Type 0 where
-  pub limited : e .limit ≡ terms .limit
-  pub produced : producing end (e .flow) ≡ source terms
+pub record Settled (makings : Makings) (end : End) (e : Endpoint) : Type 0 where
+  pub limited : e .limit ≡ makings .limit
+  pub produced : producing end (e .flow) ≡ source makings
 
 -- ---- a program's part
 
@@ -89,13 +89,13 @@ pub record Model (A : Type 0) : Type 1 where
   pub Fine : A → Type 0
   pub rules : Rules
 
-module _ (terms : Terms) (rules : Rules) where
-  -- a call that an end made on these terms, and that was accepted
+module _ (makings : Makings) (rules : Rules) where
+  -- a call that was accepted, of an end that was made so
   pub record AcceptedCall (end : End) (e : Endpoint) (call : Call) : Type 0 where
     pub fits : Fits call
     pub accepted : rules .Accepts e call
-    pub flows : e .flow ≡ flowAt terms end
-    pub limited : e .limit ≡ terms .limit
+    pub flows : e .flow ≡ flowAt makings end
+    pub limited : e .limit ≡ makings .limit
 
   abbrev pub Proper : End → Packet → Type 0
   Proper end (Called e call) = AcceptedCall end e call
@@ -110,18 +110,18 @@ module _ (terms : Terms) (rules : Rules) where
   pub record OneEnd (end : End) (x : Side Endpoint) (p : List Packet) : Type 0 where
     pub sound : Sound (x .self)
     pub role : x .self .role ≡ roleOf end
-    pub flows : x .self .flow ≡ flowAt terms end
+    pub flows : x .self .flow ≡ flowAt makings end
     pub ends : PhaseFits (x .past .ending) (x .self .phase)
     pub queued : x .queue ≡ map queuedIn p
     pub proper : AllProper end p
-    pub settled : Knows end (x .self .phase) → Settled terms end (x .self)
+    pub settled : Knows end (x .self .phase) → Settled makings end (x .self)
     pub counted : Counted end (x .past) (x .self)
 
   -- an end x that wrote p, with this ledger, and y across from it that wrote q
   pub record Linked (end : End) (x y : Side Endpoint) (p q : List Packet) (dues dues-across : Ledger) : Type 0 where
     pub here : OneEnd end x p
     pub there : OneEnd (across end) y q
-    pub converge : Converge (source terms) end (standing x) p (standing y) q
+    pub converge : Converge (source makings) end (standing x) p (standing y) q
     pub awaits : (line : ℕ) → Awaits (rules .pick line) (standing x) (dues .waits line) p (standing y) (dues-across .owes line) q
     pub awaits-across : (line : ℕ) → Awaits (rules .pick line) (standing y) (dues-across .waits line) q (standing x) (dues .owes line) p
     pub delivers : Delivers dataIn (x .past .sent) p (standing y) (y .past .accepted)
@@ -129,17 +129,17 @@ module _ (terms : Terms) (rules : Rules) where
     pub readies : Delivers readyIn (x .past .readies) p (standing y) (y .past .readies-heard)
     pub readies-across : Delivers readyIn (y .past .readies) q (standing x) (x .past .readies-heard)
 
-module _ {A : Type 0} (terms : Terms) (model : Model A) where
+module _ {A : Type 0} (makings : Makings) (model : Model A) where
   -- two ends with what is on its way between them, whose states are fine
   pub record Joint (end : End) (x y : Side A) : Type 0 where
     pub from-here : List Packet
     pub from-across : List Packet
-    pub linked : Linked terms (model .rules) end (viewedSide (model .view .endpoint) x) (viewedSide (model .view .endpoint) y)
+    pub linked : Linked makings (model .rules) end (viewedSide (model .view .endpoint) x) (viewedSide (model .view .endpoint) y)
         from-here from-across (model .view .ledger (x .self)) (model .view .ledger (y .self))
     pub fine : model .Fine (x .self)
     pub fine-across : model .Fine (y .self)
 
--- the invariant of a world, whose ends were made on some terms
+-- the invariant of a world, with what its ends were made with
 pub record Invariant {A : Type 0} (model : Model A) (w : World A) : Type 0 where
-  pub terms : Terms
-  pub joint : Joint terms model Client (w .client) (w .server)
+  pub makings : Makings
+  pub joint : Joint makings model Client (w .client) (w .server)

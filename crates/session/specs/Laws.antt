@@ -17,7 +17,7 @@ use Rattle.sending.specs.Sending.{sendOf}
 use Rattle.machine.specs.Good.{Sound, Fits}
 use Rattle.machine.specs.Round.{isOffered}
 use Rattle.machine.specs.Programs.{Making, howOf, Queued, nothingTold, SendOutcome, ReceiveOutcome, ignored, Program, tables}
-use Rattle.session.specs.World.{End, Client, Server, across, Terms, makingOf, dataSent, readyCount, Side, World, Event, EventFits, step, begun}
+use Rattle.session.specs.World.{End, Client, Server, across, Makings, makingOf, dataSent, readyCount, Side, World, Event, EventFits, step, begun}
 use Rattle.session.specs.World.{viewedSide}
 use Rattle.session.specs.Packets.{Packet, Called, Confirms, Closes, queuedIn, bytesIn, toldIn, rowMessage, typeDataIn, dataIn, readyIn}
 use Rattle.session.specs.Demand.{Ledger, asRecords, Fresh, MayAnswer, Holds, DemandOf}
@@ -70,21 +70,21 @@ pub record MayCall (e : Endpoint) (call : Call) : Type 0 where
 
 module _ (rules : Rules) where
   -- what an end must be to hear a packet
-  pub record MayTake (terms : Terms) (end : End) (r : Endpoint) (dues : Ledger) (m : Packet) (name format : List ℕ) (phase n : ℕ)
+  pub record MayTake (makings : Makings) (end : End) (r : Endpoint) (dues : Ledger) (m : Packet) (name format : List ℕ) (phase n : ℕ)
       (rest : ℕ → List Entry) : Type 0 where
     pub sound : Sound r
-    pub proper : Proper terms rules (across end) m
+    pub proper : Proper makings rules (across end) m
     pub leads : rowOf (other (r .role)) (other (r .flow)) (r .phase) (r .n) (rowMessage m) (typeDataIn m) ≡ To phase n
-    pub limited : rowMessage m ≡ Data → r .limit ≡ terms .limit
+    pub limited : rowMessage m ≡ Data → r .limit ≡ makings .limit
     pub offered : offeredIn m r name format ≡ true
     pub awaits : (line : ℕ) → dues .waits line ≡ rules .pick line (confirmedIn m) ++ rest line
     pub few : (line : ℕ) → length (dues .owes line) + length (rules .pick line (askedIn m)) ≤ capacity
 
   -- what a server must be to refuse the OPEN of y
-  pub record MayRefuse (terms : Terms) (x y : Side Endpoint) (e : Endpoint) (asked wanted : List ℕ) (name format : List ℕ) : Type 0 where
+  pub record MayRefuse (makings : Makings) (x y : Side Endpoint) (e : Endpoint) (asked wanted : List ℕ) (name format : List ℕ) : Type 0 where
     pub sound : Sound (x .self)
     pub serves : x .self .role ≡ server
-    pub accepted : AcceptedCall terms rules Client e (OPEN asked wanted)
+    pub accepted : AcceptedCall makings rules Client e (OPEN asked wanted)
     pub same-flow : y .self .flow ≡ e .flow
     pub same-limit : y .self .limit ≡ e .limit
     pub phase : ℕ
@@ -98,7 +98,7 @@ module _ {A : Type 0} (model : Model A) where
   pub record SentOn (e : Endpoint) (dues : Ledger) (call : Call) (result : SendOutcome A) : Type 0 where
     pub packet : Packet
     pub queued : record { bytes = result .bytes; how = howOf call } ≡ queuedIn packet
-    pub proper : (terms : Terms) (end : End) → e .flow ≡ flowAt terms end → e .limit ≡ terms .limit → Proper terms (model .rules) end packet
+    pub proper : (makings : Makings) (end : End) → e .flow ≡ flowAt makings end → e .limit ≡ makings .limit → Proper makings (model .rules) end packet
     pub carried : dataSent call ≡ dataIn packet
     pub readied : readyCount (messageOf call) (typeDataOf call) ≡ readyIn packet
     pub phase : ℕ
@@ -156,13 +156,13 @@ module _ {A O : Type 0} (p : Program A O) (model : Model A) where
     pub stays : (self : A) (call : Call) (out : O) → model .Fine self → Fits call → (p .send self call out .number ≡ 0 → ⊥)
         → p .send self call out .next ≡ self
     -- a move is heard
-    pub hears : (terms : Terms) (end : End) (self : A) (m : Packet) (name format : List ℕ) (out : O) (phase n : ℕ) (rest : ℕ → List Entry)
-        → model .Fine self → 14 ≤ p .room out → MayTake (model .rules) terms end (endpoint self) (ledger self) m name format phase n rest
+    pub hears : (makings : Makings) (end : End) (self : A) (m : Packet) (name format : List ℕ) (out : O) (phase n : ℕ) (rest : ℕ → List Entry)
+        → model .Fine self → 14 ≤ p .room out → MayTake (model .rules) makings end (endpoint self) (ledger self) m name format phase n rest
         → HeardOn model (endpoint self) (ledger self) m phase n rest (p .receive self (queuedIn m) name format out)
     -- an OPEN for what is not offered is refused
-    pub refuses : (terms : Terms) (x : Side A) (y : Side Endpoint) (e : Endpoint) (asked wanted : List ℕ) (name format : List ℕ) (out : O)
+    pub refuses : (makings : Makings) (x : Side A) (y : Side Endpoint) (e : Endpoint) (asked wanted : List ℕ) (name format : List ℕ) (out : O)
         → model .Fine (x .self) → 14 ≤ p .room out
-        → MayRefuse (model .rules) terms (viewedSide (model .view .endpoint) x) y e asked wanted name format
+        → MayRefuse (model .rules) makings (viewedSide (model .view .endpoint) x) y e asked wanted name format
         → OpenRefused model (viewedSide (model .view .endpoint) x) y (written e (OPEN asked wanted)) name format
         (p .receive (x .self) (queuedIn (Called e (OPEN asked wanted))) name format out)
     -- a message after the own close is passed over, and one with no room for a reply stays where it is
@@ -183,8 +183,8 @@ module _ {A O : Type 0} (p : Program A O) (model : Model A) where
 -- two fresh ends have the invariant
 abbrev pub StartKeeps : Type 1
 StartKeeps =
-    (A O : Type 0) (p : Program A O) (model : Model A) → Laws p model → (terms : Terms) (client server : A)
-    → Fresh (model .view) (makingOf terms Client) client → Fresh (model .view) (makingOf terms Server) server
+    (A O : Type 0) (p : Program A O) (model : Model A) → Laws p model → (makings : Makings) (client server : A)
+    → Fresh (model .view) (makingOf makings Client) client → Fresh (model .view) (makingOf makings Server) server
     → Invariant model (begun client server)
 
 -- whatever is called and delivered keeps it, and both ends made again where nothing is in transit

@@ -2,9 +2,9 @@
 -- Why it holds, of any program: `Packets` has what is on its way, `Turns` what the tables decide of it, `Confirmations` what is awaited, `Invariant` all
 -- of it together, and `Laws` what it asks of a program.
 pub mod World
+pub mod Demand
 pub mod Packets
 pub mod Turns
-pub mod Demand
 pub mod Confirmations
 pub mod Invariant
 pub mod Laws

@@ -4,28 +4,19 @@
 use Prim.Native.Nat.{ℕ, _≤_}
 use mathlib.Core.Path.{_≡_}
 use mathlib.Core.List.{List, [], _∷_}
-use mathlib.Core.Bool.{cond, _||_}
-use lib.Dec.{eqb}
 use Rattle.control.specs.declared.MessageType.{MessageType}
 use Rattle.control.specs.declared.MessageType.the-variants.{Open, Ready, Noop, Data, Close}
 use Rattle.endpoint.specs.declared.Endpoint.{Endpoint}
-use Rattle.endpoint.specs.Record.{client, server, producer, fresh, opening, idle, offer, batch}
+use Rattle.endpoint.specs.Record.{client, server, producer, opening, idle, batch}
 use Rattle.table.specs.declared.Row.the-variants.{To}
 use Rattle.table.specs.Table.{rowOf}
 use Rattle.session.specs.World.{End, Client, Server, across, Ending, Going, HeardClose, WroteClose, Side}
 use Rattle.session.specs.Packets.{Packet, rowMessage, typeDataIn}
+use Rattle.session.specs.Demand.{turn}
 
 abbrev pub roleOf : End → ℕ
 roleOf Client = client
 roleOf Server = server
-
--- the end that produces, seen from an end of this flow
-abbrev pub producing : End → ℕ → End
-producing end flow = cond (eqb flow producer) end (across end)
-
--- whose turn it is, where `source` produces: OPEN is the client's, an offer the server's, its taking the client's, and DATA the producer's
-unfoldable pub turn : End → ℕ → End
-turn source phase = cond (eqb phase fresh || eqb phase offer) Client (cond (eqb phase batch) source Server)
 
 -- what a message does to the stage: it moves it, leaves it, or ends it
 pub data Kind : Type 0 where

@@ -4,7 +4,7 @@
 use Prim.Native.Nat.{ℕ}
 use mathlib.Core.Path.{_≡_}
 use mathlib.Core.List.{List, [], _∷_, _++_}
-use mathlib.Core.Bool.{Bool, cond, not, _&&_, _||_}
+use mathlib.Core.Bool.{cond, not, _&&_, _||_}
 use lib.Dec.{eqb}
 use lib.ListN.{length}
 use Rattle.control.specs.declared.MessageType.{MessageType}
@@ -23,14 +23,14 @@ across Client = Server
 across Server = Client
 
 -- what two ends are made with: the client's flow and limit, and the server's flow
-pub record Terms : Type 0 where
+pub record Makings : Type 0 where
   pub flow : ℕ
   pub limit : ℕ
   pub server-flow : ℕ
 
-abbrev pub makingOf : Terms → End → Making
-makingOf terms Client = AsClient (terms .flow) (terms .limit)
-makingOf terms Server = AsServer (terms .server-flow)
+abbrev pub makingOf : Makings → End → Making
+makingOf makings Client = AsClient (makings .flow) (makings .limit)
+makingOf makings Server = AsServer (makings .server-flow)
 
 -- ---- what an end did and heard
 
@@ -176,7 +176,7 @@ module _ {A : Type 0} where
 pub data Event (O : Type 0) : Type 0 where
   sends : End → Call → O → Event O
   receives : End → List ℕ → List ℕ → O → Event O
-  makes : Terms → Event O
+  makes : Makings → Event O
 
 module _ {A O : Type 0} (p : Program A O) where
   abbrev pub acted : End → Side A → Act O → Side A
@@ -193,10 +193,10 @@ module _ {A O : Type 0} (p : Program A O) where
   step w (sends end call out) = joined end (acted end (side w end) (Sends call out)) (side w (across end))
   step w (receives end name format out) =
       afterReceive end (side w end) (side w (across end)) (side w (across end) .queue) name format out
-  step w (makes terms) =
+  step w (makes makings) =
       record {
-        client = acted Client (w .client) (Makes (makingOf terms Client));
-        server = acted Server (w .server) (Makes (makingOf terms Server));
+        client = acted Client (w .client) (Makes (makingOf makings Client));
+        server = acted Server (w .server) (Makes (makingOf makings Server));
       }
 
   unfoldable pub run : World A → List (Event O) → World A
@@ -204,15 +204,15 @@ module _ {A O : Type 0} (p : Program A O) where
   run w (event ∷ rest) = run (step w event) rest
 
   -- both ends are made again where nothing is in transit and both makings are accepted
-  pub record MayMake (w : World A) (terms : Terms) : Type 0 where
+  pub record MayMake (w : World A) (makings : Makings) : Type 0 where
     pub none-coming : (end : End) → side w end .queue ≡ []
-    pub accepts : (end : End) → p .make (side w end .self) (makingOf terms end) .number ≡ 0
+    pub accepts : (end : End) → p .make (side w end .self) (makingOf makings end) .number ≡ 0
 
   -- the arguments of a send are of their types
   abbrev pub EventFits : World A → Event O → Type 0
   EventFits w (sends end call out) = Fits call
   EventFits w (receives end name format out) = Unit
-  EventFits w (makes terms) = MayMake w terms
+  EventFits w (makes makings) = MayMake w makings
 
   abbrev pub AllFit : World A → List (Event O) → Type 0
   AllFit w [] = Unit

@@ -7,9 +7,8 @@ use Rattle.endpoint.specs.Record.{consumer, producer, freshClient, freshOf, fre
 use Rattle.sending.specs.Calls.{Call, OPEN, READY}
 use Rattle.machine.specs.Programs.{Program}
 use Rattle.machine.proofs.Computing.{computing}
-use Rattle.session.specs.World.{End, Client, Server, Terms, Going, World, Event, sends, receives, AllFit, afterReceive, step, run, begun}
-use Rattle.session.specs.Turns.{turn}
-use Rattle.session.specs.Demand.{DemandOf, asRecords, AtRest, Holds}
+use Rattle.session.specs.World.{End, Client, Server, Makings, Going, World, Event, sends, receives, AllFit, afterReceive, step, run, begun}
+use Rattle.session.specs.Demand.{DemandOf, asRecords, AtRest, Holds, turn}
 
 -- what a run computes with
 unfoldable pub running : Unit {0}
@@ -21,8 +20,8 @@ abbrev pub limit : ℕ
 limit = 1000007
 
 -- a client that produces and announces this limit, and a server that consumes
-abbrev terms : Terms
-terms = record { flow = producer; limit = limit; server-flow = consumer }
+abbrev makings : Makings
+makings = record { flow = producer; limit = limit; server-flow = consumer }
 
 abbrev pub start : World Endpoint
 start = begun (freshClient producer limit) (freshServer consumer)
@@ -60,5 +59,5 @@ pub at-the-end : (p : Program Endpoint ℕ) → DemandOf p asRecords → (events
     → Holds p asRecords (run p start events)
 unfolding givenOf freshOf
 at-the-end p demand events fit =
-    demand terms (freshClient producer limit) (freshServer consumer) (record { given = refl; holds = refl; none-due = refl })
+    demand makings (freshClient producer limit) (freshServer consumer) (record { given = refl; holds = refl; none-due = refl })
     (record { given = refl; holds = refl; none-due = refl }) events (fit start)
