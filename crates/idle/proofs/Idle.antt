@@ -1,4 +1,4 @@
--- Each idle program gives something that the tables do not give, so it does not meet the contracts. Assumes nothing.
+-- A program that meets the contracts gives what the tables give; each idle program gives something else, so it does not meet them. Assumes nothing.
 use mathlib.Core.Path.{_≡_, _∙_, ap, refl, sym}
 use mathlib.Core.List.{List, [], _∷_}
 use mathlib.Core.Bool.{true}
@@ -16,11 +16,32 @@ use Rattle.endpoint.specs.Block.{loadOf}
 use Rattle.sending.specs.Calls.{Call}
 use Rattle.machine.specs.Good.{Fits}
 use Rattle.entries.specs.Entries.{Entries, SendResult, ReceiveResult, Meets, byTables}
-use Rattle.idle.specs.Idle.{RefusingRejected, HearingNoopRejected, UntouchingRejected, EchoingRejected, WritingBackRejected, MadeUp, by-call}
+use Rattle.machine.specs.Programs.{Making}
+use Rattle.fbdp.proofs.Determined.{make-determined, send-determined, receive-determined}
+use Rattle.entries.proofs.Entries.{tables-meet}
+use Rattle.idle.specs.Idle.{OnlyTables, RefusingRejected, HearingNoopRejected, UntouchingRejected, EchoingRejected, WritingBackRejected, MadeUp, by-call}
 use Rattle.idle.specs.Idle.{by-message, MadeUpRejected, makingUp, CountingRejected, AwaitingRejected, VicesExist, Rejected}
-use Rattle.idle.proofs.Programs.{only-tables}
 use Rattle.idle.proofs.Witnesses.{BytesLeft, tables-give, madeClient, output, message, opens, hearsOpen, offers, hearsAgreed, sendsNoop}
 use Rattle.idle.proofs.Witnesses.{hearsNoop}
+
+module _ (p : Entries) (meets : Meets p) where
+  makes-as-tables : (making : Making) (block : List ℕ) → p .makes making block ≡ byTables .makes making block
+  makes-as-tables making block =
+      let same = make-determined (meets .making making block) (tables-meet .making making block) in
+      λ i. record { number = same .0 i; next = same .1 i }
+
+  sends-as-tables : (call : Call) → Fits call → (block out : List ℕ) → p .sends call block out ≡ byTables .sends call block out
+  sends-as-tables call fits block out =
+      let same = send-determined (meets .calls call fits block out) (tables-meet .calls call fits block out) in
+      λ i. record { number = same .0 i; count = same .1 i; block = same .2 i; out = same .3 i }
+
+  receives-as-tables : (s name format block out : List ℕ) → p .receives s name format block out ≡ byTables .receives s name format block out
+  receives-as-tables s name format block out =
+      let same = receive-determined (meets .messages s name format block out) (tables-meet .messages s name format block out) in
+      λ i. record { number = same .0 i; slots = same .1 i; block = same .2 i; out = same .3 i }
+
+pub only-tables : OnlyTables
+only-tables p meets = record { making = makes-as-tables p meets; calls = sends-as-tables p meets; messages = receives-as-tables p meets }
 
 -- a program that meets the contracts takes each step of the opening as the tables do
 module _ {p : Entries} (meets : Meets p) where

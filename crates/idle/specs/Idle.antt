@@ -1,6 +1,8 @@
 -- "Four idle programs are to be tried and rejected: one that refuses everything, one that always hears NOOP, one that leaves the block untouched,
 -- one that opens properly and afterwards only echoes. .. A made-up n or W fails too, since both are bytes of the block fixed by the tables."
 -- Each is rejected for its vice alone, whatever else it does; and for each there is a program that has it.
+-- A program is what the C entries could be: it gives a result for every making, every send and every receive on a block (`Entries` of `entries`). The
+-- tables are one that meets the contracts, and no other gives anything else.
 use Prim.Native.Nat.{ℕ, _≤_, _<_}
 use mathlib.Core.Path.{_≡_}
 use mathlib.Core.List.{List, _∷_}
@@ -18,6 +20,16 @@ use Rattle.table.specs.declared.Row.the-variants.{NotAllowed}
 use Rattle.table.specs.Table.{sendNumber}
 use Rattle.machine.specs.Good.{Fits}
 use Rattle.entries.specs.Entries.{Entries, SendResult, ReceiveResult, Meets, byTables}
+use Rattle.machine.specs.Programs.{Making}
+
+-- "any two results allowed by it coincide": what a program that meets the contracts gives is what the tables give
+pub record AsTables (p : Entries) : Type 0 where
+  pub making : (making : Making) (block : List ℕ) → p .makes making block ≡ byTables .makes making block
+  pub calls : (call : Call) → Fits call → (block out : List ℕ) → p .sends call block out ≡ byTables .sends call block out
+  pub messages : (s name format block out : List ℕ) → p .receives s name format block out ≡ byTables .receives s name format block out
+
+abbrev pub OnlyTables : Type 0
+OnlyTables = (p : Entries) → Meets p → AsTables p
 
 abbrev pub Rejected : Entries → Type 0
 Rejected p = Meets p → ⊥

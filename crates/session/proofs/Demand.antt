@@ -1,37 +1,131 @@
--- Demand 3: where the invariant holds the demand does, and every list of calls of a program that has the laws leaves it. Assumes nothing.
+-- Demand 3: what may be sent at rest; where the invariant holds the demand does; and every list of calls of a program that has the laws leaves it.
+-- Assumes nothing.
 use mathlib.Core.Path.{_≡_, refl, sym, _∙_, ap, subst}
-use Prim.Native.Nat.{ℕ, _+_, _≤_, _<_}
-use mathlib.Core.List.{List, [], _∷_, _++_, append-nil, map, flatMap}
+use Prim.Native.Nat.{ℕ, zero, suc, _-_, _≤_, _+_, _<_}
+use mathlib.Core.List.{[], _∷_, List, _++_, append-nil, map, flatMap}
 use mathlib.Core.Bool.{Bool, true, false, cond, _||_}
 use native.Mathlib.Omega.{arith}
-use lib.Dec.{eqb}
+use lib.Dec.{eqb, lit<}
+use borrow.Author.Tests.{eqb-true, le-ltb, ne-eqb, eqb-false}
 use lib.ListN.{length, length-append}
-use borrow.Author.Tests.{eqb-true, eqb-false}
-use Rattle.bytes_be.proofs.Tests.{clash}
+use Rattle.utf8.specs.Text.{table, dueBehind, rest, wellFormed}
+use Rattle.open_write.specs.Frame.{goodName, goodFormat, isGood}
 use Rattle.endpoint.specs.declared.Endpoint.{Endpoint}
+use Rattle.endpoint.specs.Record.{producer, fresh, opening, idle, offer, batch, shut}
+use Rattle.sending.specs.Calls.{Call, OPEN, READY, DATA, messageOf, typeDataOf, askOf, aboveLimit, misgiven, miscoded}
+use Rattle.machine.specs.Good.{Fits, Sound}
+use Rattle.machine.proofs.Rows.{n-small}
+use Rattle.machine.specs.Programs.{Program, Queued, tables}
+use Rattle.bytes_be.proofs.Tests.{clash}
 use Rattle.endpoint.specs.declared.Entry.{Entry}
-use Rattle.endpoint.specs.Record.{fresh, opening, idle, offer, batch}
-use Rattle.sending.specs.Calls.{Call, OPEN, READY, DATA}
-use Rattle.machine.specs.Programs.{Queued, Program, tables}
-use Rattle.session.specs.World.{End, across, Ending, Side, World, Event, AllFit, side, joined, withQueue, afterReceive, step, run, begun}
-use Rattle.session.specs.World.{viewedSide, Client, Server, Going, HeardClose, WroteClose, receives}
+use Rattle.session.specs.World.{End, across, Client, Server, Ending, Side, World, Event, AllFit, side, joined, withQueue, afterReceive, step}
+use Rattle.session.specs.World.{run, begun, viewedSide, Going, HeardClose, WroteClose, receives}
+use Rattle.session.specs.Turns.{roleOf, Stage, stageOf, Standing, IsOpen, Listens, stands, standing, Converge, ClosedByOther, ClosedByItself}
+use Rattle.session.specs.Demand.{MaySend, movesOn, producing, MayAnswer, PhaseFits, agreed, sum, nextEnd, nextCall, AtRest, Demand, turn}
+use Rattle.session.specs.Invariant.{Model, Delivers, source, Linked, Joint, Invariant}
+use Rattle.session.specs.Laws.{Laws, MayCall, InvariantHolds, LawsSuffice, onRecords}
 use Rattle.session.specs.Packets.{Packet, queuedIn, dataIn, readyIn}
-use Rattle.session.specs.Turns.{Stage, stageOf, Standing, IsOpen, Listens, stands, standing, Converge, ClosedByOther, ClosedByItself}
-use Rattle.session.specs.Demand.{MayAnswer, PhaseFits, agreed, sum, nextEnd, nextCall, AtRest, MaySend, Demand, producing, turn}
 use Rattle.session.specs.Confirmations.{askedIn, confirmedIn}
-use Rattle.session.specs.Invariant.{Delivers, Model, source, Linked, Joint, Invariant}
-use Rattle.session.specs.Laws.{Laws, InvariantHolds, LawsSuffice, onRecords}
-use Rattle.session.proofs.Turns.{rests-converge, shut-across, shut-converge, close-converge}
-use Rattle.session.proofs.Speaking.{Speaks, speaks-sent, opens-first, offers-one, takes-all, gives-data}
+use Rattle.session.proofs.Turns.{across-differs, rests-converge, shut-across, shut-converge, close-converge}
+use Rattle.session.proofs.Taking.{limit-least}
+use Rattle.session.proofs.Table.{Begun, nothing, something, Moved, opens, offers, takes, gives, moved-row}
 use Rattle.session.proofs.Tables.{tables-laws}
 use Rattle.session.proofs.Step.{seen-from, head-delivered, start-keeps, step-keeps}
+
+-- a call that moves on and that no test refuses
+record Speaks (e : Endpoint) (call : Call) : Type 0 where
+  fits : Fits call
+  moves-on : movesOn call ≡ true
+  may : MayCall e call
+
+-- is sent by a program that has the laws
+speaks-sent : {A O : Type 0} {prog : Program A O} {model : Model A} → Laws prog model → (self : A) (call : Call) → model .Fine self
+    → Speaks (model .view .endpoint self) call → MaySend prog (model .view) self call
+speaks-sent laws self call fine speaks =
+    record { fits = speaks .fits; moves-on = speaks .moves-on; accepted = laws .sends self call fine (speaks .may) (speaks .fits) }
+
+-- where any count begins
+begun-any : (phase count : ℕ) → (next : ℕ) × (m : ℕ) × Begun phase count next m
+begun-any phase zero = (idle, 0, nothing refl)
+begun-any phase (suc k) = (phase, suc k, something (omega arith))
+
+-- who produces as seen from itself is a producer
+is-producer : (end : End) (flow : ℕ) → producing end flow ≡ end → flow ≡ producer
+is-producer end flow own = eqb-true flow producer (go (eqb flow producer) own)
+  where
+    go : (t : Bool) → cond t end (across end) ≡ end → t ≡ true
+    go true same = refl
+    go false same = absurd (across-differs end same)
+
+named-well : isGood (97 ∷ []) [] ≡ true
+unfolding isGood goodName goodFormat wellFormed rest dueBehind table
+named-well = refl
+
+module _ (end : End) (e : Endpoint) (sound : Sound e) (role : e .role ≡ roleOf end) where
+  -- the row of a call leads on, and no test refuses it
+  may-call : eqb (e .phase) shut ≡ false → (call : Call) {phase n : ℕ}
+      → Moved (e .role) (e .flow) (e .phase) (e .n) (messageOf call) (typeDataOf call) phase n
+      → askOf call ≡ false → aboveLimit e call ≡ false → misgiven call ≡ false → miscoded e call ≡ false → MayCall e call
+  may-call alive call {phase} {n} moves askless small given coded =
+      record {
+        sound = sound;
+        alive = alive;
+        phase = phase;
+        n = n;
+        leads = moved-row moves;
+        askless = askless;
+        small = small;
+        given = given;
+        coded = coded;
+      }
+
+  opens-first : end ≡ Client → e .phase ≡ fresh → Speaks e (OPEN (97 ∷ []) [])
+  opens-first mine begins =
+      record {
+        fits = lit< tt;
+        moves-on = refl;
+        may = may-call (rw begins refl) (OPEN (97 ∷ []) []) (opens (role ∙ rw mine refl) begins) refl refl (simp named-well) refl;
+      }
+
+  offers-one : end ≡ Server → opening ≤ e .phase → e .phase ≤ idle → Speaks e (READY 1)
+  offers-one mine low high =
+      record {
+        fits = lit< tt;
+        moves-on = refl;
+        may =
+            may-call (ne-eqb (e .phase) shut (λ same. omega arith)) (READY 1)
+            (offers (λ same. not-client mine (sym role ∙ same)) low high (something (omega arith))) refl refl refl refl;
+      }
+    where
+      not-client : end ≡ Server → roleOf end ≡ 1 → ⊥
+      not-client theirs same = omega (arith, rw theirs at same)
+
+  takes-all : end ≡ Client → e .phase ≡ offer → Speaks e (READY (e .n))
+  takes-all mine offered =
+      record {
+        fits = n-small e sound;
+        moves-on = refl;
+        may =
+            may-call (rw offered refl) (READY (e .n)) (takes (role ∙ rw mine refl) offered (omega arith) (begun-any batch (e .n) .2))
+            refl refl refl refl;
+      }
+
+  gives-data : producing end (e .flow) ≡ end → e .phase ≡ batch → Speaks e (DATA 0 false [])
+  gives-data mine batching =
+      record {
+        fits = lit< tt;
+        moves-on = refl;
+        may =
+            may-call (rw batching refl) (DATA 0 false []) (gives (is-producer end (e .flow) mine) batching (begun-any batch (e .n - 1) .2))
+            refl (le-ltb (e .limit) 8 (omega (arith, limit-least e sound))) refl refl;
+      }
 
 -- the phases that are neither 0, 3, 4 nor 5 are 1 and 2
 one-or-two : (phase : ℕ) → phase ≤ batch → (phase ≡ fresh → ⊥) → (phase ≡ offer → ⊥) → (phase ≡ batch → ⊥) → (opening ≤ phase) × (phase ≤ idle)
 one-or-two phase low later neither not-batch = (omega (arith, later), omega (arith, low, neither, not-batch))
 
 -- the two ends of a world, joined again, are that world
-pub joined-sides : {A : Type 0} (w : World A) (end : End) → joined end (side w end) (side w (across end)) ≡ w
+joined-sides : {A : Type 0} (w : World A) (end : End) → joined end (side w end) (side w (across end)) ≡ w
 joined-sides w Client = refl
 joined-sides w Server = refl
 

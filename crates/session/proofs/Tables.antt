@@ -199,7 +199,7 @@ tables-laws =
       hears = λ makings end e m name format room phase n rest sound enough may.
           subst (λ (received : Received). HeardOn onRecords e (promptLedger e) m phase n rest (outcomeOf (bytesIn m) received))
           (sym (received-heard e (may .sound) (bytesIn m) name format room enough))
-          (packet-taken makings end e m name format phase n rest may);
+          (packet-taken makings end e name format phase n rest m may);
       refuses = λ makings x y e asked wanted name format room sound enough may.
           let s : List ℕ = written e (OPEN asked wanted) in
           subst (λ (received : Received). OpenRefused onRecords x y s name format (outcomeOf s received))

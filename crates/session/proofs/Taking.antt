@@ -1,7 +1,7 @@
 -- A packet that an end may take is taken. Assumes nothing.
 use mathlib.Core.Path.{_≡_, _∙_, ap, refl, subst, sym}
 use Prim.Native.Nat.{ℕ, _+_, _<_, _≤_, suc, zero}
-use mathlib.Core.List.{List, [], _∷_, _++_, append-nil, flatMap, map}
+use mathlib.Core.List.{List, [], _∷_, append-nil, flatMap, map}
 use mathlib.Core.Bool.{Bool, true, false, cond}
 use native.Mathlib.Omega.{arith}
 use lib.ListN.{drop, length}
@@ -15,7 +15,7 @@ use Rattle.control.specs.Frame.{ackReply, typeOf}
 use Rattle.double.specs.Limit.{inLimits, leastLimit, mostLimit}
 use Rattle.endpoint.specs.declared.Endpoint.{Endpoint}
 use Rattle.endpoint.specs.declared.Entry.{Entry}
-use Rattle.endpoint.specs.Record.{awaited, confirmed, entryAt, limited, oldest}
+use Rattle.endpoint.specs.Record.{awaited, confirmed, entryAt, limited, oldest, shut}
 use Rattle.endpoint.proofs.Awaited.{confirmed-awaited, limited-awaited, oldest-awaited}
 use Rattle.endpoint.proofs.StaysGood.{confirmed-good, confirmed-sized, limited-good, limited-sized}
 use Rattle.endpoint.proofs.Told.{good-told}
@@ -24,6 +24,7 @@ use Rattle.open_write.proofs.Fields.{frame-short}
 use Rattle.table.specs.declared.Row.the-variants.{To}
 use Rattle.table.specs.Table.{atRow, other, rowOf}
 use Rattle.receiving.specs.declared.Content.{Content}
+use Rattle.receiving.specs.declared.Answer.{Answer}
 use Rattle.receiving.specs.declared.Received.{Received}
 use Rattle.receiving.specs.declared.Reply.the-variants.{Nothing as Reply·Nothing, Frame}
 use Rattle.receiving.specs.Hearing.{confirmable, confirms, hearOf, hearRow, matchesOldest, movesAs, tooLarge, unmatched}
@@ -36,7 +37,7 @@ use Rattle.machine.proofs.Replies.{replies-heard}
 use Rattle.machine.proofs.Round.{heard-as-sent, own-flags}
 use Rattle.machine.specs.Programs.{bodyAt, toldOf, replies, outcomeOf}
 use Rattle.session.specs.World.{End, Makings}
-use Rattle.session.specs.Packets.{Packet, bytesIn, bodySent, Called, Confirms, Closes}
+use Rattle.session.specs.Packets.{Packet, bytesIn, bodySent, toldIn, Called, Confirms, Closes}
 use Rattle.session.specs.Demand.{promptLedger}
 use Rattle.session.specs.Confirmations.{askedIn, confirmedIn, entryFor}
 use Rattle.session.specs.Laws.{answersIn, onRecords, Comes, limitAfter, MayTake, HeardOn}
@@ -205,18 +206,36 @@ answers-confirm (Called e call) = go (askOf call)
 answers-confirm (Confirms message type-data) = refl
 answers-confirm (Closes code) = refl
 
-confirms-all : (m : Packet) → flatMap confirmedIn (answersIn (λ message. true) m) ++ [] ≡ askedIn m
-confirms-all m = append-nil (flatMap confirmedIn (answersIn (λ message. true) m)) ∙ answers-confirm m
+module _ (makings : Makings) (end : End) (r : Endpoint) (name format : List ℕ) (phase n : ℕ) (rest : ℕ → List Entry) where
+  abbrev May : Packet → Type 0
+  May m = MayTake (onRecords .rules) makings end r (promptLedger r) m name format phase n rest
 
--- what comes of a packet by the tables
-abbrev pub TakenBy : Endpoint → Packet → List ℕ → List ℕ → ℕ → ℕ → (ℕ → List Entry) → Type 0
-TakenBy r m name format phase n rest = HeardOn onRecords r (promptLedger r) m phase n rest (outcomeOf (bytesIn m) (hearOf r (bytesIn m) name format))
+  -- what comes of a packet by the tables
+  abbrev came : Packet → Received
+  came m = hearOf r (bytesIn m) name format
 
-module _ (makings : Makings) (end : End) (r : Endpoint) where
-  call-taken : (e : Endpoint) (call : Call) (name format : List ℕ) (phase n : ℕ) (rest : ℕ → List Entry)
-      → MayTake (onRecords .rules) makings end r (promptLedger r) (Called e call) name format phase n rest
-      → TakenBy r (Called e call) name format phase n rest
-  call-taken e call name format phase n rest may =
+  abbrev Hears : Packet → Type 0
+  Hears m = HeardOn onRecords r (promptLedger r) m phase n rest (outcomeOf (bytesIn m) (came m))
+
+  -- it is heard where it is told as it was sent, and the endpoint comes to where its row leads
+  heard-so : (m : Packet) (next : Endpoint) → answerNumber (came m .answer) ≡ 0 → toldOf (bytesIn m) (came m .answer) ≡ toldIn m
+      → replies (came m .reply) ≡ map bytesIn (answersIn (λ message. true) m) → came m .next ≡ next
+      → Comes r phase n (limitAfter m (r .limit)) next → ((line : ℕ) → (phase ≡ shut → ⊥) → awaited next ≡ rest line) → Hears m
+  heard-so m next answered told replied after comes awaits =
+      record {
+        answered = answered;
+        told = told;
+        replied = replied;
+        fine = subst Sound (sym after) (comes .sound);
+        comes = subst (Comes r phase n _) (sym after) comes;
+        left = λ line. [];
+        balance = λ line. append-nil (flatMap confirmedIn (answersIn (λ message. true) m)) ∙ answers-confirm m;
+        owes = λ line goes. refl;
+        awaits = λ line goes. ap awaited after ∙ awaits line goes;
+      }
+
+  call-taken : (e : Endpoint) (call : Call) → May (Called e call) → Hears (Called e call)
+  call-taken e call may =
       let made = may .proper in
       let room = made .accepted .room in
       let passed = accepted-passed e (outgoing e call) room (made .accepted .accepted) in
@@ -229,26 +248,23 @@ module _ (makings : Makings) (end : End) (r : Endpoint) where
       }) in
       let comes = row-comes r (may .sound) (other (r .role)) (other (r .flow)) (messageOf call) (typeDataOf call) phase n (made .fits) (may .leads) in
       let in-limits = good-told e (passed .is-good) .bounded in
-      record {
-        answered = ap answerNumber (back .answered);
-        told = simp (back .answered, call-body e call (back .content) (back .carried));
-        replied = ap replies (back .replied) ∙ confirming-replies e call;
-        fine = subst Sound (sym (back .after)) (hearing-comes e r in-limits (atRow r phase n) phase n comes call .sound);
-        comes = subst (Comes r phase n _) (sym (back .after)) (hearing-comes e r in-limits (atRow r phase n) phase n comes call);
-        left = λ line. [];
-        balance = λ line. confirms-all (Called e call);
-        owes = λ line goes. refl;
-        awaits = λ line goes.
-            ap awaited (back .after)
-            ∙ hearing-awaited e r in-limits (atRow r phase n) phase n comes call
-            ∙ row-awaited r phase n goes
-            ∙ may .awaits line;
-      }
+      let after : Endpoint = atRow r phase n in
+      heard-so (Called e call) (afterHearing e call after) (ap answerNumber (back .answered))
+      (simp (back .answered, call-body e call (back .content) (back .carried))) (ap replies (back .replied) ∙ confirming-replies e call) (back .after)
+      (hearing-comes e r in-limits after phase n comes call)
+      (λ line goes. hearing-awaited e r in-limits after phase n comes call ∙ row-awaited r phase n goes ∙ may .awaits line)
 
-  confirmation-taken : (message : MessageType) (type-data : ℕ) (name format : List ℕ) (phase n : ℕ) (rest : ℕ → List Entry)
-      → MayTake (onRecords .rules) makings end r (promptLedger r) (Confirms message type-data) name format phase n rest
-      → TakenBy r (Confirms message type-data) name format phase n rest
-  confirmation-taken message type-data name format phase n rest may =
+  -- a reply is heard without a reply
+  reply-taken : (m : Packet) (answer : Answer) (next : Endpoint) → came m ≡ record { answer = answer; next = next; reply = Reply·Nothing }
+      → answerNumber answer ≡ 0 → toldOf (bytesIn m) answer ≡ toldIn m → answersIn (λ message. true) m ≡ []
+      → Comes r phase n (limitAfter m (r .limit)) next → ((line : ℕ) → (phase ≡ shut → ⊥) → awaited next ≡ rest line) → Hears m
+  reply-taken m answer next heard answered told silent comes awaits =
+      heard-so m next (ap (λ (x : Received). answerNumber (x .answer)) heard ∙ answered)
+      (ap (λ (x : Received). toldOf (bytesIn m) (x .answer)) heard ∙ told) (ap (λ (x : Received). replies (x .reply)) heard ∙ rw silent refl)
+      (ap (λ (x : Received). x .next) heard) comes awaits
+
+  confirmation-taken : (message : MessageType) (type-data : ℕ) → May (Confirms message type-data) → Hears (Confirms message type-data)
+  confirmation-taken message type-data may =
       let proper = may .proper in
       let quiet = confirmation-quiets message (proper .0) in
       let after : Endpoint = atRow r phase n in
@@ -259,50 +275,22 @@ module _ (makings : Makings) (end : End) (r : Endpoint) where
         small = reply-small r (may .sound) message ackReply type-data (quiet .reply);
         matched = confirmation-matched r message type-data (quiet .confirming) (rest 0) (may .awaits 0);
       }) in
-      let next : hearOf r (bytesIn (Confirms message type-data)) name format .next ≡ confirmed after =
-      ap (λ (x : Received). x .next) heard ∙ ap (λ (t : Bool). cond t (confirmed after) after) (quiet .confirming) in
       let comes = row-comes r (may .sound) (other (r .role)) (other (r .flow)) Noop type-data phase n (proper .1) (may .leads) in
-      record {
-        answered = ap (λ (x : Received). answerNumber (x .answer)) heard;
-        told = ap (λ (x : Received). toldOf (bytesIn (Confirms message type-data)) (x .answer)) heard;
-        replied = ap (λ (x : Received). replies (x .reply)) heard;
-        fine = subst Sound (sym next) (confirmed-comes r after phase n (r .limit) comes .sound);
-        comes = subst (Comes r phase n (r .limit)) (sym next) (confirmed-comes r after phase n (r .limit) comes);
-        left = λ line. [];
-        balance = λ line. confirms-all (Confirms message type-data);
-        owes = λ line goes. refl;
-        awaits = λ line goes.
-            ap awaited next ∙ confirmed-awaited after (comes .sound .sized .full) ∙ ap (drop 1) (row-awaited r phase n goes ∙ may .awaits line);
-      }
+      reply-taken (Confirms message type-data) _ (confirmed after) (rw (quiet .confirming) at heard) refl refl refl
+      (confirmed-comes r after phase n (r .limit) comes)
+      (λ line goes. confirmed-awaited after (comes .sound .sized .full) ∙ ap (drop 1) (row-awaited r phase n goes ∙ may .awaits line))
 
-  close-taken : (code : ℕ) (name format : List ℕ) (phase n : ℕ) (rest : ℕ → List Entry)
-      → MayTake (onRecords .rules) makings end r (promptLedger r) (Closes code) name format phase n rest
-      → TakenBy r (Closes code) name format phase n rest
-  close-taken code name format phase n rest may =
-      let after : Endpoint = atRow r phase n in
+  close-taken : (code : ℕ) → May (Closes code) → Hears (Closes code)
+  close-taken code may =
       let heard =
       replies-heard Close 0 code refl (may .proper) r name format phase n
       (record { leads = close-leads r code phase n (may .leads); small = reply-small r (may .sound) Close 0 code refl; matched = close-matched r code }) in
-      let next : hearOf r (bytesIn (Closes code)) name format .next ≡ after = ap (λ (x : Received). x .next) heard in
-      record {
-        answered = ap (λ (x : Received). answerNumber (x .answer)) heard;
-        told = ap (λ (x : Received). toldOf (bytesIn (Closes code)) (x .answer)) heard;
-        replied = ap (λ (x : Received). replies (x .reply)) heard;
-        fine =
-            subst Sound (sym next)
-            (row-comes r (may .sound) (other (r .role)) (other (r .flow)) Close code phase n (may .proper) (may .leads) .sound);
-        comes =
-            subst (Comes r phase n (r .limit)) (sym next)
-            (row-comes r (may .sound) (other (r .role)) (other (r .flow)) Close code phase n (may .proper) (may .leads));
-        left = λ line. [];
-        balance = λ line. confirms-all (Closes code);
-        owes = λ line goes. refl;
-        awaits = λ line goes. ap awaited next ∙ row-awaited r phase n goes ∙ may .awaits line;
-      }
+      reply-taken (Closes code) _ (atRow r phase n) heard refl refl refl
+      (row-comes r (may .sound) (other (r .role)) (other (r .flow)) Close code phase n (may .proper) (may .leads))
+      (λ line goes. row-awaited r phase n goes ∙ may .awaits line)
 
   -- a packet that an end may take is taken
-  pub packet-taken : (m : Packet) (name format : List ℕ) (phase n : ℕ) (rest : ℕ → List Entry)
-      → MayTake (onRecords .rules) makings end r (promptLedger r) m name format phase n rest → TakenBy r m name format phase n rest
+  pub packet-taken : (m : Packet) → May m → Hears m
   packet-taken (Called e call) = call-taken e call
   packet-taken (Confirms message type-data) = confirmation-taken message type-data
   packet-taken (Closes code) = close-taken code
