@@ -1,6 +1,7 @@
 //! What two ends have sent and heard since both were made, and what demand 3 says of it at every moment.
 //!
-//! What is over is not kept: data that were accepted, and offers that were answered.
+//! What is over is not kept: data that were accepted, offers that were answered, and READYs that were heard or that an
+//! end which has itself closed no longer hears.
 
 use std::collections::VecDeque;
 
@@ -27,9 +28,31 @@ struct History {
     left: u64,
     /// The data that the other end sent and it has not accepted, the oldest first.
     due: VecDeque<Item>,
+    /// The counts of the READYs that the other end sent and it has not heard, the oldest first; none once it has itself
+    /// written a CLOSE.
+    readys_due: VecDeque<u64>,
 }
 
 impl History {
+    /// A CLOSE written. From here on it hears nothing.
+    fn close(&mut self) {
+        self.has_closed = true;
+        self.readys_due.clear();
+    }
+
+    /// A READY that the other end sent.
+    fn await_ready(&mut self, count: u64) {
+        if !self.has_closed {
+            self.readys_due.push_back(count);
+        }
+    }
+
+    /// A READY heard. The READYs heard are a leading part of those that the other end sent.
+    fn hear_ready(&mut self, count: u64) {
+        let next = self.readys_due.pop_front();
+        assert_eq!(next, Some(count), "READYs are heard as they were sent");
+    }
+
     /// A READY of the server, which offers a batch unless it is READY(0).
     fn offer(&mut self, count: u64) {
         if count != 0 {
@@ -66,6 +89,23 @@ impl History {
         self.has_closed || on_their_way != 0 || self.due.is_empty()
     }
 
+    /// No READY is lost: an end that has not itself written a CLOSE, and to which nothing is on its way, has heard
+    /// every READY that the other end sent. This holds also of an end that heard a CLOSE.
+    fn lost_no_ready(&self, on_their_way: usize) -> bool {
+        on_their_way != 0 || self.readys_due.is_empty()
+    }
+
+    /// A CLOSE that is heard was written: where an end heard a CLOSE, the other end has itself written one.
+    fn heard_a_close_written(&self, other: &History) -> bool {
+        !self.heard_close || other.has_closed
+    }
+
+    /// A CLOSE that was written closes the other end once it has arrived: where the other end has written a CLOSE and
+    /// nothing is on its way to this one, it has heard a CLOSE or written one itself.
+    fn is_closed_by(&self, other: &History, on_their_way: usize) -> bool {
+        !other.has_closed || on_their_way != 0 || self.heard_close || self.has_closed
+    }
+
     /// Nothing is on its way to an end that heard a CLOSE.
     fn is_quiet(&self, on_their_way: usize) -> bool {
         !self.heard_close || on_their_way == 0
@@ -89,12 +129,15 @@ impl Histories {
     /// Notes a message that an end sent.
     pub fn note_sent(&mut self, end: usize, send: &Send) {
         match send {
-            Send::Ready { count } => self.note_ready(end, end, u64::from(*count)),
+            Send::Ready { count } => {
+                self.note_ready(end, end, u64::from(*count));
+                self.0[1 - end].await_ready(u64::from(*count));
+            }
             Send::Data { type_data, body, .. } => {
                 self.0[end].carry();
                 self.0[1 - end].due.push_back((u64::from(*type_data), body.clone()));
             }
-            Send::Close { .. } => self.0[end].has_closed = true,
+            Send::Close { .. } => self.0[end].close(),
             Send::Open { .. } | Send::Noop { .. } => {}
         }
     }
@@ -102,13 +145,18 @@ impl Histories {
     /// Notes a reply that an end wrote, which is a confirmation or the CLOSE that refuses an OPEN.
     pub fn note_reply(&mut self, end: usize, reply: &[u8]) {
         let control_frame = &reply[reply.len() - CONTROL_FRAME..];
-        self.0[end].has_closed |= control::message_type(control_frame) == CLOSE;
+        if control::message_type(control_frame) == CLOSE {
+            self.0[end].close();
+        }
     }
 
     /// Notes a message other than data that an end heard.
     pub fn note_heard(&mut self, end: usize, heard: &Heard) {
         match heard[0] as u8 {
-            READY => self.note_ready(end, 1 - end, heard[2]),
+            READY => {
+                self.note_ready(end, 1 - end, heard[2]);
+                self.0[end].hear_ready(heard[2]);
+            }
             CLOSE => self.0[end].heard_close = true,
             _ => {}
         }
@@ -130,9 +178,13 @@ impl Histories {
 
     /// Watches what holds at every moment, where so many messages are on their way to each end.
     pub fn watch(&self, on_their_way: [usize; 2]) {
-        for (history, on_their_way) in self.0.iter().zip(on_their_way) {
+        for end in ENDS {
+            let (history, other, on_their_way) = (&self.0[end], &self.0[1 - end], on_their_way[end]);
             assert!(history.lost_nothing(on_their_way), "nothing is lost on its way to an end that has not closed");
+            assert!(history.lost_no_ready(on_their_way), "no READY is lost on its way to an end that has not closed");
             assert!(history.is_quiet(on_their_way), "nothing is on its way to an end that heard a CLOSE");
+            assert!(history.heard_a_close_written(other), "a CLOSE that is heard was written");
+            assert!(history.is_closed_by(other, on_their_way), "a CLOSE that has arrived closes the other end");
         }
     }
 }

@@ -71,6 +71,20 @@ mod tests {
     }
 
     #[test]
+    #[should_panic(expected = "one phase and one count hold for both")]
+    fn the_phases_do_not_differ_at_rest() {
+        let [client, server] = at_rest();
+        agree_at_rest(&client, &State { phase: Phase::Opening, ..server });
+    }
+
+    #[test]
+    #[should_panic(expected = "one phase and one count hold for both")]
+    fn the_counts_do_not_differ_at_rest() {
+        let [client, server] = at_rest();
+        agree_at_rest(&client.after_ready(2, Phase::Offer), &server.after_ready(1, Phase::Offer));
+    }
+
+    #[test]
     #[should_panic(expected = "one limit holds for both")]
     fn the_limits_do_not_differ_behind_the_open() {
         let [client, server] = at_rest();

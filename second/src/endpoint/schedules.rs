@@ -245,6 +245,28 @@ fn data_lost_before_a_close_are_told() {
 }
 
 #[test]
+#[should_panic(expected = "no READY is lost")]
+fn a_ready_lost_on_its_way_is_told() {
+    let session = in_batch().carried(CLIENT, &data()).carried(CLIENT, &data());
+    session.said(SERVER, &Send::Ready { count: 0 }).losing_all().watch();
+}
+
+#[test]
+#[should_panic(expected = "a CLOSE that has arrived closes the other end")]
+fn a_close_lost_on_its_way_is_told() {
+    in_batch().said(CLIENT, &Send::Close { code: 0 }).losing_all().watch();
+}
+
+#[test]
+#[should_panic(expected = "a CLOSE that is heard was written")]
+fn a_close_that_nobody_wrote_is_told() {
+    let mut session = in_batch();
+    let closed = session.said(CLIENT, &Send::Close { code: 0 });
+    session.inboxes = closed.inboxes;
+    session.after_delivery(SERVER).expect("a CLOSE is on its way").watch();
+}
+
+#[test]
 #[should_panic(expected = "neither end awaits a confirmation")]
 fn a_confirmation_lost_on_its_way_is_told() {
     in_batch().carried(SERVER, &Send::Noop { type_data: 8, ask: 1 }).losing_all().watch();

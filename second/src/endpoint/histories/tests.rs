@@ -46,13 +46,16 @@ fn with_data_sent(sender: usize) -> Histories {
     histories
 }
 
+/// How many messages are on their way to each end, where one is on its way to this end.
+fn one_on_its_way(end: usize) -> [usize; 2] {
+    ENDS.map(|other| usize::from(other == end))
+}
+
 #[test]
 fn data_on_their_way_and_data_accepted_are_not_lost() {
     for sender in ENDS {
         let mut histories = with_data_sent(sender);
-        let mut on_their_way = [0; 2];
-        on_their_way[1 - sender] = 1;
-        histories.watch(on_their_way);
+        histories.watch(one_on_its_way(1 - sender));
         histories.note_accepted(1 - sender, 0, b"run");
         histories.watch([0; 2]);
     }
@@ -62,13 +65,15 @@ fn data_on_their_way_and_data_accepted_are_not_lost() {
 #[test]
 fn an_end_that_has_closed_may_leave_data() {
     for sender in ENDS {
-        let mut histories = with_data_sent(sender);
-        histories.note_sent(1 - sender, &Send::Close { code: 0 });
-        histories.watch([0; 2]);
-        let mut histories = with_data_sent(sender);
-        histories.note_reply(1 - sender, &reply(CLOSE));
-        histories.watch([0; 2]);
-        assert!(histories.has_closed(1 - sender) && !histories.neither_has_closed());
+        let mut sent = with_data_sent(sender);
+        sent.note_sent(1 - sender, &Send::Close { code: 0 });
+        let mut replied = with_data_sent(sender);
+        replied.note_reply(1 - sender, &reply(CLOSE));
+        for mut histories in [sent, replied] {
+            assert!(histories.has_closed(1 - sender) && !histories.neither_has_closed());
+            histories.note_heard(sender, &heard(CLOSE, 0));
+            histories.watch([0; 2]);
+        }
     }
 }
 
@@ -105,8 +110,134 @@ fn a_confirmation_written_is_no_close() {
 #[should_panic(expected = "nothing is on its way to an end that heard a CLOSE")]
 fn nothing_comes_behind_a_close() {
     let mut histories = Histories::default();
+    histories.note_sent(SERVER, &Send::Close { code: 0 });
     histories.note_heard(CLIENT, &heard(CLOSE, 0));
     histories.watch([1, 0]);
+}
+
+/// A CLOSE on its way closes nobody yet, one that is heard does, and so does one that meets another.
+#[test]
+fn a_close_is_heard_or_meets_another() {
+    for sender in ENDS {
+        let mut histories = Histories::default();
+        histories.note_sent(sender, &Send::Close { code: 0 });
+        histories.watch(one_on_its_way(1 - sender));
+        let mut met = histories.clone();
+        histories.note_heard(1 - sender, &heard(CLOSE, 0));
+        histories.watch([0; 2]);
+        met.note_sent(1 - sender, &Send::Close { code: 0 });
+        met.watch([0; 2]);
+    }
+}
+
+#[test]
+#[should_panic(expected = "a CLOSE that is heard was written")]
+fn the_client_hears_no_close_that_the_server_has_not_written() {
+    let mut histories = Histories::default();
+    histories.note_heard(CLIENT, &heard(CLOSE, 0));
+    histories.watch([0; 2]);
+}
+
+/// That it has written a CLOSE itself does not make the one that it heard.
+#[test]
+#[should_panic(expected = "a CLOSE that is heard was written")]
+fn the_server_hears_no_close_that_the_client_has_not_written() {
+    let mut histories = Histories::default();
+    histories.note_sent(SERVER, &Send::Close { code: 0 });
+    histories.note_heard(SERVER, &heard(CLOSE, 0));
+    histories.watch([1, 0]);
+}
+
+#[test]
+#[should_panic(expected = "a CLOSE that has arrived closes the other end")]
+fn a_close_that_never_comes_to_the_server_is_told() {
+    let mut histories = Histories::default();
+    histories.note_sent(CLIENT, &Send::Close { code: 0 });
+    histories.watch([0; 2]);
+}
+
+#[test]
+#[should_panic(expected = "a CLOSE that has arrived closes the other end")]
+fn a_refusal_that_never_comes_to_the_client_is_told() {
+    let mut histories = Histories::default();
+    histories.note_reply(SERVER, &reply(CLOSE));
+    histories.watch([0; 2]);
+}
+
+/// The READYs of either end are on their way, and then heard, or left by an end that has closed.
+#[test]
+fn readys_on_their_way_and_readys_heard_are_not_lost() {
+    for (sender, count) in [(SERVER, 0), (SERVER, 2), (CLIENT, 2)] {
+        let mut histories = with_readys(if sender == CLIENT { &[2] } else { &[] }, &[]);
+        histories.note_sent(sender, &ready(count));
+        histories.watch(one_on_its_way(1 - sender));
+        let mut left = histories.clone();
+        histories.note_heard(1 - sender, &heard(READY, count.into()));
+        histories.watch([0; 2]);
+        left.note_sent(1 - sender, &Send::Close { code: 0 });
+        left.watch(one_on_its_way(sender));
+    }
+}
+
+/// What an end sends behind the other's CLOSE is not kept.
+#[test]
+fn an_end_that_has_closed_awaits_no_ready() {
+    let mut histories = Histories::default();
+    histories.note_sent(CLIENT, &Send::Close { code: 0 });
+    let closed = histories.clone();
+    histories.note_sent(SERVER, &ready(0));
+    assert!(histories == closed);
+    histories.watch(one_on_its_way(SERVER));
+}
+
+#[test]
+#[should_panic(expected = "no READY is lost")]
+fn a_ready_that_never_comes_to_the_client_is_lost() {
+    let mut histories = Histories::default();
+    histories.note_sent(SERVER, &ready(0));
+    histories.watch([0; 2]);
+}
+
+#[test]
+#[should_panic(expected = "no READY is lost")]
+fn a_ready_that_never_comes_to_the_server_is_lost() {
+    let mut histories = with_readys(&[2], &[]);
+    histories.note_sent(CLIENT, &ready(1));
+    histories.watch([0; 2]);
+}
+
+#[test]
+#[should_panic(expected = "no READY is lost")]
+fn a_ready_that_never_comes_to_an_end_that_heard_a_close_is_lost() {
+    let mut histories = Histories::default();
+    histories.note_sent(SERVER, &ready(0));
+    histories.note_sent(SERVER, &Send::Close { code: 0 });
+    histories.note_heard(CLIENT, &heard(CLOSE, 0));
+    histories.watch([0; 2]);
+}
+
+#[test]
+#[should_panic(expected = "READYs are heard as they were sent")]
+fn readys_are_not_heard_out_of_order() {
+    let mut histories = Histories::default();
+    histories.note_sent(SERVER, &ready(0));
+    histories.note_sent(SERVER, &ready(2));
+    histories.note_heard(CLIENT, &heard(READY, 2));
+}
+
+#[test]
+#[should_panic(expected = "READYs are heard as they were sent")]
+fn readys_are_not_heard_twice() {
+    with_readys(&[0], &[]).note_heard(CLIENT, &heard(READY, 0));
+}
+
+/// The client agreed to two, and the server hears of one.
+#[test]
+#[should_panic(expected = "READYs are heard as they were sent")]
+fn readys_are_not_heard_with_another_count() {
+    let mut histories = with_readys(&[2], &[]);
+    histories.note_sent(CLIENT, &ready(2));
+    histories.note_heard(SERVER, &heard(READY, 1));
 }
 
 #[test]
@@ -146,17 +277,14 @@ fn an_end_sends_no_more_than_it_agreed_to() {
     histories.note_sent(SERVER, &data(1));
 }
 
-/// The client agreed to two, and the server heard of one.
+/// The client agreed to two, and the server has not heard of it.
 #[test]
 #[should_panic(expected = "no more data than it agreed to")]
 fn an_end_accepts_no_more_than_it_agreed_to() {
     let mut histories = with_readys(&[2], &[]);
     histories.note_sent(CLIENT, &ready(2));
-    histories.note_heard(SERVER, &heard(READY, 1));
-    for number in [0, 1] {
-        histories.note_sent(CLIENT, &data(number));
-        histories.note_accepted(SERVER, number.into(), b"run");
-    }
+    histories.note_sent(CLIENT, &data(0));
+    histories.note_accepted(SERVER, 0, b"run");
 }
 
 #[test]

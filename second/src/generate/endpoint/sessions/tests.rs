@@ -1,6 +1,7 @@
 //! Tests of the watch on sessions in which something goes wrong that the two ends do not do by themselves.
 
 use super::*;
+use crate::endpoint::CLOSE;
 
 /// Nothing goes wrong, and nothing is done but what is told.
 const CALM: Temper = Temper { strangers: NEVER, closes: NEVER, makes: NEVER, errs: NEVER, ..EVEN };
@@ -105,20 +106,60 @@ fn an_end_that_sends_more_than_it_agreed_to_is_told() {
     });
 }
 
-/// The client agrees to two, of which the server hears as one.
+/// The client agrees to two, and the first of these comes before its READY.
 #[test]
 #[should_panic(expected = "no more data than it agreed to")]
 fn an_end_that_accepts_more_than_it_agreed_to_is_told() {
     told(|session| {
         session.tell(SERVER, &Send::Ready { count: 2 });
         session.say(CLIENT, &Send::Ready { count: 2 });
+        session.say(CLIENT, &data());
+        session.ends[SERVER].inbox.swap(0, 1);
+        session.change(SERVER, |state| state.ready(2, Phase::Batch));
+        session.drain();
+    });
+}
+
+/// The client agrees to two, and the server hears of one.
+#[test]
+#[should_panic(expected = "READYs are heard as they were sent")]
+fn a_ready_heard_with_another_count_is_told() {
+    told(|session| {
+        session.tell(SERVER, &Send::Ready { count: 2 });
+        session.say(CLIENT, &Send::Ready { count: 2 });
         session.ends[SERVER].inbox[0][REPLY - 1] = 1;
-        while !session.all_delivered() {
-            session.deliver(SERVER);
-        }
-        session.change(SERVER, |state| state.n = 2);
-        session.tell(CLIENT, &data());
-        session.tell(CLIENT, &data());
+        session.drain();
+    });
+}
+
+#[test]
+#[should_panic(expected = "no READY is lost")]
+fn a_ready_lost_on_its_way_is_told() {
+    told(|session| {
+        session.say(SERVER, &Send::Ready { count: 0 });
+        session.ends[CLIENT].inbox.clear();
+        session.watch_step();
+    });
+}
+
+#[test]
+#[should_panic(expected = "a CLOSE that has arrived closes the other end")]
+fn a_close_lost_on_its_way_is_told() {
+    told(|session| {
+        session.say(CLIENT, &Send::Close { code: 0 });
+        session.ends[SERVER].inbox.clear();
+        session.watch_step();
+    });
+}
+
+/// The server sends a NOOP, and the client hears a CLOSE.
+#[test]
+#[should_panic(expected = "a CLOSE that is heard was written")]
+fn a_close_that_nobody_wrote_is_told() {
+    told(|session| {
+        session.say(SERVER, &Send::Noop { type_data: 0, ask: 0 });
+        session.ends[CLIENT].inbox[0][REPLY - 4] = 8 * CLOSE + 1;
+        session.drain();
     });
 }
 
