@@ -59,7 +59,7 @@ pub record SendOnBlock (call : Call) (block out : List ℕ) (number count : ℕ)
   pub finished : Finished (sentOn block call (length out)) block number count block′
   pub left : out′ ≡ leftBy (sentOn block call (length out)) (written (loadOf block) call) out
 
--- "1 block not 64 bytes, or not good": a send on such a block changes no byte
+-- 1, "block not 64 bytes, or not good": a send on such a block changes no byte
 abbrev pub BadBlockSends : Type 0
 BadBlockSends =
     (call : Call) (block out : List ℕ) (number count : ℕ) (block′ out′ : List ℕ) → isGood block ≡ false → SendOnBlock call block out number count block′ out′

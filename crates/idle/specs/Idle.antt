@@ -2,7 +2,7 @@
 -- one that opens properly and afterwards only echoes. .. A made-up n or W fails too, since both are bytes of the block fixed by the tables."
 -- Each is rejected for its vice alone, whatever else it does; and for each there is a program that has it.
 -- A program is what the C entries could be: it gives a result for every making, every send and every receive on a block (`Entries` of `entries`). The
--- tables are one that meets the contracts, and no other gives anything else.
+-- tables are one that meets the contracts, and any other that meets them gives the same.
 use Prim.Native.Nat.{ℕ, _≤_, _<_}
 use mathlib.Core.Path.{_≡_}
 use mathlib.Core.List.{List, _∷_}
@@ -149,7 +149,7 @@ pub data MadeUp (at count : ℕ) (p : Entries) : Type 0 where
 abbrev pub MadeUpRejected : Type 0
 MadeUpRejected = (p : Entries) → (MadeUp 4 2 p → Rejected p) × (MadeUp 3 1 p → Rejected p)
 
--- the block after each call that is accepted has these bytes at this place
+-- the block after each call or message that is accepted has these bytes at this place
 abbrev pub makingUp : ℕ → List ℕ → Entries
 makingUp at bytes = leaving (λ number before after. cond (eqb number 0) (putAt after at bytes) after)
 

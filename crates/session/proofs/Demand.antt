@@ -1,5 +1,5 @@
--- Demand 3: what may be sent at rest; where the invariant holds the demand does; and every list of calls of a program that has the laws leaves it.
--- Assumes nothing.
+-- Demand 3: what may be sent at rest; where the invariant holds the demand does; and so it holds after every list of calls of a program that has the
+-- laws. Assumes nothing.
 use mathlib.Core.Path.{_≡_, refl, sym, _∙_, ap, subst}
 use Prim.Native.Nat.{ℕ, zero, suc, _-_, _≤_, _+_, _<_}
 use mathlib.Core.List.{[], _∷_, List, _++_, append-nil, map, flatMap}
@@ -145,8 +145,7 @@ listens-still x = go (x .past .ending)
 
 -- what was sent is heard where nothing is on its way to an end that listens
 all-heard : {A : Type 0} (carried : Packet → List A) {sent heard : List A} {p : List Packet} {b : Standing} → Delivers carried sent p b heard
-    → Listens b
-    → p ≡ [] → heard ≡ sent
+    → Listens b → p ≡ [] → heard ≡ sent
 unfolding flatMap
 all-heard {A = A} carried {heard = heard} delivers listens none =
     sym
@@ -190,7 +189,7 @@ module _ {A O : Type 0} (prog : Program A O) (model : Model A) (laws : Laws prog
       first-of : queuedIn packet ∷ map queuedIn q ≡ m ∷ rest → queuedIn packet ≡ m
       first-of same = cc
 
-  -- "2 output too short"
+  -- 2, "output too short"
   short-answered : (end : End) (m : Queued) (rest : List Queued) → side w (across end) .queue ≡ m ∷ rest → (name format : List ℕ) (out : O)
       → prog .room out < 14
       → (prog .receive (side w end .self) m name format out .number ≡ 2) × (step prog w (receives end name format out) ≡ w)

@@ -12,7 +12,7 @@ use Rattle.session.specs.Packets.{queuedIn, Called}
 use Rattle.session.specs.Invariant.{Model}
 use Rattle.session.specs.Laws.{Comes, Laws}
 
--- two outcomes, of which one is told of what the states hold
+-- an outcome, and the one on what its state holds
 pub record Alike {A B : Type 0} (load : A → B) (result : ReceiveOutcome A) (inner : ReceiveOutcome B) : Type 0 where
   pub number : result .number ≡ inner .number
   pub told : result .told ≡ inner .told

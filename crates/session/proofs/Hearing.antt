@@ -338,7 +338,7 @@ told-noted makings model end (Called e call) proper = called-noted e call
 told-noted makings model end (Confirms message type-data) proper = confirmation-noted message type-data (proper .0)
 told-noted makings model end (Closes code) proper = record { carries = refl; readies = refl; ends = λ replied before. refl }
 
--- the confirmation is told nothing
+-- a confirmation is queued as a reply, with no options
 answers-queued : (prompt : MessageType → Bool) (m : Packet) → map asReply (map bytesIn (answersIn prompt m)) ≡ map queuedIn (answersIn prompt m)
 answers-queued prompt (Called e call) = go (askOf call) (prompt (messageOf call))
   where

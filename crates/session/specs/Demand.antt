@@ -177,7 +177,7 @@ module _ {A O : Type 0} (p : Program A O) (view : View A) where
     pub may-send : AtRest w
         → MaySend (side w (nextEnd (view .endpoint (w .client .self))) .self) (nextCall (view .endpoint (w .client .self)))
 
-  -- for a fresh client and a fresh server of any flow and limit, and every list of calls
+  -- for a fresh client of any flow and limit, a fresh server of any flow, and every list of calls
   abbrev pub DemandOf : Type 0
   DemandOf =
       (makings : Makings) (client server : A) → Fresh view (makingOf makings Client) client → Fresh view (makingOf makings Server) server
@@ -187,6 +187,6 @@ module _ {A O : Type 0} (p : Program A O) (view : View A) where
 abbrev pub Demand : Type 0
 Demand = DemandOf tables asRecords
 
--- of whose states every one that making gives is fresh
+-- every endpoint that making gives is fresh
 abbrev pub FreshRecords : Type 0
 FreshRecords = (making : Making) → givenOf (freshBy making .flow) (freshBy making .limit) ≡ Good → Fresh asRecords making (freshBy making)
