@@ -103,8 +103,7 @@ made-up-rejected p = (made-up-rejected-at 4 2 p, made-up-rejected-at 3 1 p)
 
 -- where the tables accept a call, a program that makes up these bytes and meets the contracts makes up the bytes that the tables leave
 made-up-is : (at : ℕ) (made bytes : List ℕ) (call : Call) (block out : List ℕ) → Fits call → BytesLeft (byTables .sends call block out) at bytes
-    → length made ≡ length bytes
-    → Meets (makingUp at made) → made ≡ bytes
+    → length made ≡ length bytes → Meets (makingUp at made) → made ≡ bytes
 made-up-is at made bytes call block out fits left long meets =
     let stands : part (makingUp at made .sends call block out .block) at (length made) ≡ made = rw (left .accepts)
     (part-put _ at made (omega (arith, long, left .holds))) in

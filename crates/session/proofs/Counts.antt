@@ -107,8 +107,8 @@ module _ (counts : List ℕ) (batched : List Datum) (all : ℕ) where
 batch-some : (e : Endpoint) → Sound e → e .phase ≡ batch → 1 ≤ e .n
 unfolding countFits
 batch-some e sound batching =
-    let counts : cond (eqb (e .phase) offer || eqb (e .phase) batch) (leb 1 (e .n) && leb (e .n) 65535) (eqb (e .n) 0) ≡ true = good-told e
-    (sound .is-good) .counted in
+    let counts : cond (eqb (e .phase) offer || eqb (e .phase) batch) (leb 1 (e .n) && leb (e .n) 65535) (eqb (e .n) 0) ≡ true =
+    good-told e (sound .is-good) .counted in
     leb-true 1 (e .n) (both-true (leb 1 (e .n)) (leb (e .n) 65535) (rw batching at counts) .0)
 
 -- ---- offers

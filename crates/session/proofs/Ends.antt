@@ -24,7 +24,7 @@ use Rattle.session.specs.Packets.{Packet, dataIn, readyIn, queuedIn, row
 use Rattle.session.specs.Turns.{roleOf, Standing, nothing, empty, ahead}
 use Rattle.session.specs.Demand.{agreed, offersAt, Ledger, nothingDue, Fresh, PhaseFits, producing}
 use Rattle.session.specs.Confirmations.{Awaits}
-use Rattle.session.specs.Invariant.{Within, OffersTaken, Delivers, Knows, Model, Settled, OneEnd, Linked, Joint, source, Proper, AllProper}
+use Rattle.session.specs.Invariant.{Within, OffersTaken, Delivers, Knows, Model, flowAt, Settled, OneEnd, Linked, Joint, source, Proper, AllProper}
 use Rattle.session.specs.Laws.{answersIn, Comes, limitAfter, SentOn}
 use Rattle.session.proofs.Table.{Moved, opens, offers, takes, gives, rests, closes, row-moved, moved-low, Landed, goes-on, closes-both}
 use Rattle.session.proofs.Table.{moved-lands}
@@ -63,35 +63,32 @@ fresh-sound (AsServer flow) given =
     record { sized = fresh-sized server flow mostLimit; is-good = fresh-good server flow mostLimit refl (given-well flow mostLimit given) }
 
 module _ {A : Type 0} (makings : Makings) (model : Model A) where
+  fresh-end : (end : End) (limit : ℕ) → Sound (freshOf (roleOf end) (flowAt makings end) limit)
+      → (Knows end fresh → Settled makings end (freshOf (roleOf end) (flowAt makings end) limit))
+      → OneEnd makings (model .rules) end (made (freshOf (roleOf end) (flowAt makings end) limit)) []
+  unfolding freshOf
+  fresh-end end limit sound settled =
+      record {
+        sound = sound;
+        role = refl;
+        flows = refl;
+        ends = omega arith;
+        queued = refl;
+        proper = tt;
+        settled = settled;
+        counted = record { within = nothing-agreed end; taken = nothing-offered end };
+      }
+
   -- a fresh client and a fresh server
   fresh-linked : givenOf (freshBy (makingOf makings Client) .flow) (freshBy (makingOf makings Client) .limit) ≡ Good
       → givenOf (freshBy (makingOf makings Server) .flow) (freshBy (makingOf makings Server) .limit) ≡ Good
-      → Linked makings (model .rules) Client (made (freshBy (makingOf makings Client))) (made (freshBy (makingOf makings Server))) [] [] nothingDue nothingDue
+      → Linked makings (model .rules) Client (made (freshBy (makingOf makings Client))) (made (freshBy (makingOf makings Server))) [] []
+      nothingDue nothingDue
   unfolding freshOf
   fresh-linked given server-given =
       record {
-        here =
-            record {
-              sound = fresh-sound (makingOf makings Client) given;
-              role = refl;
-              flows = refl;
-              ends = omega arith;
-              queued = refl;
-              proper = tt;
-              settled = λ known. record { limited = refl; produced = refl };
-              counted = record { within = nothing-agreed Client; taken = nothing-offered Client };
-            };
-        there =
-            record {
-              sound = fresh-sound (makingOf makings Server) server-given;
-              role = refl;
-              flows = refl;
-              ends = omega arith;
-              queued = refl;
-              proper = tt;
-              settled = λ known. absurd (omega (arith, known .0));
-              counted = record { within = nothing-agreed Server; taken = nothing-offered Server };
-            };
+        here = fresh-end Client (makings .limit) (fresh-sound (makingOf makings Client) given) (λ known. record { limited = refl; produced = refl });
+        there = fresh-end Server mostLimit (fresh-sound (makingOf makings Server) server-given) (λ known. absurd (omega (arith, known .0)));
         converge = ahead nothing empty;
         awaits = λ line. nothing-awaited (model .rules .pick line) _ _;
         awaits-across = λ line. nothing-awaited (model .rules .pick line) _ _;
@@ -133,10 +130,10 @@ is-going WroteClose phase ends low = absurd (omega (arith, ends))
 
 -- where a row leads, the writer and the hearer of its message have closed in phase 5 and nowhere else
 
-landed-ends : (how : Ending) → PhaseFits how shut → {message : MessageType} {next count : ℕ} → Landed message next count
-    → PhaseFits (endedBy how message Going) next
-landed-ends how closing (goes-on stays low) = rw (stays how) low
-landed-ends how closing closes-both = closing
+landed-ends : (by-close : Ending) → PhaseFits by-close shut → {message : MessageType} {next count : ℕ} → Landed message next count
+    → PhaseFits (endedBy by-close message Going) next
+landed-ends by-close closing (goes-on stays low) = rw (stays by-close) low
+landed-ends by-close closing closes-both = closing
 
 -- a message other than OPEN leads on only an open server
 server-knows : {role flow phase n type-data next count : ℕ} {message : MessageType} → isOpenMessage message ≡ false

@@ -4,11 +4,13 @@ use Prim.Native.Nat.{ℕ, _≤_}
 use mathlib.Core.List.{List}
 use native.Mathlib.Omega.{arith}
 use Rattle.endpoint.specs.declared.Endpoint.{Endpoint}
+use Rattle.endpoint.specs.declared.Entry.{Entry}
 use Rattle.sending.specs.Calls.{Call, OPEN}
 use Rattle.machine.specs.Good.{Fits}
 use Rattle.machine.specs.Programs.{Making, Queued, ReceiveOutcome, ignored, Program}
 use Rattle.session.specs.World.{viewedSide}
 use Rattle.session.specs.Packets.{queuedIn, Called}
+use Rattle.session.specs.Demand.{Ledger}
 use Rattle.session.specs.Invariant.{Model}
 use Rattle.session.specs.Laws.{Comes, Laws}
 
@@ -60,11 +62,9 @@ module _ {A B O P : Type 0} (prog : Program A O) (inner : Program B P) (load : A
         → Comes e phase n limit (model .view .endpoint (load x))
     comes-held same comes = rw same comes
 
-    waits-held : {x : A} {y : B} → load x ≡ y → (line : ℕ) → model .view .ledger (load x) .waits line ≡ model .view .ledger y .waits line
-    waits-held same line = ap (λ (inside : B). model .view .ledger inside .waits line) same
-
-    owes-held : {x : A} {y : B} → load x ≡ y → (line : ℕ) → model .view .ledger (load x) .owes line ≡ model .view .ledger y .owes line
-    owes-held same line = ap (λ (inside : B). model .view .ledger inside .owes line) same
+    due-held : (entries : Ledger → List Entry) {x : A} {y : B} → load x ≡ y
+        → entries (model .view .ledger (load x)) ≡ entries (model .view .ledger y)
+    due-held entries same = ap (λ (inside : B). entries (model .view .ledger inside)) same
 
     pub follows-laws : Laws prog (heldBy load model)
     follows-laws =
@@ -97,10 +97,10 @@ module _ {A B O P : Type 0} (prog : Program A O) (inner : Program B P) (load : A
                 leads = there .leads;
                 fine = fine-held (same .1) (there .fine);
                 comes = comes-held (same .1) (there .comes);
-                awaits = λ line goes. waits-held (same .1) line ∙ there .awaits line goes;
+                awaits = λ line goes. due-held (λ dues. dues .waits line) (same .1) ∙ there .awaits line goes;
                 left = there .left;
                 files = there .files;
-                owes = λ line goes. owes-held (same .1) line ∙ there .owes line goes;
+                owes = λ line goes. due-held (λ dues. dues .owes line) (same .1) ∙ there .owes line goes;
               };
           stays = follows .stays;
           hears = λ makings end self m name format out phase n rest fine enough may.
@@ -113,10 +113,10 @@ module _ {A B O P : Type 0} (prog : Program A O) (inner : Program B P) (load : A
                 replied = same .replied ∙ there .replied;
                 fine = fine-held (same .next) (there .fine);
                 comes = comes-held (same .next) (there .comes);
-                awaits = λ line goes. waits-held (same .next) line ∙ there .awaits line goes;
+                awaits = λ line goes. due-held (λ dues. dues .waits line) (same .next) ∙ there .awaits line goes;
                 left = there .left;
                 balance = there .balance;
-                owes = λ line goes. owes-held (same .next) line ∙ there .owes line goes;
+                owes = λ line goes. due-held (λ dues. dues .owes line) (same .next) ∙ there .owes line goes;
               };
           refuses = λ makings x y e asked wanted name format out fine enough may.
               let room : 14 ≤ inner .room (into out) = rw (← (follows .room out)) enough in

@@ -42,23 +42,22 @@ use Rattle.session.proofs.Ends.{took, tookIn, hearer-knows, heard-sides
 -- where an end stands that heard a message
 
 abbrev endingOf : Ending → Kind → Ending
-endingOf how Moves = Going
-endingOf how Stays = Going
-endingOf how Ends = how
+endingOf by-close Moves = Going
+endingOf by-close Stays = Going
+endingOf by-close Ends = by-close
 
-ended-kind : (how : Ending) (message : MessageType) → endedBy how message Going ≡ endingOf how (kindOf message)
-ended-kind how Open = refl
-ended-kind how Ready = refl
-ended-kind how Noop = refl
-ended-kind how Data = refl
-ended-kind how Close = refl
+ended-kind : (by-close : Ending) (message : MessageType) → endedBy by-close message Going ≡ endingOf by-close (kindOf message)
+ended-kind by-close Open = refl
+ended-kind by-close Ready = refl
+ended-kind by-close Noop = refl
+ended-kind by-close Data = refl
+ended-kind by-close Close = refl
 
 heard-ending : (message : MessageType) {kind : Kind} → kindOf message ≡ kind → endedBy HeardClose message Going ≡ endingOf HeardClose kind
 heard-ending message same = ended-kind HeardClose message ∙ ap (endingOf HeardClose) same
 
 hearer-stands : (from end : End) (s : Stage) (m : Packet) (a : Standing) (e : Endpoint) → Hears from end (At s) m a → e .phase ≡ phaseIn a
-    → e .n ≡ nIn a
-    → stands (endedBy HeardClose (rowMessage m) Going) e ≡ a
+    → e .n ≡ nIn a → stands (endedBy HeardClose (rowMessage m) Going) e ≡ a
 hearer-stands from end s m (At t) e (moved moving theirs leads) phased counted =
     ap (λ (ending : Ending). stands ending e) (heard-ending (rowMessage m) moving) ∙ rw (phased, counted) refl
 hearer-stands from end s m _ e (rested still active) phased counted =
@@ -99,8 +98,7 @@ converge-if from end false sends converge = rw append-nil converge
 
 -- the confirmation of a packet is a quiet message
 answers-converge : (prompt : MessageType → Bool) (from end : End) {s : Stage} {a b : Standing} {p q : List Packet} (m : Packet)
-    → Hears from end (At s) m a
-    → Converge from end a p b q → Converge from end a (p ++ answersIn prompt m) b q
+    → Hears from end (At s) m a → Converge from end a p b q → Converge from end a (p ++ answersIn prompt m) b q
 answers-converge prompt from end (Called e (OPEN name format)) hears converge = rw append-nil converge
 answers-converge prompt from end (Called e (READY count)) hears converge = rw append-nil converge
 answers-converge prompt from end {s} (Called e (DATA type-data true body)) (moved {t = t} moving theirs leads) converge =

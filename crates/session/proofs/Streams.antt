@@ -128,8 +128,7 @@ module _ (pick : List Entry → List Entry) where
   module _ {entries owes : List Entry} {p q : List Packet} where
     -- the other end writes a packet that confirms the oldest that it owes
     pub across-sends-awaits : (a b : Standing) (s : Stage) (m : Packet) (left after : List Entry) → owes ≡ confirms m ++ left
-        → (IsOpen b → after ≡ left)
-        → Awaits pick a entries p (At s) owes q → Awaits pick a entries p b after (q ++ (m ∷ []))
+        → (IsOpen b → after ≡ left) → Awaits pick a entries p (At s) owes q → Awaits pick a entries p b after (q ++ (m ∷ []))
     unfolding flatMap
     across-sends-awaits a b s m left after files keeps c =
         across-awaits a b s (m ∷ []) [] left after refl

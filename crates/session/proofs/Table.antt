@@ -142,16 +142,16 @@ begun-low low (something some) = low
 
 -- where a row leads: to a phase in which neither end has closed by it, or, by a CLOSE, to phase 5 without n
 pub data Landed : MessageType → ℕ → ℕ → Type 0 where
-  goes-on : {message : MessageType} {next count : ℕ} → ((how : Ending) → endedBy how message Going ≡ Going) → next ≤ batch → Landed message next count
+  goes-on : {message : MessageType} {next count : ℕ} → ((by-close : Ending) → endedBy by-close message Going ≡ Going) → next ≤ batch → Landed message next count
   closes-both : Landed Close shut 0
 
 pub moved-lands : {role flow phase n type-data next count : ℕ} {message : MessageType} → Moved role flow phase n message type-data next count
     → Landed message next count
-moved-lands (opens role begins) = goes-on {next = opening} (λ how. refl) (omega arith)
-moved-lands (offers differs low high begins) = goes-on (λ how. refl) (begun-low {begins = offer} (omega arith) begins)
-moved-lands (takes role offered few begins) = goes-on (λ how. refl) (begun-low {begins = batch} (omega arith) begins)
-moved-lands (gives produces batched begins) = goes-on (λ how. refl) (begun-low {begins = batch} (omega arith) begins)
-moved-lands (rests low high) = goes-on (λ how. refl) high
+moved-lands (opens role begins) = goes-on {next = opening} (λ by-close. refl) (omega arith)
+moved-lands (offers differs low high begins) = goes-on (λ by-close. refl) (begun-low {begins = offer} (omega arith) begins)
+moved-lands (takes role offered few begins) = goes-on (λ by-close. refl) (begun-low {begins = batch} (omega arith) begins)
+moved-lands (gives produces batched begins) = goes-on (λ by-close. refl) (begun-low {begins = batch} (omega arith) begins)
+moved-lands (rests low high) = goes-on (λ by-close. refl) high
 moved-lands (closes low high) = closes-both
 
 -- and each of these leads on

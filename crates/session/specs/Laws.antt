@@ -150,12 +150,12 @@ module _ {A O : Type 0} (p : Program A O) (model : Model A) where
     -- a fresh end is fine, and a making that is accepted leaves one
     pub begins : (self : A) (making : Making) → Fresh (model .view) making self → model .Fine self
     pub makes : (self : A) (making : Making) → p .make self making .number ≡ 0 → Fresh (model .view) making (p .make self making .next)
-    -- a send that is accepted is a move, and one that is refused changes nothing
+    -- a send that is accepted puts a packet on its way, and one that is refused changes nothing
     pub moves : (self : A) (call : Call) (out : O) → model .Fine self → Fits call → p .send self call out .number ≡ 0
         → SentOn model (endpoint self) (ledger self) call (p .send self call out)
     pub stays : (self : A) (call : Call) (out : O) → model .Fine self → Fits call → (p .send self call out .number ≡ 0 → ⊥)
         → p .send self call out .next ≡ self
-    -- a move is heard
+    -- a packet that an end may take is heard
     pub hears : (makings : Makings) (end : End) (self : A) (m : Packet) (name format : List ℕ) (out : O) (phase n : ℕ) (rest : ℕ → List Entry)
         → model .Fine self → 14 ≤ p .room out → MayTake (model .rules) makings end (endpoint self) (ledger self) m name format phase n rest
         → HeardOn model (endpoint self) (ledger self) m phase n rest (p .receive self (queuedIn m) name format out)
