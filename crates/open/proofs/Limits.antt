@@ -13,6 +13,7 @@ use Rattle.terms.proofs.Limits.{Bounded, Limited, limit-bounded}
 use Rattle.open.specs.declared.Opening.{Opening}
 use Rattle.open.specs.declared.Refusal.the-variants.{OutOfRange, UnknownSocket, OtherPipe, OtherFormat}
 use Rattle.open.specs.Frame.{frameCheck, partsOf}
+use Rattle.open.specs.Offer.{Offer}
 use Rattle.open.specs.Open.{openingOf, ifGood, readable, outOfRange, inRange, knownSocket, offeredSocket, offeredPipe, offeredFormat, _then_, openOf, offered, heardBy}
 use Rattle.open.proofs.Stages.{OfOpening, stage-holds, then-holds}
 
@@ -60,8 +61,8 @@ format-bounded s format opening there =
     stage-holds HeardBounded (not (eqb (opening .format .length) 0) && not (same (partAt s (opening .format)) format)) OtherFormat opening (λ passed. there)
 
 -- the limit of an opening that is heard, or 50,000,000 where it announces none, is in the limits
-pub heard-bounded : (s : List ℕ) (from to flow : ℕ) (name format : List ℕ) → OfOpening HeardBounded (heardBy s from to flow name format)
+pub heard-bounded : (s : List ℕ) (from to flow : ℕ) (offer : Offer) → OfOpening HeardBounded (heardBy s from to flow offer)
 unfolding offered
-heard-bounded s from to flow name format =
-    then-holds HeardBounded HeardBounded (openOf s from to then offeredPipe s flow name) (offeredFormat s format) (format-bounded s format)
-    (then-holds HeardBounded HeardBounded (openOf s from to) (offeredPipe s flow name) (pipe-bounded s flow name) (open-bounded s from to))
+heard-bounded s from to flow offer =
+    then-holds HeardBounded HeardBounded (openOf s from to then offeredPipe s flow (offer .name)) (offeredFormat s (offer .format)) (format-bounded s (offer .format))
+    (then-holds HeardBounded HeardBounded (openOf s from to) (offeredPipe s flow (offer .name)) (pipe-bounded s flow (offer .name)) (open-bounded s from to))

@@ -17,6 +17,7 @@ use Rattle.open.specs.declared.Parts.{Parts}
 use Rattle.open.specs.declared.Refusal.{Refusal}
 use Rattle.open.specs.declared.Refusal.the-variants.{Unreadable, OutOfRange, UnknownSocket, OtherPipe}
 use Rattle.open.specs.Frame.{frameCheck, partsOf}
+use Rattle.open.specs.Offer.{Offer}
 use Rattle.open.specs.Open.{openingOf, ifGood, readable, refusedIf, outOfRange, inRange, knownSocket, offeredSocket, offeredPipe, offeredFormat, _then_, openOf, offered, heardBy}
 use Rattle.open.proofs.Kept.{parts-lie}
 
@@ -84,23 +85,23 @@ module _ (s : List ℕ) where
 
 -- ---- what 21 and 22 make of it
 
-module _ (s : List ℕ) (from to flow : ℕ) (name format : List ℕ) (said : Open) (is : said ≡ openOf s from to) where
-  pub refused-before : (refusal : Refusal) → said ≡ Refused refusal → said ≡ heardBy s from to flow name format
+module _ (s : List ℕ) (from to flow : ℕ) (offer : Offer) (said : Open) (is : said ≡ openOf s from to) where
+  pub refused-before : (refusal : Refusal) → said ≡ Refused refusal → said ≡ heardBy s from to flow offer
   unfolding offered
-  refused-before refusal e = refused _ _ (refused said _ is (offeredPipe s flow name) refusal e) (offeredFormat s format) refusal e
+  refused-before refusal e = refused _ _ (refused said _ is (offeredPipe s flow (offer .name)) refusal e) (offeredFormat s (offer .format)) refusal e
 
-  module _ (opening : Opening) (opened : said ≡ Heard opening) (pipe : Open) (piped : pipe ≡ offeredPipe s flow name opening) where
-    pub other-pipe : (refusal : Refusal) → pipe ≡ Refused refusal → pipe ≡ heardBy s from to flow name format
+  module _ (opening : Opening) (opened : said ≡ Heard opening) (pipe : Open) (piped : pipe ≡ offeredPipe s flow (offer .name) opening) where
+    pub other-pipe : (refusal : Refusal) → pipe ≡ Refused refusal → pipe ≡ heardBy s from to flow offer
     unfolding offered
-    other-pipe refusal e = refused _ _ (heard said _ is (offeredPipe s flow name) opening opened piped) (offeredFormat s format) refusal e
+    other-pipe refusal e = refused _ _ (heard said _ is (offeredPipe s flow (offer .name)) opening opened piped) (offeredFormat s (offer .format)) refusal e
 
     -- a stage that hears an opening has heard this one
     the-same : (t : Bool) (refusal : Refusal) (other : Opening) → refusedIf t refusal opening ≡ Heard other → opening ≡ other
     the-same true refusal other e = clash cc
     the-same false refusal other e = cc
 
-    pub its-format : (other : Opening) → pipe ≡ Heard other → (formatted : Open) → formatted ≡ offeredFormat s format opening → formatted ≡ heardBy s from to flow name format
+    pub its-format : (other : Opening) → pipe ≡ Heard other → (formatted : Open) → formatted ≡ offeredFormat s (offer .format) opening → formatted ≡ heardBy s from to flow offer
     unfolding offered offeredPipe
     its-format other e formatted h =
-        let same = the-same (not (same (partAt s (opening .name)) name) || not (eqb (opening .socket) (offeredSocket flow))) OtherPipe other (sym piped ∙ e) in
-        heard _ _ (heard said _ is (offeredPipe s flow name) opening opened piped) (offeredFormat s format) other e (rw same at h)
+        let same = the-same (not (same (partAt s (opening .name)) (offer .name)) || not (eqb (opening .socket) (offeredSocket flow))) OtherPipe other (sym piped ∙ e) in
+        heard _ _ (heard said _ is (offeredPipe s flow (offer .name)) opening opened piped) (offeredFormat s (offer .format)) other e (rw same at h)

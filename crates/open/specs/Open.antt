@@ -15,6 +15,7 @@ use Rattle.open.specs.declared.Open.the-variants.{Heard, Refused}
 use Rattle.open.specs.declared.Refusal.{Refusal}
 use Rattle.open.specs.declared.Refusal.the-variants.{Unreadable, OutOfRange, UnknownSocket, OtherPipe, OtherFormat}
 use Rattle.open.specs.Frame.{frameCheck, partsOf}
+use Rattle.open.specs.Offer.{Offer}
 
 -- "Heard too are its socket and the places of name, format and parameters", and the limit that the parameters announce
 unfoldable pub openingOf : List ℕ → Parts → Opening
@@ -83,16 +84,16 @@ openOf s from to =
     then inRange
     then knownSocket
 
--- 21, 22: and what it says to a server of this flow that offers this name and this format
-unfoldable pub offered : List ℕ → ℕ → List ℕ → List ℕ → Open → Open
-offered s flow name format said =
+-- 21, 22: and what it says to a server of this flow with this offer
+unfoldable pub offered : List ℕ → ℕ → Offer → Open → Open
+offered s flow offer said =
     said
-    then offeredPipe s flow name
-    then offeredFormat s format
+    then offeredPipe s flow (offer .name)
+    then offeredFormat s (offer .format)
 
 -- 18 to 22
-abbrev pub heardBy : List ℕ → ℕ → ℕ → ℕ → List ℕ → List ℕ → Open
-heardBy s from to flow name format = offered s flow name format (openOf s from to)
+abbrev pub heardBy : List ℕ → ℕ → ℕ → ℕ → Offer → Open
+heardBy s from to flow offer = offered s flow offer (openOf s from to)
 
 abbrev pub refusalNumber : Refusal → ℕ
 refusalNumber (Unreadable why) = faultNumber why

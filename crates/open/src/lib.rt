@@ -4,6 +4,7 @@ ghost use Prim.Native.Nat.{_+_, _≤_};
 ghost use lib.ListN.{length};
 ghost use Rattle.bytes_be.specs.Part.{partAt, same};
 ghost use Rattle.open.specs.Frame.{oversized, frameWire, isThere, frameText, frameRule, frameField, placeIf, socketIf, keep as Frame·keep};
+ghost use Rattle.open.specs.Offer.{offerOf};
 ghost use Rattle.open.specs.Open.{openingOf, readable as Open·readable, refusedIf, outOfRange, inRange, knownSocket, offeredSocket, offeredPipe, offeredFormat, openOf, heardBy, refusalNumber, openNumber};
 use bytes_be::Place;
 use params::Check;
@@ -333,7 +334,7 @@ fn offered_format(s: &[u8], format: &[u8], opening: Opening) -> Open
 
 // What the frame from `from` to `to` of a message says to a server of this flow that offers this name and this format.
 pub fn hear(s: &[u8], from: usize, to: usize, flow: u8, name: &[u8], format: &[u8]) -> Open
-    ensures { λ r. ⌜ r ≡ heardBy (now (s .entry)) from to flow (now (name .entry)) (now (format .entry)) ⌝ }
+    ensures { λ r. ⌜ r ≡ heardBy (now (s .entry)) from to flow (offerOf (now (name .entry)) (now (format .entry))) ⌝ }
 {
     let said = open_of(s, from, to);
     let Open::Heard(opening) = said else {

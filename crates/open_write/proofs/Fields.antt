@@ -16,6 +16,7 @@ use Rattle.wire.proofs.Written.{length-bytes-field}
 use Rattle.double.specs.Double.{bytesOf}
 use Rattle.double.proofs.Order.{length-bytesOf}
 use Rattle.terms.specs.Announced.{limitKey}
+use Rattle.open.specs.Offer.{offerOf}
 use Rattle.open_write.specs.Frame.{goodName, goodFormat, socketOf, nameField, socketField, formatField, limitStruct, parametersField, frameFor, isGood}
 
 -- what a good name and a good format are
@@ -104,7 +105,7 @@ module _ (limit : ℕ) where
       go false e = rw (length-parameters (eqb-false limit 50000000 e)) (omega arith)
 
 pub length-frame : (flow : ℕ) (name format : List ℕ) (limit : ℕ)
-    → length (frameFor flow name format limit) ≡ 1 + varintLength (length name) + length name + 2 + length (formatField format) + length (parametersField limit)
+    → length (frameFor flow (offerOf name format) limit) ≡ 1 + varintLength (length name) + length name + 2 + length (formatField format) + length (parametersField limit)
 unfolding frameFor
 length-frame flow name format limit =
     length-append (nameField name ++ socketField flow ++ formatField format) (parametersField limit)
@@ -114,7 +115,7 @@ length-frame flow name format limit =
     (length-append (nameField name) (socketField flow) ∙ ap₂ (λ (j k : ℕ). j + k) (length-bytes-field 1 name (omega arith)) (length-socket flow)))
 
 -- the frame of a good name and a good format is short
-pub frame-short : (flow : ℕ) (name format : List ℕ) (limit : ℕ) → isGood name format ≡ true → length (frameFor flow name format limit) ≤ 568
+pub frame-short : (flow : ℕ) (name format : List ℕ) (limit : ℕ) → isGood (offerOf name format) ≡ true → length (frameFor flow (offerOf name format) limit) ≤ 568
 unfolding isGood frameFor
 frame-short flow name format limit good =
     let both = both-true (goodName name) (goodFormat format) good in

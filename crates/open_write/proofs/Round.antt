@@ -32,6 +32,7 @@ use Rattle.open.specs.declared.Opening.{Opening}
 use Rattle.open.specs.declared.Refusal.the-variants.{OtherPipe}
 use Rattle.open.specs.declared.Open.{Open}
 use Rattle.open.specs.declared.Open.the-variants.{Heard}
+use Rattle.open.specs.Offer.{Offer, offerOf}
 use Rattle.open.specs.Open.{openingOf, readable, refusedIf, outOfRange, inRange, knownSocket, offeredSocket, offeredPipe, offeredFormat, _then_, openOf, offered, heardBy}
 use Rattle.open_write.specs.Frame.{goodName, goodFormat, isGood, socketOf, nameField, socketField, formatField, limitStruct, parametersField, frameFor, written}
 use Rattle.open_write.specs.Round.{answerTo, ReadBack, ReadsBack, WrittenReadsBack}
@@ -160,7 +161,7 @@ module _ (s : List ℕ) (to : ℕ) (there : to ≤ length s) (limit : ℕ) (low 
     held : partsOf s from to ≡ holding place socket (behind .place) (behind .parameters) (socketOf flow)
 
   frame-back : (flow : ℕ) (name format : List ℕ) (from : ℕ) (rest : List ℕ) → length name ≤ 255 → wellFormed name ≡ true
-      → length format ≤ 255 → wellFormed format ≡ true → drop from s ≡ frameFor flow name format limit ++ rest → from + length (frameFor flow name format limit) ≡ to → FrameBack flow name format from
+      → length format ≤ 255 → wellFormed format ≡ true → drop from s ≡ frameFor flow (offerOf name format) limit ++ rest → from + length (frameFor flow (offerOf name format) limit) ≡ to → FrameBack flow name format from
   unfolding frameCheck partsOf walk kept keep placeIf socketIf frameField frameRule frameWire oversized isThere frameText frameFor
   frame-back flow name format from rest short text short-format format-text stands ends =
       let few = known-socket flow in
@@ -194,10 +195,10 @@ module _ (s : List ℕ) (to : ℕ) (there : to ≤ length s) (limit : ℕ) (low 
       }
 
 -- the frame and what follows it, anywhere in a list
-module _ (flow : ℕ) (name format : List ℕ) (limit : ℕ) (good : isGood name format ≡ true) (low : 1000000 ≤ limit) (high : limit ≤ 50000000)
-    (s : List ℕ) (from : ℕ) (rest : List ℕ) (stands : drop from s ≡ frameFor flow name format limit ++ rest) where
+module _ (flow : ℕ) (name format : List ℕ) (limit : ℕ) (good : isGood (offerOf name format) ≡ true) (low : 1000000 ≤ limit) (high : limit ≤ 50000000)
+    (s : List ℕ) (from : ℕ) (rest : List ℕ) (stands : drop from s ≡ frameFor flow (offerOf name format) limit ++ rest) where
   abbrev to : ℕ
-  to = from + length (frameFor flow name format limit)
+  to = from + length (frameFor flow (offerOf name format) limit)
 
   both-good : (goodName name ≡ true) × (goodFormat format ≡ true)
   unfolding isGood
@@ -206,7 +207,7 @@ module _ (flow : ℕ) (name format : List ℕ) (limit : ℕ) (good : isGood name
   there : to ≤ length s
   there =
       let whole = length-frame flow name format limit in
-      let long = sym (length-drop from s) ∙ ap length stands ∙ length-append (frameFor flow name format limit) rest in
+      let long = sym (length-drop from s) ∙ ap length stands ∙ length-append (frameFor flow (offerOf name format) limit) rest in
       omega arith
 
   frame : FrameBack s to there limit low high flow name format from
@@ -251,13 +252,13 @@ module _ (flow : ℕ) (name format : List ℕ) (limit : ℕ) (good : isGood name
   second-of false one other e = e
 
   -- 21 and 22 do so only where the offer is another
-  answered : (server : ℕ) (name′ format′ : List ℕ) → heardBy s from to server name′ format′ ≡ answerTo flow name format opening server name′ format′
+  answered : (server : ℕ) (offer : Offer) → heardBy s from to server offer ≡ answerTo flow (offerOf name format) opening server offer
   unfolding offered offeredPipe offeredFormat answerTo
-  answered server name′ format′ =
+  answered server offer =
       simp (opened, frame .bytes)
-      (second-of (not (same name name′) || not (eqb (socketOf flow) (offeredSocket server))) _ _ (simp (frame .behind .bytes) (simp (frame .behind .long))))
+      (second-of (not (same name (offer .name)) || not (eqb (socketOf flow) (offeredSocket server))) _ _ (simp (frame .behind .bytes) (simp (frame .behind .long))))
 
-  back : ReadBack flow name format limit s from to
+  back : ReadBack flow (offerOf name format) limit s from to
   back =
       record {
         opening = opening;
@@ -272,16 +273,16 @@ module _ (flow : ℕ) (name format : List ℕ) (limit : ℕ) (good : isGood name
 
 -- a frame that was written is read as it was given
 pub read-back : ReadsBack
-read-back flow name format limit good limited s from stands =
-    let frame = frameFor flow name format limit in
+read-back flow asked limit good limited s from stands =
+    let frame = frameFor flow asked limit in
     let rest = drop (length frame) (drop from s) in
     let apart = sym (take-append-drop (length frame) (drop from s)) ∙ ap (λ (l : List ℕ). l ++ rest) stands in
     let ends = both-true (leb leastLimit limit) (leb limit mostLimit) limited in
-    back flow name format limit good (leb-true leastLimit limit (ends .0)) (leb-true limit mostLimit (ends .1)) s from rest apart
+    back flow (asked .name) (asked .format) limit good (leb-true leastLimit limit (ends .0)) (leb-true limit mostLimit (ends .1)) s from rest apart
 
 pub written-read-back : WrittenReadsBack
 unfolding written
-written-read-back flow name format limit good limited out at room =
-    let frame = frameFor flow name format limit in
+written-read-back flow asked limit good limited out at room =
+    let frame = frameFor flow asked limit in
     let there : part (putAt out at frame) at (length frame) ≡ frame = part-put out at frame (leb-true (at + length frame) (length out) room) in
-    rw good (read-back flow name format limit good limited (putAt out at frame) at there)
+    rw good (read-back flow asked limit good limited (putAt out at frame) at there)

@@ -15,6 +15,7 @@ use Rattle.wire.proofs.Written.{length-tag, length-bytes-field}
 use Rattle.double.specs.Double.{bytesOf}
 use Rattle.double.proofs.Order.{length-bytesOf}
 use Rattle.terms.specs.Announced.{limitKey}
+use Rattle.open.specs.Offer.{offerOf}
 use Rattle.open_write.specs.declared.Given.the-variants.{Good, Bad}
 use Rattle.open_write.specs.Frame.{nameField, socketField, formatField, parametersField, frameFor, isGood, givenOf, written}
 use Rattle.open_write.proofs.Fields.{length-socket, structHead, valueHead, parameters-some, parameters-bytes, length-frame}
@@ -44,10 +45,10 @@ module _ (out : List ℕ) (at : ℕ) where
       ∙ put-then out at (structHead ++ limitKey ++ valueHead) (bytesOf limit) (at + 26) refl (omega arith)
       ∙ ap (putAt out at) (sym (parameters-some limit h ∙ parameters-bytes limit))
 
-  pub stored-frame : (flow : ℕ) (name format : List ℕ) (limit : ℕ) → at + length (frameFor flow name format limit) ≤ length out
+  pub stored-frame : (flow : ℕ) (name format : List ℕ) (limit : ℕ) → at + length (frameFor flow (offerOf name format) limit) ≤ length out
       → (socket parameters : ℕ) → socket ≡ at + length (nameField name) → parameters ≡ socket + 2 + length (formatField format)
       → putAt (putAt (putAt (putAt out at (nameField name)) socket (socketField flow)) (socket + 2) (formatField format)) parameters (parametersField limit)
-      ≡ putAt out at (frameFor flow name format limit)
+      ≡ putAt out at (frameFor flow (offerOf name format) limit)
   unfolding frameFor
   stored-frame flow name format limit room socket parameters p q =
       let named = nameField name in
@@ -72,39 +73,39 @@ module _ (flow : ℕ) (name format : List ℕ) (limit at : ℕ) (out : List ℕ)
     pub formatted : at + length (nameField name) + 2 + length (formatField format) ≤ length out
     pub all : at + length (nameField name) + 2 + length (formatField format) + length (parametersField limit) ≤ length out
 
-  pub rooms : holds (length out) at (length (frameFor flow name format limit)) ≡ true → Rooms
+  pub rooms : holds (length out) at (length (frameFor flow (offerOf name format) limit)) ≡ true → Rooms
   rooms fits =
-      let room = leb-true (at + length (frameFor flow name format limit)) (length out) fits in
+      let room = leb-true (at + length (frameFor flow (offerOf name format) limit)) (length out) fits in
       let whole = length-frame flow name format limit in
       let first = length-bytes-field 1 name (omega arith) in
       record { named = omega arith; asked = omega arith; formatted = omega arith; all = omega arith }
 
   -- a frame that is written, and one that is not
-  pub bad-given : givenOf flow name format limit ≡ Bad → out ≡ written flow name format limit at out
+  pub bad-given : givenOf flow (offerOf name format) limit ≡ Bad → out ≡ written flow (offerOf name format) limit at out
   unfolding givenOf written
-  bad-given e = go (isGood name format) e
+  bad-given e = go (isGood (offerOf name format)) e
     where
-      go : (t : Bool) → cond t (Good (length (frameFor flow name format limit))) Bad ≡ Bad → out ≡ cond t (putAt out at (frameFor flow name format limit)) out
+      go : (t : Bool) → cond t (Good (length (frameFor flow (offerOf name format) limit))) Bad ≡ Bad → out ≡ cond t (putAt out at (frameFor flow (offerOf name format) limit)) out
       go true e = clash cc
       go false e = refl
 
-  module _ (size : ℕ) (good : givenOf flow name format limit ≡ Good size) where
-    good-given : (isGood name format ≡ true) × (size ≡ length (frameFor flow name format limit))
+  module _ (size : ℕ) (good : givenOf flow (offerOf name format) limit ≡ Good size) where
+    good-given : (isGood (offerOf name format) ≡ true) × (size ≡ length (frameFor flow (offerOf name format) limit))
     unfolding givenOf
-    good-given = go (isGood name format) good
+    good-given = go (isGood (offerOf name format)) good
       where
-        go : (t : Bool) → cond t (Good (length (frameFor flow name format limit))) Bad ≡ Good size → (t ≡ true) × (size ≡ length (frameFor flow name format limit))
+        go : (t : Bool) → cond t (Good (length (frameFor flow (offerOf name format) limit))) Bad ≡ Good size → (t ≡ true) × (size ≡ length (frameFor flow (offerOf name format) limit))
         go true e = (refl, cc)
         go false e = clash cc
 
     -- the test for room is that of the frame
-    pub its-room : (r t : Bool) → r ≡ holds (length out) at size → r ≡ t → holds (length out) at (length (frameFor flow name format limit)) ≡ t
+    pub its-room : (r t : Bool) → r ≡ holds (length out) at size → r ≡ t → holds (length out) at (length (frameFor flow (offerOf name format) limit)) ≡ t
     its-room r t is e = ap (holds (length out) at) (sym (good-given .1)) ∙ sym is ∙ e
 
-    pub wrote : putAt out at (frameFor flow name format limit) ≡ written flow name format limit at out
+    pub wrote : putAt out at (frameFor flow (offerOf name format) limit) ≡ written flow (offerOf name format) limit at out
     unfolding written
     wrote = simp (good-given .0)
 
-    pub no-room : holds (length out) at (length (frameFor flow name format limit)) ≡ false → out ≡ written flow name format limit at out
+    pub no-room : holds (length out) at (length (frameFor flow (offerOf name format) limit)) ≡ false → out ≡ written flow (offerOf name format) limit at out
     unfolding written putAt
     no-room lacks = simp (good-given .0, lacks)

@@ -12,6 +12,7 @@ use Rattle.wire.specs.Written.{varintField, eightField, bytesField}
 use Rattle.double.specs.Double.{bytesOf}
 use Rattle.double.specs.Limit.{mostLimit}
 use Rattle.terms.specs.Announced.{limitKey}
+use Rattle.open.specs.Offer.{Offer}
 use Rattle.open_write.specs.declared.Given.{Given}
 use Rattle.open_write.specs.declared.Given.the-variants.{Good, Bad}
 
@@ -23,9 +24,9 @@ goodName name = leb 1 (length name) && leb (length name) 255 && wellFormed name
 unfoldable pub goodFormat : List ℕ → Bool
 goodFormat format = leb (length format) 255 && wellFormed format
 
--- what 34 asks of a name and a format
-unfoldable pub isGood : List ℕ → List ℕ → Bool
-isGood name format = goodName name && goodFormat format
+-- what 34 asks of them
+unfoldable pub isGood : Offer → Bool
+isGood offer = goodName (offer .name) && goodFormat (offer .format)
 
 -- "Its socket is 1 (INPUT) for a producer, 2 (OUTPUT) for a consumer." A producer's flow is 1, and any other a consumer's.
 abbrev pub socketOf : ℕ → ℕ
@@ -52,17 +53,17 @@ unfoldable pub parametersField : ℕ → List ℕ
 parametersField limit = cond (eqb limit mostLimit) [] (bytesField 4 (limitStruct limit))
 
 -- "fields in ascending number"
-unfoldable pub frameFor : ℕ → List ℕ → List ℕ → ℕ → List ℕ
-frameFor flow name format limit = nameField name ++ socketField flow ++ formatField format ++ parametersField limit
+unfoldable pub frameFor : ℕ → Offer → ℕ → List ℕ
+frameFor flow offer limit = nameField (offer .name) ++ socketField flow ++ formatField (offer .format) ++ parametersField limit
 
 -- "34 bad name, format, .."; how long the frame is, is known before a byte of it is written
-unfoldable pub givenOf : ℕ → List ℕ → List ℕ → ℕ → Given
-givenOf flow name format limit = cond (isGood name format) (Good (length (frameFor flow name format limit))) Bad
+unfoldable pub givenOf : ℕ → Offer → ℕ → Given
+givenOf flow offer limit = cond (isGood offer) (Good (length (frameFor flow offer limit))) Bad
 
 abbrev pub givenNumber : Given → ℕ
-givenNumber (Good length) = 0
+givenNumber (Good size) = 0
 givenNumber Bad = 34
 
 -- the output with the frame of a good name and format from place `at` on, and nothing else changed; the output itself where it has no room
-unfoldable pub written : ℕ → List ℕ → List ℕ → ℕ → ℕ → List ℕ → List ℕ
-written flow name format limit at out = cond (isGood name format) (putAt out at (frameFor flow name format limit)) out
+unfoldable pub written : ℕ → Offer → ℕ → ℕ → List ℕ → List ℕ
+written flow offer limit at out = cond (isGood offer) (putAt out at (frameFor flow offer limit)) out

@@ -11,37 +11,37 @@ use Rattle.terms.specs.Announced.{announcedLimit}
 use Rattle.open.specs.declared.Opening.{Opening}
 use Rattle.open.specs.declared.Refusal.the-variants.{OtherPipe, OtherFormat}
 use Rattle.open.specs.declared.Open.{Open}
+use Rattle.open.specs.Offer.{Offer}
 use Rattle.open.specs.Open.{refusedIf, offeredSocket, _then_, heardBy}
 use Rattle.open_write.specs.Frame.{isGood, socketOf, limitStruct, frameFor, written}
 
 -- refused only where name, socket or format is not the offered one
-unfoldable pub answerTo : ℕ → List ℕ → List ℕ → Opening → ℕ → List ℕ → List ℕ → Open
-answerTo flow name format opening serverFlow offeredName offeredFormat =
-    refusedIf (not (same name offeredName) || not (eqb (socketOf flow) (offeredSocket serverFlow))) OtherPipe opening
-    then refusedIf (not (eqb (length format) 0) && not (same format offeredFormat)) OtherFormat
+unfoldable pub answerTo : ℕ → Offer → Opening → ℕ → Offer → Open
+answerTo flow asked opening serverFlow offer =
+    refusedIf (not (same (asked .name) (offer .name)) || not (eqb (socketOf flow) (offeredSocket serverFlow))) OtherPipe opening
+    then refusedIf (not (eqb (length (asked .format)) 0) && not (same (asked .format) (offer .format))) OtherFormat
 
 -- the same socket, name, format and limit, of the frame from `from` to `to`
-pub record ReadBack (flow : ℕ) (name format : List ℕ) (limit : ℕ) (s : List ℕ) (from to : ℕ) : Type 0 where
+pub record ReadBack (flow : ℕ) (asked : Offer) (limit : ℕ) (s : List ℕ) (from to : ℕ) : Type 0 where
   pub opening : Opening
   pub socket : opening .socket ≡ socketOf flow
-  pub named : partAt s (opening .name) ≡ name
-  pub formatted : partAt s (opening .format) ≡ format
-  pub long : opening .format .length ≡ length format
+  pub named : partAt s (opening .name) ≡ asked .name
+  pub formatted : partAt s (opening .format) ≡ asked .format
+  pub long : opening .format .length ≡ length (asked .format)
   pub parametrized : partAt s (opening .parameters) ≡ cond (eqb limit mostLimit) [] (limitStruct limit)
   pub limited : announcedLimit (opening .announced) ≡ limit
-  pub heard : (serverFlow : ℕ) (offeredName offeredFormat : List ℕ) →
-      heardBy s from to serverFlow offeredName offeredFormat ≡ answerTo flow name format opening serverFlow offeredName offeredFormat
+  pub heard : (serverFlow : ℕ) (offer : Offer) → heardBy s from to serverFlow offer ≡ answerTo flow asked opening serverFlow offer
 
 -- for every flow and every good name, format and limit, wherever the frame stands
 abbrev pub ReadsBack : Type 0
 ReadsBack =
-    (flow : ℕ) (name format : List ℕ) (limit : ℕ) → isGood name format ≡ true → inLimits limit ≡ true
-    → (s : List ℕ) (from : ℕ) → part s from (length (frameFor flow name format limit)) ≡ frameFor flow name format limit
-    → ReadBack flow name format limit s from (from + length (frameFor flow name format limit))
+    (flow : ℕ) (asked : Offer) (limit : ℕ) → isGood asked ≡ true → inLimits limit ≡ true
+    → (s : List ℕ) (from : ℕ) → part s from (length (frameFor flow asked limit)) ≡ frameFor flow asked limit
+    → ReadBack flow asked limit s from (from + length (frameFor flow asked limit))
 
 -- and so in every output that has room for it
 abbrev pub WrittenReadsBack : Type 0
 WrittenReadsBack =
-    (flow : ℕ) (name format : List ℕ) (limit : ℕ) → isGood name format ≡ true → inLimits limit ≡ true
-    → (out : List ℕ) (at : ℕ) → holds (length out) at (length (frameFor flow name format limit)) ≡ true
-    → ReadBack flow name format limit (written flow name format limit at out) at (at + length (frameFor flow name format limit))
+    (flow : ℕ) (asked : Offer) (limit : ℕ) → isGood asked ≡ true → inLimits limit ≡ true
+    → (out : List ℕ) (at : ℕ) → holds (length out) at (length (frameFor flow asked limit)) ≡ true
+    → ReadBack flow asked limit (written flow asked limit at out) at (at + length (frameFor flow asked limit))

@@ -5,6 +5,7 @@ ghost use lib.ListN.{length};
 ghost use Rattle.bytes_be.specs.Part.{putAt};
 ghost use Rattle.wire.specs.Varint.{varintLength};
 ghost use Rattle.wire.specs.Written.{bytesField};
+ghost use Rattle.open.specs.Offer.{offerOf};
 ghost use Rattle.open_write.specs.Frame.{goodName, goodFormat, socketOf, socketField, formatField, parametersField, frameFor, givenOf, givenNumber, written};
 
 // What is given to an OPEN.
@@ -79,7 +80,7 @@ fn parameters_length(limit: u32) -> usize
 // How many bytes the frame takes: a tag and a socket have one each, whatever the flow.
 fn frame_length(flow: u8, name: &[u8], format: &[u8], limit: u32) -> usize
     requires { ⌜ (length (now name) ≤ 255) × (length (now format) ≤ 255) ⌝ }
-    ensures { λ r. ⌜ r ≡ length (frameFor flow (now (name .entry)) (now (format .entry)) limit) ⌝ }
+    ensures { λ r. ⌜ r ≡ length (frameFor flow (offerOf (now (name .entry)) (now (format .entry))) limit) ⌝ }
 {
     field_length(name) + 2 + format_length(format) + parameters_length(limit)
 }
@@ -134,7 +135,7 @@ fn store_parameters(out: &mut [u8], at: usize, limit: u32)
 
 // Whether a name has 1 to 255 bytes and a format at most 255, all of UTF-8, and how long the frame of a client of this flow is then.
 pub fn given_of(flow: u8, name: &[u8], format: &[u8], limit: u32) -> Given
-    ensures { λ r. ⌜ r ≡ givenOf flow (now (name .entry)) (now (format .entry)) limit ⌝ }
+    ensures { λ r. ⌜ r ≡ givenOf flow (offerOf (now (name .entry)) (now (format .entry))) limit ⌝ }
 {
     let good = good_name(name) & good_format(format);
     if good {
@@ -146,7 +147,7 @@ pub fn given_of(flow: u8, name: &[u8], format: &[u8], limit: u32) -> Given
 // Writes the frame of a client of this flow from place `at` on. Where it has no room there, or 34 refuses name or format, `out` stays as it
 // is.
 pub fn write(out: &mut [u8], at: usize, flow: u8, name: &[u8], format: &[u8], limit: u32)
-    ensures { λ _. ⌜ now (out .exit) ≡ written flow (now (name .entry)) (now (format .entry)) limit at (now (out .entry)) ⌝ }
+    ensures { λ _. ⌜ now (out .exit) ≡ written flow (offerOf (now (name .entry)) (now (format .entry))) limit at (now (out .entry)) ⌝ }
 {
     let Given::Good(length) = given_of(flow, name, format, limit) else {
         return;

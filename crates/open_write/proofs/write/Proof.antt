@@ -7,6 +7,7 @@ use borrow.Author.Needs.{needs}
 use borrow.Author.Tests.{leb-true}
 use Rattle.bytes_be.specs.Part.{holds}
 use Rattle.bytes_be.proofs.Parts.{length-put}
+use Rattle.open.specs.Offer.{offerOf}
 use Rattle.open_write.specs.Frame.{frameFor}
 use Rattle.open_write.proofs.Stored.{stored-frame, Rooms, rooms, bad-given, its-room, wrote, no-room}
 use Rattle.open_write.proofs.write.Statement.{statement}
@@ -14,7 +15,7 @@ use Rattle.open_write.proofs.write.Tie as tie
 
 -- the test has found room for the frame, and for each of its fields
 fits : (c : tie.Then1)
-    → holds (length (c .before .before .before .before .before .before .before .before .before .args .out .now)) (c .before .before .before .before .before .before .before .before .before .args .at) (length (frameFor (c .before .before .before .before .before .before .before .before .before .args .flow) (c .before .before .before .before .before .before .before .before .before .args .name .now) (c .before .before .before .before .before .before .before .before .before .args .format .now) (c .before .before .before .before .before .before .before .before .before .args .limit))) ≡ true
+    → holds (length (c .before .before .before .before .before .before .before .before .before .args .out .now)) (c .before .before .before .before .before .before .before .before .before .args .at) (length (frameFor (c .before .before .before .before .before .before .before .before .before .args .flow) (offerOf (c .before .before .before .before .before .before .before .before .before .args .name .now) (c .before .before .before .before .before .before .before .before .before .args .format .now)) (c .before .before .before .before .before .before .before .before .before .args .limit))) ≡ true
 fits c = its-room _ _ _ _ _ (c .before .before .before .before .before .before .before .before .before .args .out .now) _ (sym (c .before .before .before .before .before .given-of .ensures) ∙ c .before .before .before .length .given .1) _ true (c .before .holds .ensures) (c .if1 .taken)
 
 room : (c : tie.Then1) → Rooms (c .before .before .before .before .before .before .before .before .before .args .flow) (c .before .before .before .before .before .before .before .before .before .args .name .now) (c .before .before .before .before .before .before .before .before .before .args .format .now) (c .before .before .before .before .before .before .before .before .before .args .limit) (c .before .before .before .before .before .before .before .before .before .args .at) (c .before .before .before .before .before .before .before .before .before .args .out .now)
