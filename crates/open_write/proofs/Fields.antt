@@ -16,7 +16,7 @@ use Rattle.wire.proofs.Written.{length-bytes-field}
 use Rattle.double.specs.Double.{bytesOf}
 use Rattle.double.proofs.Order.{length-bytesOf}
 use Rattle.terms.specs.Announced.{limitKey}
-use Rattle.open.specs.Offer.{offerOf}
+use Rattle.open.specs.Offer.{Offer, offerOf}
 use Rattle.open_write.specs.Frame.{goodName, goodFormat, socketOf, nameField, socketField, formatField, limitStruct, parametersField, frameFor, isGood}
 
 -- what a good name and a good format are
@@ -115,13 +115,13 @@ length-frame flow name format limit =
     (length-append (nameField name) (socketField flow) ∙ ap₂ (λ (j k : ℕ). j + k) (length-bytes-field 1 name (omega arith)) (length-socket flow)))
 
 -- the frame of a good name and a good format is short
-pub frame-short : (flow : ℕ) (name format : List ℕ) (limit : ℕ) → isGood (offerOf name format) ≡ true → length (frameFor flow (offerOf name format) limit) ≤ 568
+pub frame-short : (flow : ℕ) (asked : Offer) (limit : ℕ) → isGood asked ≡ true → length (frameFor flow asked limit) ≤ 568
 unfolding isGood frameFor
-frame-short flow name format limit good =
-    let both = both-true (goodName name) (goodFormat format) good in
-    let named = name-says name (both .0) in
-    let formatted = format-says format (both .1) in
-    let first = length-append (nameField name) (socketField flow) in
-    let second = length-append (nameField name ++ socketField flow) (formatField format) in
-    let whole = length-append (nameField name ++ socketField flow ++ formatField format) (parametersField limit) in
-    omega (arith, first, second, whole, length-bytes-field 1 name (omega arith), varint-at-most (length name), length-socket flow, format-short format (formatted .0), parameters-short limit)
+frame-short flow asked limit good =
+    let both = both-true (goodName (asked .name)) (goodFormat (asked .format)) good in
+    let named = name-says (asked .name) (both .0) in
+    let formatted = format-says (asked .format) (both .1) in
+    let first = length-append (nameField (asked .name)) (socketField flow) in
+    let second = length-append (nameField (asked .name) ++ socketField flow) (formatField (asked .format)) in
+    let whole = length-append (nameField (asked .name) ++ socketField flow ++ formatField (asked .format)) (parametersField limit) in
+    omega (arith, first, second, whole, length-bytes-field 1 (asked .name) (omega arith), varint-at-most (length (asked .name)), length-socket flow, format-short (asked .format) (formatted .0), parameters-short limit)

@@ -6,7 +6,7 @@ use mathlib.Core.Bool.{Bool, true, false, cond, not, _&&_}
 use native.Mathlib.Omega.{arith}
 use lib.Dec.{eqb, lit<, ltb, leb}
 use lib.ListN.{length}
-use borrow.Author.Tests.{eqb-true, le-ltb, ltb-false, ne-eqb, not-false}
+use borrow.Author.Tests.{eq-eqb, eqb-false, eqb-true, le-ltb, ltb-false, ne-eqb, not-false}
 use Rattle.bytes_be.specs.Part.{putAt}
 use Rattle.bytes_be.proofs.Tests.{took-second}
 use Rattle.bundle.proofs.Outputs.{one-long, two-long}
@@ -19,7 +19,7 @@ use Rattle.table.specs.declared.Row.{Row}
 use Rattle.table.specs.Table.{aboveOffer, moved, notAllowed, rowOf}
 use Rattle.sending.specs.declared.Outgoing.{Outgoing}
 use Rattle.sending.specs.declared.Sent.{Sent}
-use Rattle.sending.specs.Calls.{bundleWith, flagsFor, written}
+use Rattle.sending.specs.Calls.{bundleWith, flagsFor, numberIf}
 use Rattle.sending.specs.Sending.{Answered, askedBy, isFull, leftBy, numberFor, sendRow, sentBy, sentIf}
 
 not-zero : {k : ℕ} → 0 < k → k ≡ 0 → ⊥
@@ -29,6 +29,19 @@ not-zero some e = omega arith
 passed : (t : Bool) (k rest : ℕ) → 0 < k → cond t k rest ≡ 0 → (t ≡ false) × (rest ≡ 0)
 passed t k rest some e = took-second t (not-zero some) e
 
+-- and so was its own
+own-passed : (own rest : ℕ) → cond (not (eqb own 0)) own rest ≡ 0 → (own ≡ 0) × (rest ≡ 0)
+own-passed own rest = go (eqb own 0) refl
+  where
+    go : (t : Bool) → eqb own 0 ≡ t → cond (not t) own rest ≡ 0 → (own ≡ 0) × (rest ≡ 0)
+    go true none e = (eqb-true own 0 none, e)
+    go false some e = absurd (eqb-false own 0 some e)
+
+-- a test whose number is not given does not apply
+pub not-applies : (t : Bool) (k : ℕ) → 0 < k → numberIf t k ≡ 0 → t ≡ false
+unfolding numberIf
+not-applies t k some e = passed t k 0 some e .0
+
 -- what a send of number 0 has passed
 pub record Passed (e : Endpoint) (o : Outgoing) (row : Row) (room : ℕ) : Type 0 where
   pub is-good : good e ≡ true
@@ -36,9 +49,7 @@ pub record Passed (e : Endpoint) (o : Outgoing) (row : Row) (room : ℕ) : Type 
   pub allowed : notAllowed row ≡ false
   pub below : aboveOffer row ≡ false
   pub awaits : isFull e o ≡ false
-  pub within : o .large ≡ false
-  pub given : o .misgiven ≡ false
-  pub coded : o .miscoded ≡ false
+  pub unrefused : o .own ≡ 0
   pub fits : o .length ≤ room
 
 module _ (e : Endpoint) (o : Outgoing) (row : Row) (room : ℕ) where
@@ -50,19 +61,15 @@ module _ (e : Endpoint) (o : Outgoing) (row : Row) (room : ℕ) where
       let barred = passed (notAllowed row) 30 _ (lit< tt) (late .1) in
       let above = passed (aboveOffer row) 31 _ (lit< tt) (barred .1) in
       let full = passed (isFull e o) 32 _ (lit< tt) (above .1) in
-      let large = passed (o .large) 33 _ (lit< tt) (full .1) in
-      let misgiven = passed (o .misgiven) 34 _ (lit< tt) (large .1) in
-      let miscoded = passed (o .miscoded) 35 _ (lit< tt) (misgiven .1) in
-      let short = passed (ltb room (o .length)) 2 _ (lit< tt) (miscoded .1) in
+      let own = own-passed (o .own) _ (full .1) in
+      let short = passed (ltb room (o .length)) 2 _ (lit< tt) (own .1) in
       record {
         is-good = not-false (good e) (bad .0);
         alive = late .0;
         allowed = barred .0;
         below = above .0;
         awaits = full .0;
-        within = large .0;
-        given = misgiven .0;
-        coded = miscoded .0;
+        unrefused = own .0;
         fits = ltb-false room (o .length) (short .0);
       }
 
@@ -70,7 +77,7 @@ module _ (e : Endpoint) (o : Outgoing) (row : Row) (room : ℕ) where
   none-given : Passed e o row room → numberFor e o row room ≡ 0
   unfolding numberFor
   none-given through =
-      simp (through .is-good, through .alive, through .allowed, through .below, through .awaits, through .within, through .given, through .coded, le-ltb room (o .length) (through .fits))
+      simp (through .is-good, through .alive, through .allowed, through .below, through .awaits, eq-eqb (o .own) 0 (through .unrefused), le-ltb room (o .length) (through .fits))
 
   -- the number of what was sent is that of the tests
   number-if : sentIf (numberFor e o row room) e o row .number ≡ numberFor e o row room
@@ -120,25 +127,23 @@ pub framed-long : (message : MessageType) (ask : Bool) (type-data : ℕ) (frame 
 unfolding bundleWith
 framed-long message ask type-data frame = two-long (bytesOf message (flagsFor ask) type-data) (length-control message (flagsFor ask) type-data) [] frame
 
--- a send that 34 refuses is the same whatever its length
+-- a send that its own test refuses is the same whatever its length
 
 refused-if : (t : Bool) (k rest : ℕ) → 0 < k → eqb rest 0 ≡ false → eqb (cond t k rest) 0 ≡ false
 refused-if true k rest some e = ne-eqb k 0 (not-zero some)
 refused-if false k rest some e = e
 
 abbrev pub longer : Outgoing → ℕ → Outgoing
-longer o size =
-    record { message = o .message; «type_data» = o .«type_data»; ask = o .ask; large = o .large; misgiven = o .misgiven; miscoded = o .miscoded; length = size }
+longer o size = record { message = o .message; «type_data» = o .«type_data»; ask = o .ask; own = o .own; length = size }
 
-pub misgiven-any : (e : Endpoint) (o : Outgoing) (room size : ℕ) → o .misgiven ≡ true → sentBy e o room ≡ sentBy e (longer o size) room
+pub refused-any : (e : Endpoint) (o : Outgoing) (room size : ℕ) → eqb (o .own) 0 ≡ false → sentBy e o room ≡ sentBy e (longer o size) room
 unfolding sentBy numberFor isFull sendRow
-misgiven-any e o room size bad =
+refused-any e o room size refuses =
     let row : Row = rowOf (e .role) (e .flow) (e .phase) (e .n) (o .message) (o .«type_data») in
-    let none : eqb (cond (not (good e)) 1 (cond (eqb (e .phase) shut) 3 (cond (notAllowed row) 30 (cond (aboveOffer row) 31 (cond (o .ask && leb capacity (e .w)) 32 (cond (o .large) 33 34)))))) 0 ≡ false =
+    let none : eqb (cond (not (good e)) 1 (cond (eqb (e .phase) shut) 3 (cond (notAllowed row) 30 (cond (aboveOffer row) 31 (cond (o .ask && leb capacity (e .w)) 32 (o .own)))))) 0 ≡ false =
     refused-if (not (good e)) 1 _ (lit< tt)
     (refused-if (eqb (e .phase) shut) 3 _ (lit< tt)
     (refused-if (notAllowed row) 30 _ (lit< tt)
     (refused-if (aboveOffer row) 31 _ (lit< tt)
-    (refused-if (o .ask && leb capacity (e .w)) 32 _ (lit< tt)
-    (refused-if (o .large) 33 34 (lit< tt) refl))))) in
-    simp (bad, none)
+    (refused-if (o .ask && leb capacity (e .w)) 32 _ (lit< tt) refuses)))) in
+    simp (refuses, none)

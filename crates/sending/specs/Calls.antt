@@ -9,86 +9,92 @@ use Rattle.bundle.specs.Writing.{bundleOf}
 use Rattle.control.specs.declared.MessageType.{MessageType}
 use Rattle.control.specs.declared.MessageType.the-variants.{Open, Ready, Noop, Data, Close}
 use Rattle.control.specs.Frame.{ackRequest, bytesOf}
+use Rattle.open.specs.Offer.{Offer}
 use Rattle.open_write.specs.Frame.{isGood, frameFor}
 use Rattle.endpoint.specs.declared.Endpoint.{Endpoint}
 use Rattle.endpoint.specs.Record.{server, opening}
+use Rattle.sending.specs.declared.Report.{Report}
 use Rattle.sending.specs.declared.Outgoing.{Outgoing}
 
+-- "DATA takes type-data, one body (may be empty) and an ask for confirmation"
+pub record Datum : Type 0 where
+  pub type-data : ℕ
+  pub ask : Bool
+  pub body : List ℕ
+
+-- of what is told beside the body, and of the body that is lent
+abbrev pub datumOf : Report → List ℕ → Datum
+datumOf report body = record { type-data = report .«type_data»; ask = report .ask; body = body }
+
 pub data Call : Type 0 where
-  -- the pipe name and the format
-  OPEN : List ℕ → List ℕ → Call
+  OPEN : Offer → Call
   -- the count
   READY : ℕ → Call
-  -- type-data, the ask and the body
-  DATA : ℕ → Bool → List ℕ → Call
+  DATA : Datum → Call
   -- type-data and the ask
   NOOP : ℕ → Bool → Call
   -- the code
   CLOSE : ℕ → Call
 
--- what each call sends
-abbrev pub messageOf : Call → MessageType
-messageOf (OPEN name format) = Open
-messageOf (READY count) = Ready
-messageOf (DATA type-data ask body) = Data
-messageOf (NOOP type-data ask) = Noop
-messageOf (CLOSE code) = Close
-
--- "OPEN has type-data 0."
-abbrev pub typeDataOf : Call → ℕ
-typeDataOf (OPEN name format) = 0
-typeDataOf (READY count) = count
-typeDataOf (DATA type-data ask body) = type-data
-typeDataOf (NOOP type-data ask) = type-data
-typeDataOf (CLOSE code) = code
-
--- "DATA takes .. an ask for confirmation; NOOP takes .. the ask."
-abbrev pub askOf : Call → Bool
-askOf (OPEN name format) = false
-askOf (READY count) = false
-askOf (DATA type-data ask body) = ask
-askOf (NOOP type-data ask) = ask
-askOf (CLOSE code) = false
-
--- "Flags are 1 with an ask and else 0"
-abbrev pub flagsFor : Bool → ℕ
-flagsFor ask = cond ask ackRequest 0
-
--- the data frames: OPEN's, and the body; "CLOSE has no data frame."
-abbrev pub dataFrames : Endpoint → Call → List (List ℕ)
-dataFrames e (OPEN name format) = frameFor (e .flow) name format (e .limit) ∷ []
-dataFrames e (READY count) = []
-dataFrames e (DATA type-data ask body) = body ∷ []
-dataFrames e (NOOP type-data ask) = []
-dataFrames e (CLOSE code) = []
-
--- 33: "own DATA message above limit"
-abbrev pub aboveLimit : Endpoint → Call → Bool
-aboveLimit e (OPEN name format) = false
-aboveLimit e (READY count) = false
-aboveLimit e (DATA type-data ask body) = ltb (e .limit) (8 + length body)
-aboveLimit e (NOOP type-data ask) = false
-aboveLimit e (CLOSE code) = false
+-- 33: "own DATA message above limit"; its size is 8 more than its body's
+unfoldable pub aboveLimit : Endpoint → Datum → Bool
+aboveLimit e datum = ltb (e .limit) (8 + length (datum .body))
 
 -- 34: "bad name, format, .. given"
-abbrev pub misgiven : Call → Bool
-misgiven (OPEN name format) = not (isGood name format)
-misgiven (READY count) = false
-misgiven (DATA type-data ask body) = false
-misgiven (NOOP type-data ask) = false
-misgiven (CLOSE code) = false
+unfoldable pub misgiven : Offer → Bool
+misgiven pipe = not (isGood pipe)
 
 -- "Codes: 0..6 always; 100..103 only by a server in phase 1."
 unfoldable pub goodCode : Endpoint → ℕ → Bool
 goodCode e code = leb code 6 || ((leb 100 code && leb code 103) && (eqb (e .role) server && eqb (e .phase) opening))
 
 -- 35: "bad CLOSE code"
-abbrev pub miscoded : Endpoint → Call → Bool
-miscoded e (OPEN name format) = false
-miscoded e (READY count) = false
-miscoded e (DATA type-data ask body) = false
-miscoded e (NOOP type-data ask) = false
-miscoded e (CLOSE code) = not (goodCode e code)
+unfoldable pub miscoded : Endpoint → ℕ → Bool
+miscoded e code = not (goodCode e code)
+
+-- the number of a test where it applies, and 0 where it does not
+unfoldable pub numberIf : Bool → ℕ → ℕ
+numberIf applies number = cond applies number 0
+
+-- what a call sends: its type, type-data and ask, and from which endpoint which data frames; and its own test there: which of 33, 34 and 35
+-- refuses it, or 0. Each of these three numbers is of one call alone.
+pub record Sends : Type 0 where
+  pub message : MessageType
+  pub type-data : ℕ
+  pub ask : Bool
+  pub frames : Endpoint → List (List ℕ)
+  pub own : Endpoint → ℕ
+
+abbrev pub sends : MessageType → ℕ → Bool → (Endpoint → List (List ℕ)) → (Endpoint → ℕ) → Sends
+sends message type-data ask frames own = record { message = message; type-data = type-data; ask = ask; frames = frames; own = own }
+
+-- a row for each call: "OPEN has type-data 0."; "CLOSE has no data frame."
+abbrev pub sendsOf : Call → Sends
+sendsOf (OPEN pipe) = sends Open 0 false (λ e. frameFor (e .flow) pipe (e .limit) ∷ []) (λ e. numberIf (misgiven pipe) 34)
+sendsOf (READY count) = sends Ready count false (λ e. []) (λ e. 0)
+sendsOf (DATA datum) = sends Data (datum .type-data) (datum .ask) (λ e. datum .body ∷ []) (λ e. numberIf (aboveLimit e datum) 33)
+sendsOf (NOOP type-data ask) = sends Noop type-data ask (λ e. []) (λ e. 0)
+sendsOf (CLOSE code) = sends Close code false (λ e. []) (λ e. numberIf (miscoded e code) 35)
+
+-- its columns
+abbrev pub messageOf : Call → MessageType
+messageOf call = sendsOf call .message
+
+abbrev pub typeDataOf : Call → ℕ
+typeDataOf call = sendsOf call .type-data
+
+abbrev pub askOf : Call → Bool
+askOf call = sendsOf call .ask
+
+abbrev pub dataFrames : Endpoint → Call → List (List ℕ)
+dataFrames e call = sendsOf call .frames e
+
+abbrev pub ownNumber : Endpoint → Call → ℕ
+ownNumber e call = sendsOf call .own e
+
+-- "Flags are 1 with an ask and else 0"
+abbrev pub flagsFor : Bool → ℕ
+flagsFor ask = cond ask ackRequest 0
 
 -- the bundle of a control frame and data frames
 unfoldable pub bundleWith : MessageType → Bool → ℕ → List (List ℕ) → List ℕ
@@ -105,8 +111,6 @@ outgoing e call =
       message = messageOf call;
       «type_data» = typeDataOf call;
       ask = askOf call;
-      large = aboveLimit e call;
-      misgiven = misgiven call;
-      miscoded = miscoded e call;
+      own = ownNumber e call;
       length = length (written e call);
     }

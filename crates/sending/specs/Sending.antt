@@ -25,7 +25,7 @@ sendRow e o = rowOf (e .role) (e .flow) (e .phase) (e .n) (o .message) (o .«typ
 unfoldable pub isFull : Endpoint → Outgoing → Bool
 isFull e o = o .ask && leb capacity (e .w)
 
--- "1, 3, 30, 31, 32, 33, 34, 35, 2": the first that applies, or 0
+-- "1, 3, 30, 31, 32, 33, 34, 35, 2": the first that applies, or 0; a call has at most one of 33, 34 and 35, its own
 unfoldable pub numberFor : Endpoint → Outgoing → Row → ℕ → ℕ
 numberFor e o row room =
     cond (not (good e)) 1
@@ -33,11 +33,9 @@ numberFor e o row room =
     (cond (notAllowed row) (sendNumber NotAllowed)
     (cond (aboveOffer row) (sendNumber AboveOffer)
     (cond (isFull e o) 32
-    (cond (o .large) 33
-    (cond (o .misgiven) 34
-    (cond (o .miscoded) 35
+    (cond (not (eqb (o .own) 0)) (o .own)
     (cond (ltb room (o .length)) 2
-    0))))))))
+    0))))))
 
 -- "An ask adds an entry."
 unfoldable pub askedBy : Endpoint → Outgoing → Endpoint

@@ -2,8 +2,9 @@
 ghost use mathlib.Core.Path.{_≡_};
 ghost use mathlib.Core.List.{[]};
 ghost use Rattle.control.specs.Frame.{bytesOf};
-ghost use Rattle.sending.specs.Calls.{OPEN, READY, DATA, NOOP, CLOSE, flagsFor, goodCode as Calls·goodCode, bundleWith};
-ghost use Rattle.sending.specs.Held.{plain, frameLength};
+ghost use Rattle.open.specs.Offer.{offerOf};
+ghost use Rattle.sending.specs.Calls.{datumOf, OPEN, READY, DATA, NOOP, CLOSE, miscoded, numberIf, flagsFor, bundleWith};
+ghost use Rattle.sending.specs.Held.{plain, frameSize};
 ghost use Rattle.sending.specs.Sending.{sendRow, isFull, numberFor, askedBy, sentIf, sentBy, Answered, SendAnswer};
 use control::MessageType;
 use endpoint::Endpoint;
@@ -11,16 +12,21 @@ use endpoint::Entry;
 use open_write::Given;
 use table::Row;
 
+// What a send of DATA is told beside the body.
+pub struct Report {
+    pub type_data: u16,
+    // Whether it asks for a confirmation.
+    pub ask: bool,
+}
+
 // What is to be tested of an own message.
 pub struct Outgoing {
     pub message: MessageType,
     pub type_data: u16,
     // Whether it asks for a confirmation.
     pub ask: bool,
-    // Whether 33, 34 or 35 refuses it.
-    pub large: bool,
-    pub misgiven: bool,
-    pub miscoded: bool,
+    // Which of 33, 34 and 35 refuses it, or 0.
+    pub own: u8,
     // How many bytes its bundle has.
     pub length: usize,
 }
@@ -60,14 +66,8 @@ fn number_for(e: Endpoint, o: Outgoing, row: Row, room: usize) -> u8
     if is_full(e, o) {
         return 32;
     }
-    if o.large {
-        return 33;
-    }
-    if o.misgiven {
-        return 34;
-    }
-    if o.miscoded {
-        return 35;
+    if o.own != 0 {
+        return o.own;
     }
     if room < o.length {
         return 2;
@@ -114,11 +114,21 @@ fn sent_if(number: u8, e: Endpoint, o: Outgoing, row: Row) -> Sent
 }
 
 // What comes of an own message where the output has so much room, before anything is written.
-fn decide(e: Endpoint, o: Outgoing, room: usize) -> Sent
+pub fn decide(e: Endpoint, o: Outgoing, room: usize) -> Sent
     ensures { λ r. ⌜ r ≡ sentBy e o room ⌝ }
 {
     let row = send_row(e, o);
     sent_if(number_for(e, o, row, room), e, o, row)
+}
+
+// The number of a test where it applies, else 0.
+fn number_if(applies: bool, number: u8) -> u8
+    ensures { λ r. ⌜ r ≡ numberIf applies number ⌝ }
+{
+    if applies {
+        return number;
+    }
+    0
 }
 
 fn flags_for(ask: bool) -> u8
@@ -142,18 +152,16 @@ fn send_plain(
     message: MessageType,
     type_data: u16,
     ask: bool,
-    miscoded: bool,
+    own: u8,
     out: &mut [u8],
 ) -> Sent
-    ensures { λ r. ⌜ Answered e (plain message «type_data» ask miscoded) (bundleWith message ask «type_data» []) (now (out .entry)) r (now (out .exit)) ⌝ }
+    ensures { λ r. ⌜ Answered e (plain message «type_data» ask own) (bundleWith message ask «type_data» []) (now (out .entry)) r (now (out .exit)) ⌝ }
 {
     let o = Outgoing {
         message: message,
         type_data: type_data,
         ask: ask,
-        large: false,
-        misgiven: false,
-        miscoded: miscoded,
+        own: own,
         length: 14,
     };
     let sent = decide(e, o, out.len());
@@ -167,72 +175,71 @@ fn send_plain(
 pub fn send_ready(e: Endpoint, count: u16, out: &mut [u8]) -> Sent
     ensures { λ r. ⌜ SendAnswer e (READY count) (now (out .entry)) r (now (out .exit)) ⌝ }
 {
-    send_plain(e, MessageType::Ready, count, false, false, out)
+    send_plain(e, MessageType::Ready, count, false, 0, out)
 }
 
 // Sends NOOP, with an ask for confirmation or without.
 pub fn send_noop(e: Endpoint, type_data: u16, ask: bool, out: &mut [u8]) -> Sent
     ensures { λ r. ⌜ SendAnswer e (NOOP «type_data» ask) (now (out .entry)) r (now (out .exit)) ⌝ }
 {
-    send_plain(e, MessageType::Noop, type_data, ask, false, out)
+    send_plain(e, MessageType::Noop, type_data, ask, 0, out)
 }
 
-fn good_code(e: Endpoint, code: u16) -> bool
-    ensures { λ r. ⌜ r ≡ Calls·goodCode e code ⌝ }
+fn is_miscoded(e: Endpoint, code: u16) -> bool
+    ensures { λ r. ⌜ r ≡ miscoded e code ⌝ }
 {
-    (code <= 6) | (((100 <= code) & (code <= 103)) & ((e.role == 2) & (e.phase == 1)))
+    !((code <= 6) | (((100 <= code) & (code <= 103)) & ((e.role == 2) & (e.phase == 1))))
 }
 
 // Sends CLOSE with this code.
 pub fn send_close(e: Endpoint, code: u16, out: &mut [u8]) -> Sent
     ensures { λ r. ⌜ SendAnswer e (CLOSE code) (now (out .entry)) r (now (out .exit)) ⌝ }
 {
-    send_plain(e, MessageType::Close, code, false, !good_code(e, code), out)
+    let own = number_if(is_miscoded(e, code), 35);
+    send_plain(e, MessageType::Close, code, false, own, out)
 }
 
-// Sends DATA with this body, which is copied once, and with an ask for confirmation or without.
-pub fn send_data(e: Endpoint, type_data: u16, ask: bool, body: &[u8], out: &mut [u8]) -> Sent
-    ensures { λ r. ⌜ SendAnswer e (DATA «type_data» ask (now (body .entry))) (now (out .entry)) r (now (out .exit)) ⌝ }
+// Sends DATA with this body, which is copied once.
+pub fn send_data(e: Endpoint, report: Report, body: &[u8], out: &mut [u8]) -> Sent
+    ensures { λ r. ⌜ SendAnswer e (DATA (datumOf report (now (body .entry)))) (now (out .entry)) r (now (out .exit)) ⌝ }
 {
+    let large = (e.limit as usize) < 8 + body.len();
     let o = Outgoing {
         message: MessageType::Data,
-        type_data: type_data,
-        ask: ask,
-        large: (e.limit as usize) < 8 + body.len(),
-        misgiven: false,
-        miscoded: false,
+        type_data: report.type_data,
+        ask: report.ask,
+        own: number_if(large, 33),
         length: 18 + body.len(),
     };
     let sent = decide(e, o, out.len());
     if sent.number == 0 {
-        bundle::write_two(out, control_frame(MessageType::Data, ask, type_data), body);
+        let frame = control_frame(MessageType::Data, report.ask, report.type_data);
+        bundle::write_two(out, frame, body);
     }
     sent
 }
 
 // How many bytes the frame of an OPEN has; 0 where 34 refuses it.
-fn frame_length(given: Given) -> usize
-    ensures { λ r. ⌜ r ≡ frameLength given ⌝ }
+fn frame_size(given: Given) -> usize
+    ensures { λ r. ⌜ r ≡ frameSize given ⌝ }
 {
     match given {
-        Given::Good(length) => length,
+        Given::Good(size) => size,
         Given::Bad => 0,
     }
 }
 
 // Sends OPEN for this pipe name and this format.
 pub fn send_open(e: Endpoint, name: &[u8], format: &[u8], out: &mut [u8]) -> Sent
-    ensures { λ r. ⌜ SendAnswer e (OPEN (now (name .entry)) (now (format .entry))) (now (out .entry)) r (now (out .exit)) ⌝ }
+    ensures { λ r. ⌜ SendAnswer e (OPEN (offerOf (now (name .entry)) (now (format .entry)))) (now (out .entry)) r (now (out .exit)) ⌝ }
 {
     let given = open_write::given_of(e.flow, name, format, e.limit);
-    let frame = frame_length(given);
+    let frame = frame_size(given);
     let o = Outgoing {
         message: MessageType::Open,
         type_data: 0,
         ask: false,
-        large: false,
-        misgiven: open_write::given_number(given) != 0,
-        miscoded: false,
+        own: open_write::given_number(given),
         length: 18 + frame,
     };
     let sent = decide(e, o, out.len());

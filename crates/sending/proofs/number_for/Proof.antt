@@ -62,23 +62,15 @@ returns-5 c = simp (sound (c .before .before .before .before .before .before .be
 
 returns-6 : tie.Need-returns-6
 unfolding numberFor
-returns-6 c = simp (sound (c .before .before .before .before .before .before .before .before .before), open-still (c .before .before .before .before .before .before .before), permitted (c .before .before .before .before .before), within (c .before .before .before), roomy (c .before), c .if6 .taken)
+returns-6 c = simp (sound (c .before .before .before .before .before .before .before .before .before .before), open-still (c .before .before .before .before .before .before .before .before), permitted (c .before .before .before .before .before .before), within (c .before .before .before .before), roomy (c .before .before), ne-eqb _ _ (c .if6 .taken))
 
 returns-7 : tie.Need-returns-7
 unfolding numberFor
-returns-7 c = simp (sound (c .before .before .before .before .before .before .before .before .before .before), open-still (c .before .before .before .before .before .before .before .before), permitted (c .before .before .before .before .before .before), within (c .before .before .before .before), roomy (c .before .before), c .before .if6 .left, c .if7 .taken)
+returns-7 c = simp (sound (c .before .before .before .before .before .before .before .before .before .before .before .before), open-still (c .before .before .before .before .before .before .before .before .before .before), permitted (c .before .before .before .before .before .before .before .before), within (c .before .before .before .before .before .before), roomy (c .before .before .before .before), eq-eqb _ _ (c .before .before .if6 .left), lt-ltb _ _ (c .if7 .taken))
 
 returns-8 : tie.Need-returns-8
 unfolding numberFor
-returns-8 c = simp (sound (c .before .before .before .before .before .before .before .before .before .before .before), open-still (c .before .before .before .before .before .before .before .before .before), permitted (c .before .before .before .before .before .before .before), within (c .before .before .before .before .before), roomy (c .before .before .before), c .before .before .if6 .left, c .before .if7 .left, c .if8 .taken)
-
-returns-9 : tie.Need-returns-9
-unfolding numberFor
-returns-9 c = simp (sound (c .before .before .before .before .before .before .before .before .before .before .before .before .before), open-still (c .before .before .before .before .before .before .before .before .before .before .before), permitted (c .before .before .before .before .before .before .before .before .before), within (c .before .before .before .before .before .before .before), roomy (c .before .before .before .before .before), c .before .before .before .before .if6 .left, c .before .before .before .if7 .left, c .before .before .if8 .left, lt-ltb _ _ (c .if9 .taken))
-
-returns-10 : tie.Need-returns-10
-unfolding numberFor
-returns-10 c = simp (sound (c .before .before .before .before .before .before .before .before .before .before .before .before .before), open-still (c .before .before .before .before .before .before .before .before .before .before .before), permitted (c .before .before .before .before .before .before .before .before .before), within (c .before .before .before .before .before .before .before), roomy (c .before .before .before .before .before), c .before .before .before .before .if6 .left, c .before .before .before .if7 .left, c .before .before .if8 .left, le-ltb _ _ (c .if9 .left))
+returns-8 c = simp (sound (c .before .before .before .before .before .before .before .before .before .before .before .before), open-still (c .before .before .before .before .before .before .before .before .before .before), permitted (c .before .before .before .before .before .before .before .before), within (c .before .before .before .before .before .before), roomy (c .before .before .before .before), eq-eqb _ _ (c .before .before .if6 .left), le-ltb _ _ (c .if7 .left))
 
 pub number-for-spec : {M : Type 1} → statement M
 number-for-spec =
@@ -95,6 +87,4 @@ number-for-spec =
     returns-5
     returns-6
     returns-7
-    returns-8
-    returns-9
-    returns-10)
+    returns-8)

@@ -17,11 +17,11 @@ use Rattle.sending.proofs.send_plain.Statement.{statement}
 use Rattle.sending.proofs.send_plain.Tie as tie
 
 -- what was decided is of the message that is sent
-is-decided : (c : tie.After-decide) → c .decide .result ≡ sentBy (c .before .before .args .e) (plain (c .before .before .args .message) (c .before .before .args .type-data) (c .before .before .args .ask) (c .before .before .args .miscoded)) (length (c .before .before .args .out .now))
+is-decided : (c : tie.After-decide) → c .decide .result ≡ sentBy (c .before .before .args .e) (plain (c .before .before .args .message) (c .before .before .args .type-data) (c .before .before .args .ask) (c .before .before .args .own)) (length (c .before .before .args .out .now))
 is-decided c =
     let a = c .before .before .args in
     c .decide .ensures
-    ∙ ap (λ (size : ℕ). sentBy (a .e) (longer (plain (a .message) (a .type-data) (a .ask) (a .miscoded)) size) (length (a .out .now))) (sym (plain-long (a .message) (a .ask) (a .type-data)))
+    ∙ ap (λ (size : ℕ). sentBy (a .e) (longer (plain (a .message) (a .type-data) (a .ask) (a .own)) size) (length (a .out .now))) (sym (plain-long (a .message) (a .ask) (a .type-data)))
 
 decide-requires : tie.Need-decide-requires
 decide-requires c κs = search needs
@@ -43,12 +43,12 @@ returns c =
     let eight : length frame ≡ 8 = ap length (c .before .before .before .control-frame .ensures) ∙ length-control (a .message) (flagsFor (a .ask)) (a .type-data) in
     let put = left-put (frame ∷ []) (a .out .now) (one-made frame eight (a .out .now)) (c .before .before .write-one .ensures) in
     let said = ap (λ (f : List ℕ). putAt (a .out .now) 0 (bundleOf (f ∷ []))) (c .before .before .before .control-frame .ensures) in
-    wrote-bytes (a .e) (plain (a .message) (a .type-data) (a .ask) (a .miscoded)) _ (a .out .now) (c .before .before .before .before .before .before .before .decide .result) (is-decided (c .before .before .before .before .before .before .before)) _ (c .before .before .before .before .before .if1 .taken) (put ∙ said)
+    wrote-bytes (a .e) (plain (a .message) (a .type-data) (a .ask) (a .own)) _ (a .out .now) (c .before .before .before .before .before .before .before .decide .result) (is-decided (c .before .before .before .before .before .before .before)) _ (c .before .before .before .before .before .if1 .taken) (put ∙ said)
 
 returns-2 : tie.Need-returns-2
 returns-2 c =
     let a = c .before .before .before .before .args in
-    wrote-nothing (a .e) (plain (a .message) (a .type-data) (a .ask) (a .miscoded)) _ (a .out .now) (c .before .before .decide .result) (is-decided (c .before .before)) (c .if1 .left)
+    wrote-nothing (a .e) (plain (a .message) (a .type-data) (a .ask) (a .own)) _ (a .out .now) (c .before .before .decide .result) (is-decided (c .before .before)) (c .if1 .left)
 
 pub send-plain-spec : {M : Type 1} → statement M
 send-plain-spec =
