@@ -1,5 +1,5 @@
--- "Receiving": "Checks run in the order of the numbers .. and the first that applies is given." What an endpoint that offers a pipe name and
--- a format makes of a message.
+-- "Receiving": "Checks run in the order of the numbers .. and the first that applies is given." What an endpoint with an offer makes of a
+-- message.
 use Prim.Native.Nat.{ℕ, _+_}
 use mathlib.Core.List.{List}
 use mathlib.Core.Bool.{Bool, true, false, cond, not, _&&_, _||_}
@@ -9,6 +9,7 @@ use Rattle.control.specs.declared.MessageType.{MessageType}
 use Rattle.control.specs.declared.MessageType.the-variants.{Open, Ready, Noop, Data, Close}
 use Rattle.control.specs.Frame.{ackRequest, ackReply, typeOf}
 use Rattle.terms.specs.Announced.{announcedLimit}
+use Rattle.open.specs.Offer.{Offer}
 use Rattle.open.specs.declared.Open.{Open as OpenFrame}
 use Rattle.open.specs.declared.Open.the-variants.{Heard as OpenFrame·Heard, Refused as OpenFrame·Refused}
 use Rattle.open.specs.Open.{heardBy, openNumber}
@@ -59,13 +60,17 @@ unfoldable pub hearRow : Endpoint → Message → Row
 hearRow e m =
     rowOf (other (e .role)) (other (e .flow)) (e .phase) (e .n) (movesAs (m .message) (m .flags)) (m .«type_data»)
 
+-- 17: "role, flow or phase doesn't allow it"
+unfoldable pub forbidden : Endpoint → Message → Bool
+forbidden e m = notAllowed (hearRow e m)
+
 -- 16: "size above limit, or OPEN frame above 4,096"; never asked of a CLOSE
 abbrev pub largeBy : MessageType → Bool → ℕ → Bool
-largeBy Open above length = above || ltb 4096 length
-largeBy Ready above length = above
-largeBy Noop above length = above
-largeBy Data above length = above
-largeBy Close above length = false
+largeBy Open above frame = above || ltb 4096 frame
+largeBy Ready above frame = above
+largeBy Noop above frame = above
+largeBy Data above frame = above
+largeBy Close above frame = false
 
 unfoldable pub tooLarge : Endpoint → Message → Bool
 tooLarge e m = largeBy (m .message) (ltb (e .limit) (m .size)) (bodyPlace (m .body) .length)
@@ -81,8 +86,8 @@ bodyCarried Body·Nothing = Carried·Content Nothing
 bodyCarried (At place) = Carried·Content (Content·Body place)
 
 -- what the OPEN frame at a place says to this endpoint
-unfoldable pub openAt : Endpoint → List ℕ → List ℕ → List ℕ → Place → Carried
-openAt e s name format place = openCarried (heardBy s (place .at) (place .at + place .length) (e .flow) name format)
+unfoldable pub openAt : Endpoint → List ℕ → Offer → Place → Carried
+openAt e s pipe place = openCarried (heardBy s (place .at) (place .at + place .length) (e .flow) pipe)
 
 -- only OPEN is read inside
 abbrev pub carriedAs : MessageType → Carried → Carried → Carried
@@ -93,8 +98,8 @@ carriedAs Data frame body = body
 carriedAs Close frame body = body
 
 -- what the message carries beside type, flags and type-data
-unfoldable pub carriedBy : Endpoint → List ℕ → List ℕ → List ℕ → Message → Carried
-carriedBy e s name format m = carriedAs (m .message) (openAt e s name format (bodyPlace (m .body))) (bodyCarried (m .body))
+unfoldable pub carriedBy : Endpoint → List ℕ → Offer → Message → Carried
+carriedBy e s pipe m = carriedAs (m .message) (openAt e s pipe (bodyPlace (m .body))) (bodyCarried (m .body))
 
 -- "ACK-REPLY must equal the oldest entry in type and type-data"
 unfoldable pub matchesOldest : Endpoint → MessageType → ℕ → Bool
@@ -151,23 +156,23 @@ abbrev pub ifRead : Reading → (ℕ → ℕ → Received) → (Message → Rece
 ifRead (Read m) refuse next = next m
 ifRead (Reading·Refused refusal) refuse next = refuse (readingNumber (Reading·Refused refusal)) (saidIn (Reading·Refused refusal))
 
--- 23, 24, and else the message is heard
-unfoldable pub hearContent : Endpoint → Message → Row → Content → Received
-hearContent e m row content =
-    cond (aboveOffer row) (refused e (hearNumber AboveOffer) (typeOf (m .message)))
+-- 18 to 22, 23, 24, and else the message is heard
+unfoldable pub hearContent : Endpoint → List ℕ → Offer → Message → Received
+hearContent e s pipe m =
+    ifCarried (carriedBy e s pipe m) (λ number. refused e number (typeOf (m .message))) (λ content.
+    cond (aboveOffer (hearRow e m)) (refused e (hearNumber AboveOffer) (typeOf (m .message)))
     (cond (unmatched e m) (refused e 24 (typeOf (m .message)))
-    (accepted e m row content))
+    (accepted e m (hearRow e m) content)))
 
--- 16, 17, 18 to 22
-unfoldable pub hearMessage : Endpoint → List ℕ → List ℕ → List ℕ → Message → Received
-hearMessage e s name format m =
+-- 16, 17
+unfoldable pub hearMessage : Endpoint → List ℕ → Offer → Message → Received
+hearMessage e s pipe m =
     cond (tooLarge e m) (refused e 16 (typeOf (m .message)))
-    (cond (notAllowed (hearRow e m)) (refused e (hearNumber NotAllowed) (typeOf (m .message)))
-    (ifCarried (carriedBy e s name format m) (λ number. refused e number (typeOf (m .message)))
-    (hearContent e m (hearRow e m))))
+    (cond (forbidden e m) (refused e (hearNumber NotAllowed) (typeOf (m .message)))
+    (hearContent e s pipe m))
 
 -- 3, 10 to 15
-unfoldable pub hearOf : Endpoint → List ℕ → List ℕ → List ℕ → Received
-hearOf e s name format =
+unfoldable pub hearOf : Endpoint → List ℕ → Offer → Received
+hearOf e s pipe =
     cond (eqb (e .phase) shut) (unchanged e 3)
-    (ifRead (readingOf s) (refused e) (hearMessage e s name format))
+    (ifRead (readingOf s) (refused e) (hearMessage e s pipe))

@@ -2,6 +2,7 @@
 ghost use mathlib.Core.Path.{_≡_};
 ghost use Prim.Native.Nat.{_+_, _≤_};
 ghost use lib.ListN.{length};
+ghost use Rattle.open.specs.Offer.{offerOf};
 ghost use Rattle.message.specs.Reading.{bodyPlace};
 ghost use Rattle.receiving.specs.Refusing.{versionCode, closeCode, silent, refused, unchanged};
 ghost use Rattle.receiving.specs.Hearing.{confirmable, confirms as Hearing·confirms, asks as Hearing·asks, movesAs, hearRow, tooLarge, openCarried, bodyCarried, openAt, carriedBy, carriedNumber, matchesOldest, unmatched, confirmedBy, limitedBy, replyTo, accepted, hearContent, hearMessage, hearOf};
@@ -34,10 +35,13 @@ pub struct Heard {
     pub content: Content,
 }
 
+// What a receive makes of a message, and by which number of 01 it refuses it.
 pub enum Answer {
     Heard(Heard),
-    // The number of 01.
-    Refused(u8),
+    // Nothing changes, and nothing is replied.
+    Stays(u8),
+    // The endpoint closes, and says so by a CLOSE unless it has to be silent.
+    Closes(u8),
 }
 
 pub enum Reply {
@@ -78,16 +82,22 @@ fn close_code(e: Endpoint, number: u8, said: u8) -> u16
     ensures { λ r. ⌜ r ≡ closeCode e number said ⌝ }
 {
     match number {
+        10 => 1,
+        11 => 1,
         12 => version_code(e, said),
+        13 => 1,
+        14 => 1,
+        15 => 1,
         16 => 2,
         17 => 2,
+        18 => 1,
         19 => 2,
         20 => 102,
         21 => 100,
         22 => 103,
         23 => 2,
         24 => 2,
-        _ => 1,
+        _ => 0,
     }
 }
 
@@ -106,13 +116,13 @@ fn refuse(e: Endpoint, number: u8, said: u8) -> Received
     let next = endpoint::closed(e);
     if silent {
         return Received {
-            answer: Answer::Refused(number),
+            answer: Answer::Closes(number),
             next: next,
             reply: Reply::Nothing,
         };
     }
     Received {
-        answer: Answer::Refused(number),
+        answer: Answer::Closes(number),
         next: next,
         reply: Reply::Frame {
             message: MessageType::Close,
@@ -127,7 +137,7 @@ fn stay(e: Endpoint, number: u8) -> Received
     ensures { λ r. ⌜ r ≡ unchanged e number ⌝ }
 {
     Received {
-        answer: Answer::Refused(number),
+        answer: Answer::Stays(number),
         next: e,
         reply: Reply::Nothing,
     }
@@ -219,7 +229,7 @@ fn body_carried(body: Body) -> Carried
 // What the OPEN frame at a place of the message says to this endpoint.
 fn open_at(e: Endpoint, s: &[u8], name: &[u8], format: &[u8], place: Place) -> Carried
     requires { ⌜ place .at + place .length ≤ length (now s) ⌝ }
-    ensures { λ r. ⌜ r ≡ openAt e (now (s .entry)) (now (name .entry)) (now (format .entry)) place ⌝ }
+    ensures { λ r. ⌜ r ≡ openAt e (now (s .entry)) (offerOf (now (name .entry)) (now (format .entry))) place ⌝ }
 {
     open_carried(open::hear(s, place.at, place.at + place.length, e.flow, name, format))
 }
@@ -227,7 +237,7 @@ fn open_at(e: Endpoint, s: &[u8], name: &[u8], format: &[u8], place: Place) -> C
 // What a message carries.
 fn carried_by(e: Endpoint, s: &[u8], name: &[u8], format: &[u8], m: Message) -> Carried
     requires { ⌜ bodyPlace (m .body) .at + bodyPlace (m .body) .length ≤ length (now s) ⌝ }
-    ensures { λ r. ⌜ r ≡ carriedBy e (now (s .entry)) (now (name .entry)) (now (format .entry)) m ⌝ }
+    ensures { λ r. ⌜ r ≡ carriedBy e (now (s .entry)) (offerOf (now (name .entry)) (now (format .entry))) m ⌝ }
 {
     let message = m.message;
     let body = m.body;
@@ -324,12 +334,25 @@ fn accept(e: Endpoint, m: Message, row: Row, content: Content) -> Received
     }
 }
 
-// 23, 24, and else the message is heard.
-fn hear_content(e: Endpoint, m: Message, row: Row, content: Content) -> Received
-    ensures { λ r. ⌜ r ≡ hearContent e m row content ⌝ }
+// 18 to 22 by what the message carries, 23, 24, and else it is heard; `row` is what the table says of it.
+fn hear_content(
+    e: Endpoint,
+    s: &[u8],
+    name: &[u8],
+    format: &[u8],
+    m: Message,
+    row: Row,
+) -> Received
+    requires inside { ⌜ bodyPlace (m .body) .at + bodyPlace (m .body) .length ≤ length (now s) ⌝ }
+    requires rowed { ⌜ row ≡ hearRow e m ⌝ }
+    ensures { λ r. ⌜ r ≡ hearContent e (now (s .entry)) (offerOf (now (name .entry)) (now (format .entry))) m ⌝ }
 {
     let message = m.message;
     let said = control::type_of(message);
+    let carried = carried_by(e, s, name, format, m);
+    let Carried::Content(content) = carried else {
+        return refuse(e, carried_number(carried), said);
+    };
     let Test::Passes = message::test_of(table::above_offer(row)) else {
         return refuse(e, 23, said);
     };
@@ -339,10 +362,10 @@ fn hear_content(e: Endpoint, m: Message, row: Row, content: Content) -> Received
     accept(e, m, row, content)
 }
 
-// 16, 17, 18 to 22, and then by what it carries.
+// 16, 17, and then by what it carries.
 fn hear_message(e: Endpoint, s: &[u8], name: &[u8], format: &[u8], m: Message) -> Received
     requires { ⌜ bodyPlace (m .body) .at + bodyPlace (m .body) .length ≤ length (now s) ⌝ }
-    ensures { λ r. ⌜ r ≡ hearMessage e (now (s .entry)) (now (name .entry)) (now (format .entry)) m ⌝ }
+    ensures { λ r. ⌜ r ≡ hearMessage e (now (s .entry)) (offerOf (now (name .entry)) (now (format .entry))) m ⌝ }
 {
     let message = m.message;
     let said = control::type_of(message);
@@ -353,17 +376,13 @@ fn hear_message(e: Endpoint, s: &[u8], name: &[u8], format: &[u8], m: Message) -
     let Test::Passes = message::test_of(table::not_allowed(row)) else {
         return refuse(e, 17, said);
     };
-    let carried = carried_by(e, s, name, format, m);
-    let Carried::Content(content) = carried else {
-        return refuse(e, carried_number(carried), said);
-    };
-    hear_content(e, m, row, content)
+    hear_content(e, s, name, format, m, row)
 }
 
 // What any endpoint that offers this name and this format makes of a message: 3, 10 to 24, or it is heard, with no byte of a body read and
 // nothing written.
 pub fn hear(e: Endpoint, s: &[u8], name: &[u8], format: &[u8]) -> Received
-    ensures { λ r. ⌜ r ≡ hearOf e (now (s .entry)) (now (name .entry)) (now (format .entry)) ⌝ }
+    ensures { λ r. ⌜ r ≡ hearOf e (now (s .entry)) (offerOf (now (name .entry)) (now (format .entry))) ⌝ }
 {
     if e.phase == 5 {
         return stay(e, 3);
@@ -395,7 +414,7 @@ pub fn write_reply(out: &mut [u8], reply: Reply)
 
 // Receives a message: 1, 2, and then what `hear` makes of it, with the reply at the start of the output.
 pub fn receive(e: Endpoint, s: &[u8], name: &[u8], format: &[u8], out: &mut [u8]) -> Received
-    ensures { λ r. ⌜ ReceiveAnswer e (now (s .entry)) (now (name .entry)) (now (format .entry)) (now (out .entry)) r (now (out .exit)) ⌝ }
+    ensures { λ r. ⌜ ReceiveAnswer e (now (s .entry)) (offerOf (now (name .entry)) (now (format .entry))) (now (out .entry)) r (now (out .exit)) ⌝ }
 {
     if !endpoint::good(e) {
         return stay(e, 1);

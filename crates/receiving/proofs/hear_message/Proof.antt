@@ -4,16 +4,16 @@ use mathlib.Core.Path.{_∙_, _≡_, ap, sym}
 use mathlib.Core.Bool.{false}
 use borrow.Author.Needs.{needs}
 use Rattle.message.proofs.Tests.{passed, failed}
-use Rattle.table.specs.declared.Row.{Row}
 use Rattle.table.specs.Table.{notAllowed}
-use Rattle.receiving.specs.Hearing.{carriedNumber, hearMessage, hearRow, tooLarge, hearContent}
+use Rattle.receiving.specs.Hearing.{forbidden, hearMessage, tooLarge}
 use Rattle.receiving.proofs.hear_message.Statement.{statement}
 use Rattle.receiving.proofs.hear_message.Tie as tie
 
 small : (c : tie.After-enum-told) → tooLarge (c .before .before .before .before .before .before .before .before .before .args .e) (c .before .before .before .before .before .before .before .before .before .args .m) ≡ false
 small c = passed (c .before .before .before .too-large .ensures) (c .before .before .test-of .ensures) (c .enum-told .given .1)
 
-permitted : (c : tie.After-enum-told3) → notAllowed (hearRow (c .before .before .before .before .before .before .before .before .before .before .before .before .before .args .e) (c .before .before .before .before .before .before .before .before .before .before .before .before .before .args .m)) ≡ false
+permitted : (c : tie.After-enum-told3) → forbidden (c .before .before .before .before .before .before .before .before .before .before .before .before .before .args .e) (c .before .before .before .before .before .before .before .before .before .before .before .before .before .args .m) ≡ false
+unfolding forbidden
 permitted c =
     passed (c .before .before .before .not-allowed .ensures ∙ ap notAllowed (c .before .before .before .before .before .before .before .before .hear-row .ensures)) (c .before .before .test-of2 .ensures) (c .enum-told3 .given .1)
 
@@ -58,39 +58,15 @@ refuse-requires-2 : tie.Need-refuse-requires-2
 refuse-requires-2 c κs = search needs
 
 returns-2 : tie.Need-returns-2
-unfolding hearMessage
+unfolding hearMessage forbidden
 returns-2 c = simp (small (c .before .before .before .before .before), failed (c .before .before .before .before .not-allowed .ensures ∙ ap notAllowed (c .before .before .before .before .before .before .before .before .before .hear-row .ensures)) (c .before .before .before .test-of2 .ensures) (c .before .enum-told4 .given .1), sym (c .before .before .before .before .before .before .before .before .before .before .type-of .ensures)) (c .refuse2 .ensures)
 
-carried-by-requires : tie.Need-carried-by-requires
-carried-by-requires c κs = search needs
-
-enum-known-carried : tie.Need-enum-known-carried
-enum-known-carried c = search needs
-
-enum-told-5 : tie.Need-enum-told-5
-enum-told-5 c = search needs
-
-carried-number-requires : tie.Need-carried-number-requires
-carried-number-requires c κs = search needs
-
-refuse-requires-3 : tie.Need-refuse-requires-3
-refuse-requires-3 c κs = search needs
+hear-content-requires : tie.Need-hear-content-requires
+hear-content-requires c κs = (c .before .before .before .before .before .before .before .before .before .before .before .before .before .pre, c .before .before .before .before .before .before .before .before .hear-row .ensures)
 
 returns-3 : tie.Need-returns-3
 unfolding hearMessage
-returns-3 c =
-    let stops = c .before .before .enum-told5 .given .1 in
-    simp (small (c .before .before .before .before .before .before .before .before .before), permitted (c .before .before .before .before .before), sym (c .before .before .before .before .carried-by .ensures) ∙ stops, sym (c .before .carried-number .ensures ∙ ap carriedNumber stops), sym (c .before .before .before .before .before .before .before .before .before .before .before .before .before .before .type-of .ensures)) (c .refuse3 .ensures)
-
-hear-content-requires : tie.Need-hear-content-requires
-hear-content-requires c κs = search needs
-
-returns-4 : tie.Need-returns-4
-unfolding hearMessage
-returns-4 c =
-    let a = c .before .before .before .before .before .before .before .before .before .before .before .before .before .before .before .before .before .before .args in
-    let by-row = ap (λ (row : Row). hearContent (a .e) (a .m) row (c .before .before .carried .given .0 .0)) (c .before .before .before .before .before .before .before .before .before .before .before .before .before .hear-row .ensures) in
-    simp (small (c .before .before .before .before .before .before .before .before .before), permitted (c .before .before .before .before .before), sym (c .before .before .before .before .carried-by .ensures) ∙ c .before .before .carried .given .1) (c .hear-content .ensures ∙ by-row)
+returns-3 c = simp (small (c .before .before .before .before .before), permitted (c .before)) (c .hear-content .ensures)
 
 pub hear-message-spec : {M : Type 1} → statement M
 hear-message-spec =
@@ -110,11 +86,5 @@ hear-message-spec =
     enum-told-4
     refuse-requires-2
     returns-2
-    carried-by-requires
-    enum-known-carried
-    enum-told-5
-    carried-number-requires
-    refuse-requires-3
-    returns-3
     hear-content-requires
-    returns-4)
+    returns-3)

@@ -8,6 +8,7 @@ use lib.ListN.{length}
 use borrow.Author.Needs.{needs}
 use borrow.Author.Tests.{le-ltb, lt-ltb}
 use Rattle.bytes_be.proofs.Parts.{put-nothing}
+use Rattle.open.specs.Offer.{Offer, offerOf}
 use Rattle.endpoint.specs.declared.Endpoint.{Endpoint}
 use Rattle.endpoint.specs.Record.{good}
 use Rattle.receiving.specs.declared.Received.{Received}
@@ -17,10 +18,10 @@ use Rattle.receiving.proofs.receive.Statement.{statement}
 use Rattle.receiving.proofs.receive.Tie as tie
 
 -- a refusal that changes nothing writes nothing
-stayed : (e : Endpoint) (s name format out : List ℕ) (number : ℕ) (received : Received) → received ≡ unchanged e number → receivedOf e s name format (length out) ≡ unchanged e number →
-    ReceiveAnswer e s name format out received out
+stayed : (e : Endpoint) (s : List ℕ) (pipe : Offer) (out : List ℕ) (number : ℕ) (received : Received) → received ≡ unchanged e number → receivedOf e s pipe (length out) ≡ unchanged e number →
+    ReceiveAnswer e s pipe out received out
 unfolding unchanged replied
-stayed e s name format out number received given stays =
+stayed e s pipe out number received given stays =
     record { answered = given ∙ sym stays; left = sym (ap (λ (r : Received). replied (r .reply) out) stays ∙ put-nothing out 0) }
 
 sound : (c : tie.Else1) → not (good (c .before .before .before .before .before .before .args .e)) ≡ false
@@ -36,7 +37,7 @@ returns : tie.Need-returns
 unfolding receivedOf
 returns c =
     let a = c .before .before .before .before .before .before .before .args in
-    stayed (a .e) (a .s .now) (a .name .now) (a .format .now) (a .out .now) 1 _ (c .stay .ensures) (simp (sym (c .before .before .good2 .ensures), c .before .if1 .taken))
+    stayed (a .e) (a .s .now) (offerOf (a .name .now) (a .format .now)) (a .out .now) 1 _ (c .stay .ensures) (simp (sym (c .before .before .good2 .ensures), c .before .if1 .taken))
 
 stay-requires-2 : tie.Need-stay-requires-2
 stay-requires-2 c κs = search needs
@@ -45,7 +46,7 @@ returns-2 : tie.Need-returns-2
 unfolding receivedOf
 returns-2 c =
     let a = c .before .before .before .before .before .before .before .before .args in
-    stayed (a .e) (a .s .now) (a .name .now) (a .format .now) (a .out .now) 2 _ (c .stay2 .ensures) (simp (sound (c .before .before), lt-ltb (length (a .out .now)) 14 (c .before .if2 .taken)))
+    stayed (a .e) (a .s .now) (offerOf (a .name .now) (a .format .now)) (a .out .now) 2 _ (c .stay2 .ensures) (simp (sound (c .before .before), lt-ltb (length (a .out .now)) 14 (c .before .if2 .taken)))
 
 hear-requires : tie.Need-hear-requires
 hear-requires c κs = search needs
