@@ -47,7 +47,7 @@ tables-meet =
     record {
       making = λ making block. record { numbered = refl; kept = refl };
       calls = λ call fits block out. record { finished = record { numbered = refl; counted = refl; kept = refl }; left = refl };
-      messages = λ s name format block out. record { numbered = refl; told = refl; kept = refl; left = refl };
+      messages = λ s pipe block out. record { numbered = refl; told = refl; kept = refl; left = refl };
     }
 
 -- a record that is stored in 64 bytes is loaded again
@@ -114,10 +114,10 @@ no-reply (Answer·Heard heard) Nothing out none = refl
 no-reply (Refused number) Nothing out none = refl
 no-reply answer (Frame message flags type-data) out none = clash cc
 
-module _ (s name format block out : List ℕ) (number : ℕ) (slots block′ out′ : List ℕ)
-    (answer : ReceiveOnBlock s name format block out number slots block′ out′) where
+module _ (s pipe block out : List ℕ) (number : ℕ) (slots block′ out′ : List ℕ)
+    (answer : ReceiveOnBlock s pipe block out number slots block′ out′) where
   abbrev heard : Received
-  heard = receivedOf (loadOf block) s name format (length out)
+  heard = receivedOf (loadOf block) s pipe (length out)
 
   abbrev outcome : ReceiveOutcome (List ℕ)
   outcome = receiveTold s (record { number = number; slots = slots; block = block′; out = out′ })
@@ -127,7 +127,7 @@ module _ (s name format block out : List ℕ) (number : ℕ) (slots block′ out
 
   received-alike : 14 ≤ length out → Sound (loadOf block) → Sound (heard .next) → Alike loadOf outcome (outcomeOf s heard)
   received-alike room sound next-sound =
-      let comes = receive-comes-to (loadOf block) s name format (length out) in
+      let comes = receive-comes-to (loadOf block) s pipe (length out) in
       record {
         number = answer .numbered;
         told = received-told;
@@ -181,10 +181,10 @@ module _ (entries : Entries) (meets : Meets entries) where
             let answer = meets .calls call fits block out in
             (bytes-out block call out _ _ _ _ answer accepts, sent-back block call out _ _ _ _ answer accepts sound next-sound);
         stays = λ block call out sound fits refusal. refused-kept block call out _ _ _ _ (meets .calls call fits block out) refusal;
-        receives = λ block m name format out sound room next-sound.
-            received-alike (m .bytes) name format block out _ _ _ _ (meets .messages (m .bytes) name format block out) room sound next-sound;
-        ignores = λ block m name format out k among same.
-            received-ignored (m .bytes) name format block out _ _ _ _ (meets .messages (m .bytes) name format block out) k among same;
+        receives = λ block m pipe out sound room next-sound.
+            received-alike (m .bytes) pipe block out _ _ _ _ (meets .messages (m .bytes) pipe block out) room sound next-sound;
+        ignores = λ block m pipe out k among same.
+            received-ignored (m .bytes) pipe block out _ _ _ _ (meets .messages (m .bytes) pipe block out) k among same;
       }
 
 -- so they have the laws, and demand 3 holds of them

@@ -49,10 +49,10 @@ pub record Meets (entries : Entries) : Type 0 where
   pub calls : (call : Call) → Fits call → (block out : List ℕ)
       → SendOnBlock call block out (entries .sends call block out .number) (entries .sends call block out .count)
       (entries .sends call block out .block) (entries .sends call block out .out)
-  pub messages : (s name format block out : List ℕ)
-      → ReceiveOnBlock s name format block out (entries .receives s name format block out .number)
-      (entries .receives s name format block out .slots) (entries .receives s name format block out .block)
-      (entries .receives s name format block out .out)
+  pub messages : (s pipe block out : List ℕ)
+      → ReceiveOnBlock s pipe block out (entries .receives s pipe block out .number)
+      (entries .receives s pipe block out .slots) (entries .receives s pipe block out .block)
+      (entries .receives s pipe block out .out)
 
 -- what the tables make of a making, a call and a message
 abbrev pub makeResult : Endpoint → List ℕ → MakeOutcome (List ℕ)
@@ -86,7 +86,7 @@ byTables =
     record {
       makes = λ making block. makeResult (freshBy making) block;
       sends = λ call block out. sendResult (sentOn block call (length out)) call block out;
-      receives = λ s name format block out. receiveResult (receivedOn block s name format (length out)) block out;
+      receives = λ s pipe block out. receiveResult (receivedOn block s pipe (length out)) block out;
     }
 
 -- they meet the contracts
@@ -130,7 +130,7 @@ onBlocks entries =
       room = length;
       make = λ block making. entries .makes making block;
       send = λ block call out. sendTold (entries .sends call block out);
-      receive = λ block m name format out. receiveTold (m .bytes) (entries .receives (m .bytes) name format block out);
+      receive = λ block m pipe out. receiveTold (m .bytes) (entries .receives (m .bytes) pipe block out);
     }
 
 abbrev pub inBlocks : View (List ℕ)

@@ -32,8 +32,8 @@ send-determined one other =
     let second = other .finished in
     (coincide (first .numbered) (second .numbered), coincide (first .counted) (second .counted), coincide (first .kept) (second .kept), coincide (one .left) (other .left))
 
-pub receive-determined : {s name format block out : List ℕ} {number number′ : ℕ} {slots slots′ block₁ block₂ out₁ out₂ : List ℕ} →
-    ReceiveOnBlock s name format block out number slots block₁ out₁ → ReceiveOnBlock s name format block out number′ slots′ block₂ out₂ →
+pub receive-determined : {s pipe block out : List ℕ} {number number′ : ℕ} {slots slots′ block₁ block₂ out₁ out₂ : List ℕ} →
+    ReceiveOnBlock s pipe block out number slots block₁ out₁ → ReceiveOnBlock s pipe block out number′ slots′ block₂ out₂ →
     (number ≡ number′) × (slots ≡ slots′) × (block₁ ≡ block₂) × (out₁ ≡ out₂)
 receive-determined one other =
     (coincide (one .numbered) (other .numbered), coincide (one .told) (other .told), coincide (one .kept) (other .kept), coincide (one .left) (other .left))

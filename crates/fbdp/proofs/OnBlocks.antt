@@ -26,12 +26,12 @@ module _ (block : List ℕ) (e : Endpoint) (loaded : e ≡ loadOf block) where
       let by-loaded : Sent-by-record (loadOf block) call out sent out′ = rw loaded at by-record in
       record { finished = rw (by-loaded .answered) at finished; left = by-loaded .left }
 
-  pub receive-finished : (s name format out out′ : List ℕ) (received : Received) (number : ℕ) (slots block′ : List ℕ) →
-      Heard-by-record e s name format out received out′ → number ≡ answerNumber (received .answer) →
+  pub receive-finished : (s pipe out out′ : List ℕ) (received : Received) (number : ℕ) (slots block′ : List ℕ) →
+      Heard-by-record e s pipe out received out′ → number ≡ answerNumber (received .answer) →
       slots ≡ answerSlots (received .answer) (replyLength (received .reply)) → block′ ≡ keptBy received block →
-      ReceiveOnBlock s name format block out number slots block′ out′
-  receive-finished s name format out out′ received number slots block′ by-record its-number its-slots its-block =
-      let by-loaded : Heard-by-record (loadOf block) s name format out received out′ = rw loaded at by-record in
+      ReceiveOnBlock s pipe block out number slots block′ out′
+  receive-finished s pipe out out′ received number slots block′ by-record its-number its-slots its-block =
+      let by-loaded : Heard-by-record (loadOf block) s pipe out received out′ = rw loaded at by-record in
       let on-block = by-loaded .answered in
       record {
         numbered = its-number ∙ ap (λ (r : Received). answerNumber (r .answer)) on-block;
@@ -50,9 +50,9 @@ module _ (block : List ℕ) (bad : isGood block ≡ false) where
   unfolding sentBy numberFor
   refused-send call room = simp not-good
 
-  refused-receive : (s name format : List ℕ) (room : ℕ) → receivedOf (loadOf block) s name format room ≡ unchanged (loadOf block) 1
+  refused-receive : (s : List ℕ) (pipe : Offer) (room : ℕ) → receivedOf (loadOf block) s pipe room ≡ unchanged (loadOf block) 1
   unfolding receivedOf
-  refused-receive s name format room = simp not-good
+  refused-receive s pipe room = simp not-good
 
 pub bad-block-sends : BadBlockSends
 unfolding leftBy keptAfter
@@ -66,8 +66,8 @@ bad-block-sends call block out number count block′ out′ bad answer =
 
 pub bad-block-receives : BadBlockReceives
 unfolding unchanged replied keptBy leaves
-bad-block-receives s name format block out number slots block′ out′ bad answer =
-    let refusal = refused-receive block bad s name format _ in (
+bad-block-receives s pipe block out number slots block′ out′ bad answer =
+    let refusal = refused-receive block bad s pipe _ in (
       answer .numbered ∙ ap (λ (r : Received). answerNumber (r .answer)) refusal,
       answer .told ∙ ap (λ (r : Received). answerSlots (r .answer) (replyLength (r .reply))) refusal,
       answer .kept ∙ ap (λ (r : Received). keptBy r block) refusal,

@@ -67,7 +67,7 @@ BadBlockSends =
 
 -- what comes of a message on a block
 abbrev pub receivedOn : List ℕ → List ℕ → List ℕ → List ℕ → ℕ → Received
-receivedOn block s name format room = receivedOf (loadOf block) s name format room
+receivedOn block s pipe room = receivedOf (loadOf block) s pipe room
 
 -- how many bytes of the output are the reply
 abbrev pub replyLength : Reply → ℕ
@@ -110,16 +110,16 @@ answerSlots (Answer·Heard heard) reply = heardSlots heard reply
 answerSlots (Refused number) reply = 0 ∷ 0 ∷ 0 ∷ reply ∷ 0 ∷ 0 ∷ 0 ∷ 0 ∷ 0 ∷ 0 ∷ 0 ∷ 0 ∷ 0 ∷ 0 ∷ 0 ∷ 0 ∷ []
 
 -- `fbdp_receive`
-pub record ReceiveOnBlock (s name format block out : List ℕ) (number : ℕ) (slots block′ out′ : List ℕ) : Type 0 where
-  pub numbered : number ≡ answerNumber (receivedOn block s name format (length out) .answer)
+pub record ReceiveOnBlock (s pipe block out : List ℕ) (number : ℕ) (slots block′ out′ : List ℕ) : Type 0 where
+  pub numbered : number ≡ answerNumber (receivedOn block s pipe (length out) .answer)
   pub told :
       slots
-      ≡ answerSlots (receivedOn block s name format (length out) .answer) (replyLength (receivedOn block s name format (length out) .reply))
-  pub kept : block′ ≡ keptBy (receivedOn block s name format (length out)) block
-  pub left : out′ ≡ replied (receivedOn block s name format (length out) .reply) out
+      ≡ answerSlots (receivedOn block s pipe (length out) .answer) (replyLength (receivedOn block s pipe (length out) .reply))
+  pub kept : block′ ≡ keptBy (receivedOn block s pipe (length out)) block
+  pub left : out′ ≡ replied (receivedOn block s pipe (length out) .reply) out
 
 -- and a receive on such a block changes none either, and tells nothing
 abbrev pub BadBlockReceives : Type 0
 BadBlockReceives =
-    (s name format block out : List ℕ) (number : ℕ) (slots block′ out′ : List ℕ) → isGood block ≡ false → ReceiveOnBlock s name format block out number slots block′ out′
+    (s pipe block out : List ℕ) (number : ℕ) (slots block′ out′ : List ℕ) → isGood block ≡ false → ReceiveOnBlock s pipe block out number slots block′ out′
     → (number ≡ 1) × (slots ≡ replicate 16 0) × (block′ ≡ block) × (out′ ≡ out)

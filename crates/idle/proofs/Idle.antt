@@ -35,9 +35,9 @@ module _ (p : Entries) (meets : Meets p) where
       let same = send-determined (meets .calls call fits block out) (tables-meet .calls call fits block out) in
       λ i. record { number = same .0 i; count = same .1 i; block = same .2 i; out = same .3 i }
 
-  receives-as-tables : (s name format block out : List ℕ) → p .receives s name format block out ≡ byTables .receives s name format block out
-  receives-as-tables s name format block out =
-      let same = receive-determined (meets .messages s name format block out) (tables-meet .messages s name format block out) in
+  receives-as-tables : (s pipe block out : List ℕ) → p .receives s pipe block out ≡ byTables .receives s pipe block out
+  receives-as-tables s pipe block out =
+      let same = receive-determined (meets .messages s pipe block out) (tables-meet .messages s pipe block out) in
       λ i. record { number = same .0 i; slots = same .1 i; block = same .2 i; out = same .3 i }
 
 pub only-tables : OnlyTables
@@ -95,8 +95,8 @@ writing-back-rejected p writes meets =
 made-up-rejected-at : (at count : ℕ) (p : Entries) → MadeUp at count p → Rejected p
 made-up-rejected-at at count p (by-call call fits block out other) meets =
     other (ap (λ (result : SendResult). part (result .block) at count) (only-tables p meets .calls call fits block out))
-made-up-rejected-at at count p (by-message s name format block out other) meets =
-    other (ap (λ (result : ReceiveResult). part (result .block) at count) (only-tables p meets .messages s name format block out))
+made-up-rejected-at at count p (by-message s pipe block out other) meets =
+    other (ap (λ (result : ReceiveResult). part (result .block) at count) (only-tables p meets .messages s pipe block out))
 
 pub made-up-rejected : MadeUpRejected
 made-up-rejected p = (made-up-rejected-at 4 2 p, made-up-rejected-at 3 1 p)
@@ -129,14 +129,14 @@ awaiting-rejected w meets =
 pub vices-exist : VicesExist
 vices-exist =
     record {
-      refuses = λ number other. record { refuses-calls = λ call block out. other; refuses-messages = λ s name format block out. other };
-      hears-noop = λ s name format block out accepts. refl;
-      leaves-block = record { after-calls = λ call block out. refl; after-messages = λ s name format block out. refl };
+      refuses = λ number other. record { refuses-calls = λ call block out. other; refuses-messages = λ s pipe block out. other };
+      hears-noop = λ s pipe block out accepts. refl;
+      leaves-block = record { after-calls = λ call block out. refl; after-messages = λ s pipe block out. refl };
       opens-then-echoes =
           record {
             sends-open = λ call block out opening-still. rw (le-leb (loadOf block .phase) opening opening-still) refl;
-            hears-open = λ s name format block out opening-still. rw (le-leb (loadOf block .phase) opening opening-still) refl;
-            stays = λ s name format block out opened. rw (lt-leb (loadOf block .phase) opening opened) refl;
+            hears-open = λ s pipe block out opening-still. rw (le-leb (loadOf block .phase) opening opening-still) refl;
+            stays = λ s pipe block out opened. rw (lt-leb (loadOf block .phase) opening opened) refl;
           };
-      writes-back = λ s name format block out opened. rw (lt-leb (loadOf block .phase) opening opened) refl;
+      writes-back = λ s pipe block out opened. rw (lt-leb (loadOf block .phase) opening opened) refl;
     }

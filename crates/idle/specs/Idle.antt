@@ -26,7 +26,7 @@ use Rattle.machine.specs.Programs.{Making}
 pub record AsTables (p : Entries) : Type 0 where
   pub making : (making : Making) (block : List ℕ) → p .makes making block ≡ byTables .makes making block
   pub calls : (call : Call) → Fits call → (block out : List ℕ) → p .sends call block out ≡ byTables .sends call block out
-  pub messages : (s name format block out : List ℕ) → p .receives s name format block out ≡ byTables .receives s name format block out
+  pub messages : (s pipe block out : List ℕ) → p .receives s pipe block out ≡ byTables .receives s pipe block out
 
 abbrev pub OnlyTables : Type 0
 OnlyTables = (p : Entries) → Meets p → AsTables p
@@ -37,7 +37,7 @@ Rejected p = Meets p → ⊥
 -- "one that refuses everything", by whatever numbers
 pub record RefusesEverything (p : Entries) : Type 0 where
   pub refuses-calls : (call : Call) (block out : List ℕ) → p .sends call block out .number ≡ 0 → ⊥
-  pub refuses-messages : (s name format block out : List ℕ) → p .receives s name format block out .number ≡ 0 → ⊥
+  pub refuses-messages : (s pipe block out : List ℕ) → p .receives s pipe block out .number ≡ 0 → ⊥
 
 abbrev pub RefusingRejected : Type 0
 RefusingRejected = (p : Entries) → RefusesEverything p → Rejected p
@@ -51,14 +51,14 @@ refusing number =
     record {
       makes = λ making block. record { number = number; next = block };
       sends = λ call block out. refusedCall number block out;
-      receives = λ s name format block out. record { number = number; slots = replicate 16 0; block = block; out = out };
+      receives = λ s pipe block out. record { number = number; slots = replicate 16 0; block = block; out = out };
     }
 
 -- "one that always hears NOOP": whatever message it accepts
 abbrev pub HearsNoop : Entries → Type 0
 HearsNoop p =
-    (s name format block out : List ℕ) → p .receives s name format block out .number ≡ 0
-    → getD (p .receives s name format block out .slots) 0 0 ≡ typeOf Noop
+    (s pipe block out : List ℕ) → p .receives s pipe block out .number ≡ 0
+    → getD (p .receives s pipe block out .slots) 0 0 ≡ typeOf Noop
 
 abbrev pub HearingNoopRejected : Type 0
 HearingNoopRejected = (p : Entries) → HearsNoop p → Rejected p
@@ -69,13 +69,13 @@ hearingNoop =
     record {
       makes = byTables .makes;
       sends = byTables .sends;
-      receives = λ s name format block out. record { number = 0; slots = typeOf Noop ∷ replicate 15 0; block = block; out = out };
+      receives = λ s pipe block out. record { number = 0; slots = typeOf Noop ∷ replicate 15 0; block = block; out = out };
     }
 
 -- "one that leaves the block untouched"
 pub record LeavesBlock (p : Entries) : Type 0 where
   pub after-calls : (call : Call) (block out : List ℕ) → p .sends call block out .block ≡ block
-  pub after-messages : (s name format block out : List ℕ) → p .receives s name format block out .block ≡ block
+  pub after-messages : (s pipe block out : List ℕ) → p .receives s pipe block out .block ≡ block
 
 abbrev pub UntouchingRejected : Type 0
 UntouchingRejected = (p : Entries) → LeavesBlock p → Rejected p
@@ -92,12 +92,12 @@ leaving left =
             block = left (byTables .sends call block out .number) block (byTables .sends call block out .block);
             out = byTables .sends call block out .out;
           };
-      receives = λ s name format block out.
+      receives = λ s pipe block out.
           record {
-            number = byTables .receives s name format block out .number;
-            slots = byTables .receives s name format block out .slots;
-            block = left (byTables .receives s name format block out .number) block (byTables .receives s name format block out .block);
-            out = byTables .receives s name format block out .out;
+            number = byTables .receives s pipe block out .number;
+            slots = byTables .receives s pipe block out .slots;
+            block = left (byTables .receives s pipe block out .number) block (byTables .receives s pipe block out .block);
+            out = byTables .receives s pipe block out .out;
           };
     }
 
@@ -109,16 +109,16 @@ untouching = leaving (λ number before after. before)
 -- what is written back, be that the message itself or a confirmation
 pub record OpensThenEchoes (p : Entries) : Type 0 where
   pub sends-open : (call : Call) (block out : List ℕ) → loadOf block .phase ≤ opening → p .sends call block out ≡ byTables .sends call block out
-  pub hears-open : (s name format block out : List ℕ) → loadOf block .phase ≤ opening
-      → p .receives s name format block out ≡ byTables .receives s name format block out
-  pub stays : (s name format block out : List ℕ) → opening < loadOf block .phase → p .receives s name format block out .block ≡ block
+  pub hears-open : (s pipe block out : List ℕ) → loadOf block .phase ≤ opening
+      → p .receives s pipe block out ≡ byTables .receives s pipe block out
+  pub stays : (s pipe block out : List ℕ) → opening < loadOf block .phase → p .receives s pipe block out .block ≡ block
 
 abbrev pub EchoingRejected : Type 0
 EchoingRejected = (p : Entries) → OpensThenEchoes p → Rejected p
 
 -- and one that writes the message itself back is rejected for that alone
 abbrev pub WritesBack : Entries → Type 0
-WritesBack p = (s name format block out : List ℕ) → opening < loadOf block .phase → p .receives s name format block out .out ≡ putAt out 0 s
+WritesBack p = (s pipe block out : List ℕ) → opening < loadOf block .phase → p .receives s pipe block out .out ≡ putAt out 0 s
 
 abbrev pub WritingBackRejected : Type 0
 WritingBackRejected = (p : Entries) → WritesBack p → Rejected p
@@ -133,16 +133,16 @@ echoing =
       makes = byTables .makes;
       sends = λ call block out.
           cond (leb (loadOf block .phase) opening) (byTables .sends call block out) (refusedCall (sendNumber NotAllowed) block out);
-      receives = λ s name format block out.
-          cond (leb (loadOf block .phase) opening) (byTables .receives s name format block out) (echo s block out);
+      receives = λ s pipe block out.
+          cond (leb (loadOf block .phase) opening) (byTables .receives s pipe block out) (echo s block out);
     }
 
 -- "A made-up n or W": after some call or message these bytes of the block are not those of the tables
 pub data MadeUp (at count : ℕ) (p : Entries) : Type 0 where
   by-call : (call : Call) → Fits call → (block out : List ℕ)
       → (part (p .sends call block out .block) at count ≡ part (byTables .sends call block out .block) at count → ⊥) → MadeUp at count p
-  by-message : (s name format block out : List ℕ)
-      → (part (p .receives s name format block out .block) at count ≡ part (byTables .receives s name format block out .block) at count → ⊥)
+  by-message : (s pipe block out : List ℕ)
+      → (part (p .receives s pipe block out .block) at count ≡ part (byTables .receives s pipe block out .block) at count → ⊥)
       → MadeUp at count p
 
 -- "4-5 n, big-endian" and "3 W"

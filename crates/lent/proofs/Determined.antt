@@ -13,7 +13,7 @@ pub send-determined : {e : Endpoint} {call : Call} {before : List ℕ} {told tol
     SendOnLent e call before told next after → SendOnLent e call before told′ next′ after′ → (told ≡ told′) × (next ≡ next′) × (after ≡ after′)
 send-determined one other = (coincide (one .answered) (other .answered), coincide (one .changed) (other .changed), coincide (one .left) (other .left))
 
-pub receive-determined : {e : Endpoint} {s name format before : List ℕ} {outcome outcome′ : Outcome} {next next′ : Endpoint} {after after′ : List ℕ} →
-    ReceiveOnLent e s name format before outcome next after → ReceiveOnLent e s name format before outcome′ next′ after′ →
+pub receive-determined : {e : Endpoint} {s pipe before : List ℕ} {outcome outcome′ : Outcome} {next next′ : Endpoint} {after after′ : List ℕ} →
+    ReceiveOnLent e s pipe before outcome next after → ReceiveOnLent e s pipe before outcome′ next′ after′ →
     (outcome ≡ outcome′) × (next ≡ next′) × (after ≡ after′)
 receive-determined one other = (coincide (one .answered) (other .answered), coincide (one .changed) (other .changed), coincide (one .left) (other .left))

@@ -52,9 +52,9 @@ pub send-said : (e : Endpoint) (call : Call) (before : List ℕ) {sent : Sent} {
 send-said e call before said =
     record { answered = ap toldOf (said .answered); changed = ap (λ (sent : Sent). sent .next) (said .answered); left = said .left }
 
-pub receive-said : (e : Endpoint) (s name format before : List ℕ) {received : Received} {after : List ℕ} → ReceiveAnswer e s name format before received after →
-    ReceiveOnLent e s name format before (outcomeOf received) (received .next) after
-receive-said e s name format before said =
+pub receive-said : (e : Endpoint) (s pipe before : List ℕ) {received : Received} {after : List ℕ} → ReceiveAnswer e s pipe before received after →
+    ReceiveOnLent e s pipe before (outcomeOf received) (received .next) after
+receive-said e s pipe before said =
     record {
       answered = ap outcomeOf (said .answered);
       changed = ap (λ (received : Received). received .next) (said .answered);

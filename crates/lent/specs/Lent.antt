@@ -28,7 +28,7 @@ abbrev pub outcomeOf : Received → Outcome
 outcomeOf received = record { answer = received .answer; reply = received .reply }
 
 -- what a receive of this record answers, and the record and the output afterwards
-pub record ReceiveOnLent (e : Endpoint) (s name format before : List ℕ) (outcome : Outcome) (next : Endpoint) (after : List ℕ) : Type 0 where
-  pub answered : outcome ≡ outcomeOf (receivedOf e s name format (length before))
-  pub changed : next ≡ receivedOf e s name format (length before) .next
-  pub left : after ≡ replied (receivedOf e s name format (length before) .reply) before
+pub record ReceiveOnLent (e : Endpoint) (s pipe before : List ℕ) (outcome : Outcome) (next : Endpoint) (after : List ℕ) : Type 0 where
+  pub answered : outcome ≡ outcomeOf (receivedOf e s pipe (length before))
+  pub changed : next ≡ receivedOf e s pipe (length before) .next
+  pub left : after ≡ replied (receivedOf e s pipe (length before) .reply) before

@@ -16,6 +16,7 @@ use Rattle.message.specs.declared.Body.{Body}
 use Rattle.message.specs.declared.Body.the-variants.{Nothing as Body·Nothing, At}
 use Rattle.message.specs.declared.Message.{Message}
 use Rattle.message.specs.Reading.{bodyPlace}
+use Rattle.open.specs.Offer.{Offer}
 use Rattle.endpoint.specs.declared.Endpoint.{Endpoint}
 use Rattle.receiving.specs.declared.Carried.{Carried}
 use Rattle.receiving.specs.declared.Carried.the-variants.{Content as Carried·Content, Refused as Carried·Refused}
@@ -47,15 +48,15 @@ body-carries : (body : Body) → CarriedBounded (bodyCarried body)
 body-carries Body·Nothing = tt
 body-carries (At place) = tt
 
-pub carried-bounded : (e : Endpoint) (s name format : List ℕ) (m : Message) → CarriedBounded (carriedBy e s name format m)
+pub carried-bounded : (e : Endpoint) (s : List ℕ) (pipe : Offer) (m : Message) → CarriedBounded (carriedBy e s pipe m)
 unfolding carriedBy openAt
-carried-bounded e s name format m = go (m .message)
+carried-bounded e s pipe m = go (m .message)
   where
     place : Place
     place = bodyPlace (m .body)
 
-    go : (message : MessageType) → CarriedBounded (carriedAs message (openAt e s name format place) (bodyCarried (m .body)))
-    go Open = open-carries (heardBy s (place .at) (place .at + place .length) (e .flow) name format) (heard-bounded s (place .at) (place .at + place .length) (e .flow) name format)
+    go : (message : MessageType) → CarriedBounded (carriedAs message (openAt e s pipe place) (bodyCarried (m .body)))
+    go Open = open-carries (heardBy s (place .at) (place .at + place .length) (e .flow) pipe) (heard-bounded s (place .at) (place .at + place .length) (e .flow) pipe)
     go Ready = body-carries (m .body)
     go Noop = body-carries (m .body)
     go Data = body-carries (m .body)

@@ -26,11 +26,11 @@ use Rattle.endpoint.specs.Record.{entryBytes, entryAt, inRanges, countFits, wai
 use Rattle.endpoint.specs.Record.{givenOf, freshOf, closed, atPhase, asked, confirmed, limited}
 use Rattle.endpoint.specs.Block.{headBytes, bytesOf as Block·bytesOf, recordIn, spareIsZero, loadOf}
 use Rattle.table.specs.Table.{begun, openRow, readyRow, dataRow, noopRow, closeRow, atRow}
-use Rattle.receiving.specs.Hearing.{movesAs, hearRow, tooLarge, openAt, carriedBy, matchesOldest, unmatched, confirmedBy, replyTo, accepted}
+use Rattle.receiving.specs.Hearing.{movesAs, hearRow, forbidden, tooLarge, openAt, carriedBy, matchesOldest, unmatched, confirmedBy, replyTo, accepted}
 use Rattle.receiving.specs.Hearing.{hearContent, hearMessage, hearOf}
 use Rattle.receiving.specs.Receiving.{replied, receivedOf}
 use Rattle.receiving.specs.Refusing.{versionCode, closeCode, silent, refused, unchanged}
-use Rattle.sending.specs.Calls.{goodCode, bundleWith}
+use Rattle.sending.specs.Calls.{aboveLimit, misgiven, goodCode, miscoded, numberIf, bundleWith}
 use Rattle.sending.specs.Sending.{sendRow, isFull, numberFor, askedBy, sentBy, leftBy}
 
 -- numbers, bundles and control frames
@@ -64,7 +64,7 @@ unfolding entryBytes entryAt inRanges countFits waitFits awaitable isNone entryF
 endpoints = tt
 
 unfoldable pub computing : Unit {0}
-unfolding frames fields structs opening endpoints movesAs hearRow tooLarge openAt carriedBy matchesOldest unmatched confirmedBy replyTo accepted
-    hearContent hearMessage hearOf replied receivedOf versionCode closeCode silent refused unchanged goodCode bundleWith sendRow isFull
-    numberFor askedBy sentBy leftBy
+unfolding frames fields structs opening endpoints movesAs hearRow forbidden tooLarge openAt carriedBy matchesOldest unmatched confirmedBy replyTo accepted
+    hearContent hearMessage hearOf replied receivedOf versionCode closeCode silent refused unchanged aboveLimit misgiven goodCode miscoded
+    numberIf bundleWith sendRow isFull numberFor askedBy sentBy leftBy
 computing = tt

@@ -3,6 +3,7 @@ use mathlib.Core.Path.{_≡_}
 use Prim.Native.Nat.{ℕ}
 use mathlib.Core.List.{List}
 use Rattle.bytes_be.proofs.Determined.{coincide}
+use Rattle.open.specs.Offer.{Offer}
 use Rattle.endpoint.specs.declared.Endpoint.{Endpoint}
 use Rattle.receiving.specs.declared.Received.{Received}
 use Rattle.receiving.specs.Receiving.{ReceiveAnswer}
@@ -14,7 +15,7 @@ pub sent-determined : (e : Endpoint) (call : Call) {before : List ℕ} {sent sen
     SendAnswer e call before sent after → SendAnswer e call before sent′ after′ → (sent ≡ sent′) × (after ≡ after′)
 sent-determined e call one other = (coincide (one .answered) (other .answered), coincide (one .left) (other .left))
 
-pub received-determined : {e : Endpoint} {s name format before : List ℕ} {received received′ : Received} {after after′ : List ℕ} →
-    ReceiveAnswer e s name format before received after → ReceiveAnswer e s name format before received′ after′ →
+pub received-determined : {e : Endpoint} {s : List ℕ} {pipe : Offer} {before : List ℕ} {received received′ : Received} {after after′ : List ℕ} →
+    ReceiveAnswer e s pipe before received after → ReceiveAnswer e s pipe before received′ after′ →
     (received ≡ received′) × (after ≡ after′)
 received-determined one other = (coincide (one .answered) (other .answered), coincide (one .left) (other .left))

@@ -8,6 +8,7 @@ use borrow.Author.Tests.{eq-eqb, eqb-true}
 use Rattle.bytes_be.proofs.Numbers.{Bytes}
 use Rattle.control.specs.declared.MessageType.the-variants.{Open, Ready, Close}
 use Rattle.terms.specs.Announced.{announcedLimit}
+use Rattle.open.specs.Offer.{Offer}
 use Rattle.message.specs.declared.Message.{Message}
 use Rattle.message.proofs.Inside.{read-small}
 use Rattle.endpoint.specs.declared.Endpoint.{Endpoint}
@@ -27,7 +28,7 @@ use Rattle.sending.specs.Calls.{Call, OPEN, READY, DATA, NOOP, CLOSE, outgoing}
 use Rattle.sending.specs.Sending.{askedBy, numberFor, sendRow, sentBy}
 use Rattle.sending.proofs.Decided.{all-passed}
 use Rattle.machine.specs.Good.{Fits, SentGood, Sound, HeardGood}
-use Rattle.machine.specs.Refusals.{Closing, Staying}
+use Rattle.machine.specs.Refusals.{saidBy}
 use Rattle.machine.proofs.Carried.{CarriedBounded, carried-bounded}
 use Rattle.machine.proofs.Rows.{Acts, row-sound, sent-data-acts, sent-noop-acts, closed-sound}
 use Rattle.machine.proofs.Stages.{Passed, received-holds}
@@ -46,11 +47,11 @@ module _ (e : Endpoint) (sound : Sound e) where
 
   accepted-sound : (call : Call) → Fits call → notAllowed (sendRow e (outgoing e call)) ≡ false → Sound (askedBy (moved e (sendRow e (outgoing e call))) (outgoing e call))
   unfolding sendRow askedBy awaitable
-  accepted-sound (OPEN name format) fits passes = row-sound e sound (e .role) (e .flow) Open 0 fits
+  accepted-sound (OPEN asked) fits passes = row-sound e sound (e .role) (e .flow) Open 0 fits
   accepted-sound (READY count) fits passes = row-sound e sound (e .role) (e .flow) Ready count fits
-  accepted-sound (DATA type-data ask body) fits passes =
+  accepted-sound (DATA datum) fits passes =
       let acts = sent-data-acts e sound (e .flow) passes in
-      ask-sound ask _ (acts .1) (record { message = 4; «type_data» = type-data }) (eq-eqb (e .flow) producer (acts .0))
+      ask-sound (datum .ask) _ (acts .1) (record { message = 4; «type_data» = datum .type-data }) (eq-eqb (e .flow) producer (acts .0))
   accepted-sound (NOOP type-data ask) fits passes =
       ask-sound ask _ (sent-noop-acts e sound passes) (record { message = 3; «type_data» = type-data }) refl
   accepted-sound (CLOSE code) fits passes = row-sound e sound (e .role) (e .flow) Close code fits
@@ -85,21 +86,21 @@ module _ (e : Endpoint) (sound : Sound e) where
       record { sized = limited-sized after (good .sized) limit; is-good = limited-good after (good .is-good) limit bounded }
   limited-sound (Content·Body place) after bounded good = good
 
-  stays-sound : (number : ℕ) → Staying number → Sound (unchanged e number .next)
+  stays-sound : (number : ℕ) → Sound (unchanged e number .next)
   unfolding unchanged
-  stays-sound number among = sound
+  stays-sound number = sound
 
-  refused-sound : (number said : ℕ) → Closing number → Sound (refused e number said .next)
+  refused-sound : (number said : ℕ) → Sound (refused e number said .next)
   unfolding refused
-  refused-sound number said among = closed-sound e sound
+  refused-sound number said = closed-sound e sound
 
-  message-sound : (s : List ℕ) → Bytes s → (name format : List ℕ) (m : Message) (content : Content) → Passed e s name format m content → Sound (accepted e m (hearRow e m) content .next)
+  message-sound : (s : List ℕ) → Bytes s → (pipe : Offer) (m : Message) (content : Content) → Passed e s pipe m content → Sound (accepted e m (hearRow e m) content .next)
   unfolding accepted confirmedBy hearRow
-  message-sound s bytes name format m content passed =
-      limited-sound content _ (subst CarriedBounded (passed .carried) (carried-bounded e s name format m))
+  message-sound s bytes pipe m content passed =
+      limited-sound content _ (subst CarriedBounded (passed .carried) (carried-bounded e s pipe m))
       (confirmed-sound (confirms (m .message) (m .flags)) (moved e (hearRow e m))
       (row-sound e sound (other (e .role)) (other (e .flow)) (movesAs (m .message) (m .flags)) (m .«type_data») (read-small s bytes m (passed .read))))
 
 pub heard-good : HeardGood
-heard-good e sound s bytes name format room =
-    received-holds (λ (x : Received). Sound (x .next)) e s name format (stays-sound e sound) (refused-sound e sound) (message-sound e sound s bytes name format) room
+heard-good e sound s bytes pipe room =
+    received-holds (λ (x : Received). Sound (x .next)) e s pipe (stays-sound e sound) (λ number closes. refused-sound e sound number (saidBy s)) (message-sound e sound s bytes pipe) room

@@ -7,6 +7,7 @@ use lib.Dec.{eqb}
 use lib.ListN.{length}
 use Rattle.bytes_be.specs.Part.{same}
 use Rattle.bytes_be.proofs.Tests.{both-true, clash}
+use Rattle.open.specs.Offer.{Offer}
 use Rattle.open.specs.declared.Open.the-variants.{Heard}
 use Rattle.open.specs.declared.Opening.{Opening}
 use Rattle.open.specs.Open.{offeredSocket}
@@ -21,7 +22,7 @@ use Rattle.table.specs.declared.Row.the-variants.{To}
 use Rattle.table.specs.Table.{other}
 use Rattle.receiving.specs.declared.Carried.the-variants.{Content as Carried·Content}
 use Rattle.receiving.specs.declared.Content.{Content}
-use Rattle.receiving.specs.Hearing.{accepted, hearContent, hearMessage, hearOf, hearRow, tooLarge, carriedBy, unmatched, movesAs}
+use Rattle.receiving.specs.Hearing.{accepted, forbidden, hearContent, hearMessage, hearOf, hearRow, tooLarge, carriedBy, unmatched, movesAs}
 use Rattle.machine.proofs.Rows.{row-alive}
 
 module _ (r : Endpoint) (m : Message) (phase n : ℕ) (leads : hearRow r m ≡ To phase n) where
@@ -30,10 +31,10 @@ module _ (r : Endpoint) (m : Message) (phase n : ℕ) (leads : hearRow r m ≡ T
   alive = row-alive (other (r .role)) (other (r .flow)) (r .phase) (r .n) (movesAs (m .message) (m .flags)) (m .«type_data») phase n leads
 
   -- a message that none of the tests refuses is accepted
-  pub message-heard : (s name format : List ℕ) (content : Content) → readingOf s ≡ Read m → tooLarge r m ≡ false → carriedBy r s name format m ≡ Carried·Content content →
-      unmatched r m ≡ false → hearOf r s name format ≡ accepted r m (To phase n) content
-  unfolding hearOf hearMessage hearContent
-  message-heard s name format content read small carried matched = simp (alive, read, small, leads, carried, matched)
+  pub message-heard : (s : List ℕ) (pipe : Offer) (content : Content) → readingOf s ≡ Read m → tooLarge r m ≡ false → carriedBy r s pipe m ≡ Carried·Content content →
+      unmatched r m ≡ false → hearOf r s pipe ≡ accepted r m (To phase n) content
+  unfolding hearOf hearMessage hearContent forbidden
+  message-heard s pipe content read small carried matched = simp (alive, read, small, leads, carried, matched)
 
 -- what is offered is not refused
 
@@ -42,11 +43,11 @@ one-true true b e = refl
 one-true false true e = refl
 one-true false false e = clash cc
 
-pub offered-heard : (flow : ℕ) (name format : List ℕ) (opening : Opening) (serverFlow : ℕ) (offeredName offeredFormat : List ℕ) →
-    same name offeredName && eqb (socketOf flow) (offeredSocket serverFlow) && (eqb (length format) 0 || same format offeredFormat) ≡ true →
-    answerTo flow name format opening serverFlow offeredName offeredFormat ≡ Heard opening
+pub offered-heard : (flow : ℕ) (asked : Offer) (opening : Opening) (serverFlow : ℕ) (pipe : Offer) →
+    same (asked .name) (pipe .name) && eqb (socketOf flow) (offeredSocket serverFlow) && (eqb (length (asked .format)) 0 || same (asked .format) (pipe .format)) ≡ true →
+    answerTo flow asked opening serverFlow pipe ≡ Heard opening
 unfolding answerTo
-offered-heard flow name format opening serverFlow offeredName offeredFormat offers =
-    let all = both-true (same name offeredName && eqb (socketOf flow) (offeredSocket serverFlow)) (eqb (length format) 0 || same format offeredFormat) offers in
-    let pipe = both-true (same name offeredName) (eqb (socketOf flow) (offeredSocket serverFlow)) (all .0) in
-    simp (pipe .0, pipe .1, one-true (eqb (length format) 0) (same format offeredFormat) (all .1))
+offered-heard flow asked opening serverFlow pipe offers =
+    let all = both-true (same (asked .name) (pipe .name) && eqb (socketOf flow) (offeredSocket serverFlow)) (eqb (length (asked .format)) 0 || same (asked .format) (pipe .format)) offers in
+    let named = both-true (same (asked .name) (pipe .name)) (eqb (socketOf flow) (offeredSocket serverFlow)) (all .0) in
+    simp (named .0, named .1, one-true (eqb (length (asked .format)) 0) (same (asked .format) (pipe .format)) (all .1))

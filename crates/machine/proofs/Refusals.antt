@@ -4,17 +4,20 @@ use mathlib.Core.Bool.{Bool, true, false, cond}
 use lib.Dec.{eqb}
 use Rattle.table.specs.declared.Row.{Row}
 use Rattle.table.specs.Table.{moved}
+use Rattle.receiving.specs.declared.Received.{Received}
 use Rattle.receiving.specs.Hearing.{accepted}
+use Rattle.receiving.specs.Refusing.{refused, unchanged}
 use Rattle.sending.specs.declared.Sent.{Sent}
 use Rattle.sending.specs.Calls.{outgoing, written}
 use Rattle.sending.specs.Sending.{askedBy, numberFor, sendRow, sentBy, unsent}
-use Rattle.machine.specs.Refusals.{Outcome, stays, closes, hears, ReceiveComesTo, RefusedSendStays}
+use Rattle.machine.specs.Refusals.{DoesAs, ReceiveDoes, RefusedSendStays}
 use Rattle.machine.proofs.Stages.{received-holds}
 
-pub receive-comes-to : ReceiveComesTo
-unfolding accepted
-receive-comes-to e s name format room =
-    received-holds (Outcome e) e s name format stays closes (λ m content passed. hears _ _ _) room
+pub receive-does : ReceiveDoes
+unfolding accepted unchanged refused
+receive-does e s pipe room =
+    received-holds (λ (received : Received). DoesAs e s received (received .answer)) e s pipe (λ number. refl) (λ number has-code. record { coded = has-code; is = refl })
+    (λ m content passed. record { message = m; content = content; read = passed .read; is = refl }) room
 
 pub refused-send-stays : RefusedSendStays
 unfolding sentBy

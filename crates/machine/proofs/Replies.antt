@@ -10,6 +10,7 @@ use Rattle.bytes_be.proofs.Numbers.{Bytes}
 use Rattle.control.specs.declared.MessageType.{MessageType}
 use Rattle.control.specs.declared.MessageType.the-variants.{Open, Ready, Noop, Data, Close}
 use Rattle.control.specs.Frame.{ackReply, ackRequest}
+use Rattle.open.specs.Offer.{Offer}
 use Rattle.message.specs.declared.Message.{Message}
 use Rattle.message.specs.Reading.{strangeFlags}
 use Rattle.message.proofs.Inside.{read-small}
@@ -24,7 +25,7 @@ use Rattle.receiving.specs.declared.Reply.the-variants.{Nothing, Frame}
 use Rattle.receiving.specs.Hearing.{accepted, asks, hearRow, replyTo, carriedBy, confirmedBy}
 use Rattle.receiving.specs.Receiving.{replyBytes}
 use Rattle.receiving.specs.Refusing.{refused, unchanged, closeCode, silent, versionCode}
-use Rattle.machine.specs.Refusals.{Closing, Staying}
+use Rattle.machine.specs.Refusals.{saidBy}
 use Rattle.machine.specs.Round.{RepliesOnly, RepliesReadBack, isReply, RepliesHeard, messageWith}
 use Rattle.machine.proofs.Bundled.{plain-read}
 use Rattle.machine.proofs.Hearing.{message-heard}
@@ -53,24 +54,30 @@ cond-small false a b first second = second
 code-small : (e : Endpoint) (number said : ℕ) → closeCode e number said < 256 ^ 2
 unfolding closeCode versionCode
 code-small e number said =
-    cond-small (eqb number 12) _ _ (cond-small (eqb said 1 && eqb (e .role) server && eqb (e .phase) fresh) 101 1 (lit< tt) (lit< tt))
+    cond-small (eqb number 10) 1 _ (lit< tt)
+    (cond-small (eqb number 11) 1 _ (lit< tt)
+    (cond-small (eqb number 12) _ _ (cond-small (eqb said 1 && eqb (e .role) server && eqb (e .phase) fresh) 101 1 (lit< tt) (lit< tt))
+    (cond-small (eqb number 13) 1 _ (lit< tt)
+    (cond-small (eqb number 14) 1 _ (lit< tt)
+    (cond-small (eqb number 15) 1 _ (lit< tt)
     (cond-small (eqb number 16) 2 _ (lit< tt)
     (cond-small (eqb number 17) 2 _ (lit< tt)
+    (cond-small (eqb number 18) 1 _ (lit< tt)
     (cond-small (eqb number 19) 2 _ (lit< tt)
     (cond-small (eqb number 20) 102 _ (lit< tt)
     (cond-small (eqb number 21) 100 _ (lit< tt)
     (cond-small (eqb number 22) 103 _ (lit< tt)
     (cond-small (eqb number 23) 2 _ (lit< tt)
-    (cond-small (eqb number 24) 2 1 (lit< tt) (lit< tt)))))))))
+    (cond-small (eqb number 24) 2 0 (lit< tt) (lit< tt)))))))))))))))
 
 module _ (e : Endpoint) where
-  stays-replied : (number : ℕ) → Staying number → OfReply (unchanged e number .reply)
+  stays-replied : (number : ℕ) → OfReply (unchanged e number .reply)
   unfolding unchanged
-  stays-replied number among = tt
+  stays-replied number = tt
 
-  refused-replied : (number said : ℕ) → Closing number → OfReply (refused e number said .reply)
+  refused-replied : (number said : ℕ) → OfReply (refused e number said .reply)
   unfolding refused
-  refused-replied number said among = go (silent e number said)
+  refused-replied number said = go (silent e number said)
     where
       go : (t : Bool) → OfReply (cond t Nothing (Frame Close 0 (closeCode e number said)))
       go true = tt
@@ -91,31 +98,31 @@ module _ (e : Endpoint) where
       go Data flags = chosen Data (eqb flags ackRequest) refl
       go Close flags = tt
 
-  message-replied : (s : List ℕ) → Bytes s → (name format : List ℕ) (m : Message) (content : Content) → Passed e s name format m content → OfReply (accepted e m (hearRow e m) content .reply)
+  message-replied : (s : List ℕ) → Bytes s → (pipe : Offer) (m : Message) (content : Content) → Passed e s pipe m content → OfReply (accepted e m (hearRow e m) content .reply)
   unfolding accepted
-  message-replied s bytes name format m content passed = asks-replied m (read-small s bytes m (passed .read))
+  message-replied s bytes pipe m content passed = asks-replied m (read-small s bytes m (passed .read))
 
 pub replies-only : RepliesOnly
-replies-only e s bytes name format room message flags type-data reply =
+replies-only e s bytes pipe room message flags type-data reply =
     subst OfReply reply
-    (received-holds (λ (x : Received). OfReply (x .reply)) e s name format (stays-replied e) (refused-replied e) (message-replied e s bytes name format) room)
+    (received-holds (λ (x : Received). OfReply (x .reply)) e s pipe (stays-replied e) (λ number has-code. refused-replied e number (saidBy s)) (message-replied e s bytes pipe) room)
 
 -- each is heard by an end that may hear it
 
 -- it carries nothing, and it does not ask
-bare : (message : MessageType) (flags type-data : ℕ) → isReply message flags ≡ true → (r : Endpoint) (name format : List ℕ) →
-    (carriedBy r (replyBytes (Frame message flags type-data)) name format (messageWith message flags type-data []) ≡ Carried·Content Content·Nothing) × (asks message flags ≡ false)
+bare : (message : MessageType) (flags type-data : ℕ) → isReply message flags ≡ true → (r : Endpoint) (pipe : Offer) →
+    (carriedBy r (replyBytes (Frame message flags type-data)) pipe (messageWith message flags type-data []) ≡ Carried·Content Content·Nothing) × (asks message flags ≡ false)
 unfolding carriedBy
-bare Open flags type-data reply r name format = clash cc
-bare Ready flags type-data reply r name format = clash cc
-bare Noop flags type-data reply r name format = (refl, rw (eqb-true flags ackReply reply) refl)
-bare Data flags type-data reply r name format = (refl, rw (eqb-true flags ackReply reply) refl)
-bare Close flags type-data reply r name format = (refl, refl)
+bare Open flags type-data reply r pipe = clash cc
+bare Ready flags type-data reply r pipe = clash cc
+bare Noop flags type-data reply r pipe = (refl, rw (eqb-true flags ackReply reply) refl)
+bare Data flags type-data reply r pipe = (refl, rw (eqb-true flags ackReply reply) refl)
+bare Close flags type-data reply r pipe = (refl, refl)
 
 pub replies-heard : RepliesHeard
 unfolding accepted confirmedBy replyTo
-replies-heard message flags type-data reply few r name format phase n may =
-    let nothing = bare message flags type-data reply r name format in
+replies-heard message flags type-data reply few r pipe phase n may =
+    let nothing = bare message flags type-data reply r pipe in
     let read = replies-read-back message flags type-data reply few in
-    message-heard r (messageWith message flags type-data []) phase n (may .leads) (replyBytes (Frame message flags type-data)) name format Content·Nothing read (may .small) (nothing .0) (may .matched)
+    message-heard r (messageWith message flags type-data []) phase n (may .leads) (replyBytes (Frame message flags type-data)) pipe Content·Nothing read (may .small) (nothing .0) (may .matched)
     ∙ simp (nothing .1)

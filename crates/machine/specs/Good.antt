@@ -4,6 +4,7 @@ use mathlib.Core.Path.{_≡_}
 use mathlib.Core.List.{List}
 use mathlib.Core.Bool.{true}
 use lib.ListN.{getD}
+use Rattle.open.specs.Offer.{Offer}
 use Rattle.endpoint.specs.declared.Endpoint.{Endpoint}
 use Rattle.endpoint.specs.Record.{good}
 use Rattle.endpoint.specs.Round.{Sized}
@@ -27,5 +28,5 @@ SentGood = (e : Endpoint) → Sound e → (call : Call) → Fits call → (room 
 -- whatever bytes are received, with whatever name and format offered, and whether the message is heard or refused
 abbrev pub HeardGood : Type 0
 HeardGood =
-    (e : Endpoint) → Sound e → (s : List ℕ) → ((i : ℕ) → getD s i 0 < 256) → (name format : List ℕ) (room : ℕ)
-    → Sound (receivedOf e s name format room .next)
+    (e : Endpoint) → Sound e → (s : List ℕ) → ((i : ℕ) → getD s i 0 < 256) → (pipe : Offer) (room : ℕ)
+    → Sound (receivedOf e s pipe room .next)

@@ -6,12 +6,13 @@ use mathlib.Core.Bool.{cond}
 use lib.Dec.{eqb}
 use Rattle.bytes_be.specs.Part.{partAt}
 use Rattle.control.specs.Frame.{ackRequest, typeOf}
+use Rattle.open.specs.Offer.{Offer}
 use Rattle.endpoint.specs.declared.Endpoint.{Endpoint}
 use Rattle.endpoint.specs.Record.{freshClient, freshServer, givenOf, givenNumber}
 use Rattle.receiving.specs.declared.Content.{Content}
 use Rattle.receiving.specs.declared.Content.the-variants.{Nothing, Opening, Body}
 use Rattle.receiving.specs.declared.Answer.{Answer}
-use Rattle.receiving.specs.declared.Answer.the-variants.{Heard, Refused}
+use Rattle.receiving.specs.declared.Answer.the-variants.{Heard, Stays, Closes}
 use Rattle.receiving.specs.declared.Reply.{Reply}
 use Rattle.receiving.specs.declared.Reply.the-variants.{Nothing as Reply·Nothing, Frame}
 use Rattle.receiving.specs.declared.Received.{Received}
@@ -69,12 +70,12 @@ pub record ReceiveOutcome (A : Type 0) : Type 0 where
 abbrev pub ignored : {A : Type 0} → ℕ → A → ReceiveOutcome A
 ignored number self = record { number = number; told = nothingTold; replied = []; next = self }
 
--- over the states A, with outputs O that have so much room; a message is received with the pipe name and the format on offer
+-- over the states A, with outputs O that have so much room; a message is received with an offer
 pub record Program (A O : Type 0) : Type 0 where
   pub room : O → ℕ
   pub make : A → Making → MakeOutcome A
   pub send : A → Call → O → SendOutcome A
-  pub receive : A → Queued → List ℕ → List ℕ → O → ReceiveOutcome A
+  pub receive : A → Queued → Offer → O → ReceiveOutcome A
 
 -- ---- the tables
 
@@ -92,7 +93,8 @@ toldOf s (Heard heard) =
       type-data = heard .«type_data»;
       body = bodyAt s (heard .content);
     }
-toldOf s (Refused number) = nothingTold
+toldOf s (Stays number) = nothingTold
+toldOf s (Closes number) = nothingTold
 
 -- the bundles of a reply
 abbrev pub replies : Reply → List (List ℕ)
@@ -124,5 +126,5 @@ tables =
       room = λ out. out;
       make = λ e making. madeOf e (freshBy making);
       send = λ e call out. record { number = sendOf e call out .number; bytes = written e call; next = sendOf e call out .next };
-      receive = λ e m name format out. outcomeOf (m .bytes) (receivedOf e (m .bytes) name format out);
+      receive = λ e m pipe out. outcomeOf (m .bytes) (receivedOf e (m .bytes) pipe out);
     }

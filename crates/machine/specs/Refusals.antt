@@ -1,32 +1,46 @@
 -- "Numbers 10..24 given by a receive set phase 5, clear n, W and the entries, and write the CLOSE reply .. All others change no byte."
-use Prim.Native.Nat.{ℕ, _≤_}
+use Prim.Native.Nat.{ℕ}
 use mathlib.Core.Path.{_≡_}
 use mathlib.Core.List.{List}
+use Rattle.open.specs.Offer.{Offer}
+use Rattle.message.specs.declared.Message.{Message}
+use Rattle.message.specs.declared.Reading.the-variants.{Read}
+use Rattle.message.specs.Reading.{readingOf, saidIn}
 use Rattle.endpoint.specs.declared.Endpoint.{Endpoint}
-use Rattle.receiving.specs.declared.Heard.{Heard}
-use Rattle.receiving.specs.declared.Answer.the-variants.{Heard as Answer·Heard}
-use Rattle.receiving.specs.declared.Reply.{Reply}
+use Rattle.receiving.specs.declared.Content.{Content}
+use Rattle.receiving.specs.declared.Answer.{Answer}
+use Rattle.receiving.specs.declared.Answer.the-variants.{Heard, Stays, Closes}
 use Rattle.receiving.specs.declared.Received.{Received}
-use Rattle.receiving.specs.Refusing.{refused, unchanged}
+use Rattle.receiving.specs.Hearing.{hearRow, accepted}
 use Rattle.receiving.specs.Receiving.{receivedOf}
+use Rattle.receiving.specs.Refusing.{closeCode, refused, unchanged}
 use Rattle.sending.specs.Calls.{Call}
 use Rattle.sending.specs.Sending.{unsent, sendOf}
 
--- the numbers of a receive that close, and the others
-abbrev pub Closing : ℕ → Type 0
-Closing number = (10 ≤ number) × (number ≤ 24)
+-- the type that the control byte of these bytes says, or 0 where none was read
+abbrev pub saidBy : List ℕ → ℕ
+saidBy s = saidIn (readingOf s)
 
-abbrev pub Staying : ℕ → Type 0
-Staying number = (1 ≤ number) × (number ≤ 3)
+-- a message that is heard was read, and accepted by its row
+pub record Hears (e : Endpoint) (s : List ℕ) (received : Received) : Type 0 where
+  pub message : Message
+  pub content : Content
+  pub read : readingOf s ≡ Read message
+  pub is : received ≡ accepted e message (hearRow e message) content
 
--- whatever a receive makes of bytes changes nothing, or closes with the reply that its number has, or hears a message
-pub data Outcome (e : Endpoint) : Received → Type 0 where
-  stays : (number : ℕ) → Staying number → Outcome e (unchanged e number)
-  closes : (number said : ℕ) → Closing number → Outcome e (refused e number said)
-  hears : (heard : Heard) (next : Endpoint) (reply : Reply) → Outcome e (record { answer = Answer·Heard heard; next = next; reply = reply })
+-- a number that closes has a row among the CLOSE codes, and its reply is by what the bytes say
+pub record ClosesBy (e : Endpoint) (s : List ℕ) (number : ℕ) (received : Received) : Type 0 where
+  pub coded : closeCode e number (saidBy s) ≡ 0 → ⊥
+  pub is : received ≡ refused e number (saidBy s)
 
-abbrev pub ReceiveComesTo : Type 0
-ReceiveComesTo = (e : Endpoint) (s name format : List ℕ) (room : ℕ) → Outcome e (receivedOf e s name format room)
+-- what an answer says is what was done
+abbrev pub DoesAs : Endpoint → List ℕ → Received → Answer → Type 0
+DoesAs e s received (Heard heard) = Hears e s received
+DoesAs e s received (Stays number) = received ≡ unchanged e number
+DoesAs e s received (Closes number) = ClosesBy e s number received
+
+abbrev pub ReceiveDoes : Type 0
+ReceiveDoes = (e : Endpoint) (s : List ℕ) (pipe : Offer) (room : ℕ) → DoesAs e s (receivedOf e s pipe room) (receivedOf e s pipe room .answer)
 
 -- and a send that is refused changes nothing
 abbrev pub RefusedSendStays : Type 0

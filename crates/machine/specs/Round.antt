@@ -12,6 +12,7 @@ use Rattle.control.specs.declared.MessageType.the-variants.{Open, Ready, Noop, 
 use Rattle.control.specs.Frame.{ackReply}
 use Rattle.double.specs.Limit.{mostLimit}
 use Rattle.terms.specs.Announced.{announcedLimit}
+use Rattle.open.specs.Offer.{Offer}
 use Rattle.open.specs.declared.Opening.{Opening}
 use Rattle.open.specs.Open.{offeredSocket}
 use Rattle.open_write.specs.Frame.{socketOf, limitStruct}
@@ -73,27 +74,29 @@ ReadsBack =
     → ReadBack e call
 
 -- whether an OPEN asks for what is offered to it: "pipe name or socket not the offered one", "format not empty and not the offered one"
-abbrev pub isOffered : Endpoint → Call → Endpoint → List ℕ → List ℕ → Bool
-isOffered e (OPEN name format) r offeredName offeredFormat =
-    same name offeredName && eqb (socketOf (e .flow)) (offeredSocket (r .flow)) && (eqb (length format) 0 || same format offeredFormat)
-isOffered e (READY count) r offeredName offeredFormat = true
-isOffered e (DATA type-data ask body) r offeredName offeredFormat = true
-isOffered e (NOOP type-data ask) r offeredName offeredFormat = true
-isOffered e (CLOSE code) r offeredName offeredFormat = true
+abbrev pub isOffered : Endpoint → Call → Endpoint → Offer → Bool
+isOffered e (OPEN asked) r pipe =
+    same (asked .name) (pipe .name)
+    && eqb (socketOf (e .flow)) (offeredSocket (r .flow))
+    && (eqb (length (asked .format)) 0 || same (asked .format) (pipe .format))
+isOffered e (READY count) r pipe = true
+isOffered e (DATA datum) r pipe = true
+isOffered e (NOOP type-data ask) r pipe = true
+isOffered e (CLOSE code) r pipe = true
 
 -- the other end may hear it: its row leads to this phase and n, it is not too large, and an OPEN asks for what is offered
-pub record MayHear (e : Endpoint) (call : Call) (r : Endpoint) (name format : List ℕ) (phase n : ℕ) : Type 0 where
+pub record MayHear (e : Endpoint) (call : Call) (r : Endpoint) (pipe : Offer) (phase n : ℕ) : Type 0 where
   pub leads : hearRow r (messageSent e call) ≡ To phase n
   pub small : tooLarge r (messageSent e call) ≡ false
-  pub offered : isOffered e call r name format ≡ true
+  pub offered : isOffered e call r pipe ≡ true
 
 -- an opening with the socket, name, format, parameters and limit that were sent
-pub record OpeningSent (e : Endpoint) (name format s : List ℕ) (content : Content) : Type 0 where
+pub record OpeningSent (e : Endpoint) (asked : Offer) (s : List ℕ) (content : Content) : Type 0 where
   pub opening : Opening
   pub is : content ≡ Content·Opening opening
   pub socket : opening .socket ≡ socketOf (e .flow)
-  pub named : partAt s (opening .name) ≡ name
-  pub formatted : partAt s (opening .format) ≡ format
+  pub named : partAt s (opening .name) ≡ asked .name
+  pub formatted : partAt s (opening .format) ≡ asked .format
   pub parametrized : partAt s (opening .parameters) ≡ cond (eqb (e .limit) mostLimit) [] (limitStruct (e .limit))
   pub announced : announcedLimit (opening .announced) ≡ e .limit
 
@@ -105,17 +108,17 @@ pub record BodySent (body s : List ℕ) (content : Content) : Type 0 where
 
 -- what is heard of a call in its bytes, beside type, flags and type-data
 abbrev pub ContentSent : Endpoint → Call → List ℕ → Content → Type 0
-ContentSent e (OPEN name format) s content = OpeningSent e name format s content
+ContentSent e (OPEN asked) s content = OpeningSent e asked s content
 ContentSent e (READY count) s content = content ≡ Nothing
-ContentSent e (DATA type-data ask body) s content = BodySent body s content
+ContentSent e (DATA datum) s content = BodySent (datum .body) s content
 ContentSent e (NOOP type-data ask) s content = content ≡ Nothing
 ContentSent e (CLOSE code) s content = content ≡ Nothing
 
 -- the other end after it: where the row leads to, and after an OPEN with the limit of the end that sent it
 abbrev pub afterHearing : Endpoint → Call → Endpoint → Endpoint
-afterHearing e (OPEN name format) moved = limited moved (e .limit)
+afterHearing e (OPEN asked) moved = limited moved (e .limit)
 afterHearing e (READY count) moved = moved
-afterHearing e (DATA type-data ask body) moved = moved
+afterHearing e (DATA datum) moved = moved
 afterHearing e (NOOP type-data ask) moved = moved
 afterHearing e (CLOSE code) moved = moved
 
@@ -124,10 +127,10 @@ abbrev pub confirmation : Call → Reply
 confirmation call = cond (askOf call) (Frame (messageOf call) ackReply (typeDataOf call)) Reply·Nothing
 
 -- a call is heard with its type, flags, type-data, data frames and content, and confirmed where it asks for that
-pub record HeardBack (e : Endpoint) (call : Call) (r : Endpoint) (name format : List ℕ) (phase n : ℕ) : Type 0 where
+pub record HeardBack (e : Endpoint) (call : Call) (r : Endpoint) (pipe : Offer) (phase n : ℕ) : Type 0 where
   pub content : Content
   pub carried : ContentSent e call (written e call) content
-  pub answered : hearOf r (written e call) name format .answer ≡
+  pub answered : hearOf r (written e call) pipe .answer ≡
       Heard
       (record {
         message = messageOf call;
@@ -136,15 +139,15 @@ pub record HeardBack (e : Endpoint) (call : Call) (r : Endpoint) (name format : 
         frames = length (dataFrames e call);
         content = content;
       })
-  pub after : hearOf r (written e call) name format .next ≡ afterHearing e call (atRow r phase n)
-  pub replied : hearOf r (written e call) name format .reply ≡ confirmation call
+  pub after : hearOf r (written e call) pipe .next ≡ afterHearing e call (atRow r phase n)
+  pub replied : hearOf r (written e call) pipe .reply ≡ confirmation call
 
 -- for every call that is accepted, and every end that may hear it
 abbrev pub HeardAsSent : Type 0
 HeardAsSent =
     (e : Endpoint) (call : Call) → Fits call → (room : ℕ) → sendOf e call room .number ≡ 0
-    → (r : Endpoint) (name format : List ℕ) (phase n : ℕ) → MayHear e call r name format phase n
-    → HeardBack e call r name format phase n
+    → (r : Endpoint) (pipe : Offer) (phase n : ℕ) → MayHear e call r pipe phase n
+    → HeardBack e call r pipe phase n
 
 -- the replies: the CLOSE of a refusal, with flags 0, and the confirmation of a NOOP or DATA, with flags 2
 abbrev pub isReply : MessageType → ℕ → Bool
@@ -163,8 +166,8 @@ RepliesReadBack =
 -- and a receive makes no other
 abbrev pub RepliesOnly : Type 0
 RepliesOnly =
-    (e : Endpoint) (s : List ℕ) → ((i : ℕ) → getD s i 0 < 256) → (name format : List ℕ) (room : ℕ) (message : MessageType) (flags type-data : ℕ)
-    → receivedOf e s name format room .reply ≡ Frame message flags type-data → (isReply message flags ≡ true) × (type-data < 256 ^ 2)
+    (e : Endpoint) (s : List ℕ) → ((i : ℕ) → getD s i 0 < 256) → (pipe : Offer) (room : ℕ) (message : MessageType) (flags type-data : ℕ)
+    → receivedOf e s pipe room .reply ≡ Frame message flags type-data → (isReply message flags ≡ true) × (type-data < 256 ^ 2)
 
 -- an end may hear a reply: its row leads to this phase and n, it is not too large, and a confirmation is that of the oldest entry
 pub record MayHearReply (message : MessageType) (flags type-data : ℕ) (r : Endpoint) (phase n : ℕ) : Type 0 where
@@ -176,8 +179,8 @@ pub record MayHearReply (message : MessageType) (flags type-data : ℕ) (r : End
 abbrev pub RepliesHeard : Type 0
 RepliesHeard =
     (message : MessageType) (flags type-data : ℕ) → isReply message flags ≡ true → type-data < 256 ^ 2
-    → (r : Endpoint) (name format : List ℕ) (phase n : ℕ) → MayHearReply message flags type-data r phase n
-    → hearOf r (replyBytes (Frame message flags type-data)) name format ≡
+    → (r : Endpoint) (pipe : Offer) (phase n : ℕ) → MayHearReply message flags type-data r phase n
+    → hearOf r (replyBytes (Frame message flags type-data)) pipe ≡
     record {
       answer = Heard (record { message = message; flags = flags; «type_data» = type-data; frames = 0; content = Nothing });
       next = cond (confirms message flags) (confirmed (atRow r phase n)) (atRow r phase n);

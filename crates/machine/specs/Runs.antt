@@ -3,14 +3,15 @@ use Prim.Native.Nat.{ℕ}
 use mathlib.Core.List.{List, [], _∷_, _++_, map}
 use mathlib.Core.Bool.{Bool, cond, _||_}
 use lib.Dec.{eqb}
+use Rattle.open.specs.Offer.{Offer}
 use Rattle.sending.specs.Calls.{Call}
 use Rattle.machine.specs.Programs.{Making, howOf, Queued, Told, nothingTold, Program}
 
--- an end is made, sends, or receives a message with this pipe name and format on offer
+-- an end is made, sends, or receives a message with this offer
 pub data Act (O : Type 0) : Type 0 where
   Makes : Making → Act O
   Sends : Call → O → Act O
-  Receives : Queued → List ℕ → List ℕ → O → Act O
+  Receives : Queued → Offer → O → Act O
 
 -- what comes of an act: its number, what is told, the messages that it wrote, and the state afterwards
 pub record Done (A : Type 0) : Type 0 where
@@ -38,19 +39,19 @@ module _ {A O : Type 0} (p : Program A O) where
         wrote = cond (eqb (p .send self call out .number) 0) (record { bytes = p .send self call out .bytes; how = howOf call } ∷ []) [];
         next = p .send self call out .next;
       }
-  doneBy self (Receives m name format out) =
+  doneBy self (Receives m pipe out) =
       record {
-        number = p .receive self m name format out .number;
-        told = p .receive self m name format out .told;
-        wrote = map asReply (p .receive self m name format out .replied);
-        next = p .receive self m name format out .next;
+        number = p .receive self m pipe out .number;
+        told = p .receive self m pipe out .told;
+        wrote = map asReply (p .receive self m pipe out .replied);
+        next = p .receive self m pipe out .next;
       }
 
   -- the message that an act takes
   abbrev pub takenBy : A → Act O → List Queued
   takenBy self (Makes making) = []
   takenBy self (Sends call out) = []
-  takenBy self (Receives m name format out) = cond (isKept (p .receive self m name format out .number)) [] (m ∷ [])
+  takenBy self (Receives m pipe out) = cond (isKept (p .receive self m pipe out .number)) [] (m ∷ [])
 
   -- the state that these acts leave
   abbrev pub leftIn : A → List (Act O) → A

@@ -32,9 +32,9 @@ dataCount Data = 1
 dataCount Close = 0
 
 carried-count : (m : Packet) → length (dataIn m) ≡ dataCount (rowMessage m)
-carried-count (Called e (OPEN name format)) = refl
+carried-count (Called e (OPEN asked)) = refl
 carried-count (Called e (READY count)) = refl
-carried-count (Called e (DATA type-data ask body)) = refl
+carried-count (Called e (DATA datum)) = refl
 carried-count (Called e (NOOP type-data ask)) = refl
 carried-count (Called e (CLOSE code)) = refl
 carried-count (Confirms message type-data) = refl

@@ -172,30 +172,30 @@ module _ {A O : Type 0} (prog : Program A O) (model : Model A) (laws : Laws prog
 
   -- "neither end refuses the other's message"
   head-answered : (end : End) (q : List Packet) → joint end .from-across ≡ q → (m : Queued) (rest : List Queued) → map queuedIn q ≡ m ∷ rest
-      → (name format : List ℕ) (out : O) → 14 ≤ prog .room out
-      → MayAnswer (seen (side w end)) (seen (side w (across end))) (m .bytes) name format
-      (prog .receive (side w end .self) m name format out .number)
-  head-answered end [] is m rest queued name format out enough = clash cc
-  head-answered end (packet ∷ q) is m rest queued name format out enough =
+      → (pipe : Offer) (out : O) → 14 ≤ prog .room out
+      → MayAnswer (seen (side w end)) (seen (side w (across end))) (m .bytes) pipe
+      (prog .receive (side w end .self) m pipe out .number)
+  head-answered end [] is m rest queued pipe out enough = clash cc
+  head-answered end (packet ∷ q) is m rest queued pipe out enough =
       subst Answers (first-of queued)
       (head-delivered prog model laws (holds .makings) end (side w end) (side w (across end)) (joint end .from-here) q packet
-      (rw is at (joint end .linked)) (joint end .fine) (joint end .fine-across) name format out enough .may)
+      (rw is at (joint end .linked)) (joint end .fine) (joint end .fine-across) pipe out enough .may)
     where
       Answers : Queued → Type 0
       Answers head =
-          MayAnswer (seen (side w end)) (seen (side w (across end))) (head .bytes) name format
-          (prog .receive (side w end .self) head name format out .number)
+          MayAnswer (seen (side w end)) (seen (side w (across end))) (head .bytes) pipe
+          (prog .receive (side w end .self) head pipe out .number)
 
       first-of : queuedIn packet ∷ map queuedIn q ≡ m ∷ rest → queuedIn packet ≡ m
       first-of same = cc
 
   -- 2, "output too short"
-  short-answered : (end : End) (m : Queued) (rest : List Queued) → side w (across end) .queue ≡ m ∷ rest → (name format : List ℕ) (out : O)
+  short-answered : (end : End) (m : Queued) (rest : List Queued) → side w (across end) .queue ≡ m ∷ rest → (pipe : Offer) (out : O)
       → prog .room out < 14
-      → (prog .receive (side w end .self) m name format out .number ≡ 2) × (step prog w (receives end name format out) ≡ w)
+      → (prog .receive (side w end .self) m pipe out .number ≡ 2) × (step prog w (receives end pipe out) ≡ w)
   unfolding step afterReceive
-  short-answered end m rest queued name format out few =
-      let short = laws .short (side w end .self) m name format out (joint end .fine) few in
+  short-answered end m rest queued pipe out few =
+      let short = laws .short (side w end .self) m pipe out (joint end .fine) few in
       let y : Side A = side w (across end) in
       let kept : withQueue y (m ∷ rest) ≡ y = ap (withQueue y) (sym queued) in
       (rw short refl, simp (queued, short, append-nil) (ap (joined end (side w end)) kept ∙ joined-sides w end))

@@ -183,7 +183,7 @@ module _ {A : Type 0} (makings : Makings) (model : Model A) where
   -- the confirmation of a proper packet is proper
   answers-proper : (prompt : MessageType → Bool) (end : End) (m : Packet) → Proper makings (model .rules) (across end) m
       → AllProper makings (model .rules) end (answersIn prompt m)
-  answers-proper prompt end (Called e (OPEN name format)) made = tt
+  answers-proper prompt end (Called e (OPEN asked)) made = tt
   answers-proper prompt end (Called e (READY count)) made = tt
   answers-proper prompt end (Called e (DATA type-data true body)) made = proper-if end (Confirms Data type-data) (prompt Data) (refl, made .fits)
   answers-proper prompt end (Called e (DATA type-data false body)) made = tt
@@ -252,7 +252,7 @@ module _ {A : Type 0} (makings : Makings) (model : Model A) where
             → (isOpenMessage (rowMessage m) ≡ true → producing end (x .self .flow) ≡ source makings)
             → (isOpenMessage (rowMessage m) ≡ false → Settled makings end (x .self))
             → (limitAfter m (x .self .limit) ≡ makings .limit) × (producing end (x .self .flow) ≡ source makings)
-        by-sort _ (an-open e asked wanted) made brings knows = (made .limited, brings refl)
+        by-sort _ (an-open e asked) made brings knows = (made .limited, brings refl)
         by-sort _ (another later offered stays) made brings knows = (stays (x .self .limit) ∙ knows later .limited, knows later .produced)
 
         agreed-on : (limitAfter m (x .self .limit) ≡ makings .limit) × (producing end (x .self .flow) ≡ source makings)

@@ -44,13 +44,13 @@ module _ {A B O P : Type 0} (prog : Program A O) (inner : Program B P) (load : A
         × (load (prog .send self call out .next) ≡ inner .send (load self) call (into out) .next)
     pub stays : (self : A) (call : Call) (out : O) → model .Fine (load self) → Fits call → (prog .send self call out .number ≡ 0 → ⊥)
         → prog .send self call out .next ≡ self
-    pub receives : (self : A) (m : Queued) (name format : List ℕ) (out : O) → model .Fine (load self) → 14 ≤ prog .room out
-        → model .Fine (inner .receive (load self) m name format (into out) .next)
-        → Alike load (prog .receive self m name format out) (inner .receive (load self) m name format (into out))
+    pub receives : (self : A) (m : Queued) (pipe : Offer) (out : O) → model .Fine (load self) → 14 ≤ prog .room out
+        → model .Fine (inner .receive (load self) m pipe (into out) .next)
+        → Alike load (prog .receive self m pipe out) (inner .receive (load self) m pipe (into out))
     -- 2 and 3 change nothing at all
-    pub ignores : (self : A) (m : Queued) (name format : List ℕ) (out : O) (number : ℕ) → (2 ≤ number) × (number ≤ 3)
-        → inner .receive (load self) m name format (into out) ≡ ignored number (load self)
-        → prog .receive self m name format out ≡ ignored number self
+    pub ignores : (self : A) (m : Queued) (pipe : Offer) (out : O) (number : ℕ) → (2 ≤ number) × (number ≤ 3)
+        → inner .receive (load self) m pipe (into out) ≡ ignored number (load self)
+        → prog .receive self m pipe out ≡ ignored number self
 
   module _ (follows : Follows) (laws : Laws inner model) where
     -- what is known of what is held is known of the state that holds it
@@ -103,10 +103,10 @@ module _ {A B O P : Type 0} (prog : Program A O) (inner : Program B P) (load : A
                 owes = λ line goes. due-held (λ dues. dues .owes line) (same .1) ∙ there .owes line goes;
               };
           stays = follows .stays;
-          hears = λ makings end self m name format out phase n rest fine enough may.
+          hears = λ makings end self m pipe out phase n rest fine enough may.
               let room : 14 ≤ inner .room (into out) = rw (← (follows .room out)) enough in
-              let there = laws .hears makings end (load self) m name format (into out) phase n rest fine room may in
-              let same = follows .receives self (queuedIn m) name format out fine enough (there .fine) in
+              let there = laws .hears makings end (load self) m pipe (into out) phase n rest fine room may in
+              let same = follows .receives self (queuedIn m) pipe out fine enough (there .fine) in
               record {
                 answered = same .number ∙ there .answered;
                 told = same .told ∙ there .told;
@@ -118,10 +118,10 @@ module _ {A B O P : Type 0} (prog : Program A O) (inner : Program B P) (load : A
                 balance = there .balance;
                 owes = λ line goes. due-held (λ dues. dues .owes line) (same .next) ∙ there .owes line goes;
               };
-          refuses = λ makings x y e asked wanted name format out fine enough may.
+          refuses = λ makings x y e asked pipe out fine enough may.
               let room : 14 ≤ inner .room (into out) = rw (← (follows .room out)) enough in
-              let there = laws .refuses makings (viewedSide load x) y e asked wanted name format (into out) fine room may in
-              let same = follows .receives (x .self) (queuedIn (Called e (OPEN asked wanted))) name format out fine enough (there .fine) in
+              let there = laws .refuses makings (viewedSide load x) y e asked pipe (into out) fine room may in
+              let same = follows .receives (x .self) (queuedIn (Called e (OPEN asked))) pipe out fine enough (there .fine) in
               record {
                 may = rw (same .number) (there .may);
                 refused = rw (same .number) (there .refused);
@@ -132,12 +132,12 @@ module _ {A B O P : Type 0} (prog : Program A O) (inner : Program B P) (load : A
                 fine = fine-held (same .next) (there .fine);
                 after = ap (model .view .endpoint) (same .next) ∙ there .after;
               };
-          late = λ self m name format out fine enough is-shut.
-              follows .ignores self m name format out 3 (omega arith, omega arith)
-              (laws .late (load self) m name format (into out) fine (rw (← (follows .room out)) enough) is-shut);
-          short = λ self m name format out fine few.
-              follows .ignores self m name format out 2 (omega arith, omega arith)
-              (laws .short (load self) m name format (into out) fine (rw (← (follows .room out)) few));
+          late = λ self m pipe out fine enough is-shut.
+              follows .ignores self m pipe out 3 (omega arith, omega arith)
+              (laws .late (load self) m pipe (into out) fine (rw (← (follows .room out)) enough) is-shut);
+          short = λ self m pipe out fine few.
+              follows .ignores self m pipe out 2 (omega arith, omega arith)
+              (laws .short (load self) m pipe (into out) fine (rw (← (follows .room out)) few));
           bounded = λ self. laws .bounded (load self);
           none = laws .none;
           sends = λ self call fine may fits out enough.

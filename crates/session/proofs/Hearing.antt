@@ -99,7 +99,7 @@ converge-if from end false sends converge = rw append-nil converge
 -- the confirmation of a packet is a quiet message
 answers-converge : (prompt : MessageType → Bool) (from end : End) {s : Stage} {a b : Standing} {p q : List Packet} (m : Packet)
     → Hears from end (At s) m a → Converge from end a p b q → Converge from end a (p ++ answersIn prompt m) b q
-answers-converge prompt from end (Called e (OPEN name format)) hears converge = rw append-nil converge
+answers-converge prompt from end (Called e (OPEN asked)) hears converge = rw append-nil converge
 answers-converge prompt from end (Called e (READY count)) hears converge = rw append-nil converge
 answers-converge prompt from end {s} (Called e (DATA type-data true body)) (moved {t = t} moving theirs leads) converge =
     let move = row-moved (roleOf (turn from (s .phase))) producer (s .phase) (s .n) Data type-data (t .phase) (t .n) leads in
@@ -144,16 +144,16 @@ clients-open (opens role begins) = omega (arith, role)
 
 module _ {A : Type 0} (makings : Makings) (model : Model A) where
   -- and so agrees on who produces
-  open-source : (end : End) (r : Endpoint) (m : Packet) → OpenOrOther m → (name format : List ℕ) {seen phase n next count : ℕ}
+  open-source : (end : End) (r : Endpoint) (m : Packet) → OpenOrOther m → (pipe : Offer) {seen phase n next count : ℕ}
       → Proper makings (model .rules) (across end) m → Moved (roleOf (across end)) seen phase n (rowMessage m) (typeDataIn m) next count
-      → offeredIn m r name format ≡ true → isOpenMessage (rowMessage m) ≡ true → producing end (r .flow) ≡ source makings
-  open-source Client r _ (an-open e asked wanted) name format made moves offers is = absurd (clients-open moves)
-  open-source Server r _ (an-open e asked wanted) name format made moves offers is =
+      → offeredIn m r pipe ≡ true → isOpenMessage (rowMessage m) ≡ true → producing end (r .flow) ≡ source makings
+  open-source Client r _ (an-open e asked) pipe made moves offers is = absurd (clients-open moves)
+  open-source Server r _ (an-open e asked) pipe made moves offers is =
       let all = both-true (same asked name && eqb (socketOf (e .flow)) (offeredSocket (r .flow)))
       (eqb (length wanted) 0 || same wanted format) offers in
       let pipe = both-true (same asked name) (eqb (socketOf (e .flow)) (offeredSocket (r .flow))) (all .0) in
       offered-source (r .flow) (e .flow) (eqb-true _ _ (pipe .1)) ∙ ap (producing Client) (made .flows)
-  open-source end r m (another later always stays) name format made moves offers is = clash cc
+  open-source end r m (another later always stays) pipe made moves offers is = clash cc
 
   module _ (nothing : (line : ℕ) → model .rules .pick line [] ≡ []) (end : End) (x y : Side Endpoint) (p q : List Packet) (m : Packet)
       (dues dues-across : Ledger) (linked : Linked makings (model .rules) end x y p (m ∷ q) dues dues-across) where
@@ -213,9 +213,9 @@ module _ {A : Type 0} (makings : Makings) (model : Model A) where
         data-limit : rowMessage m ≡ Data → e .limit ≡ makings .limit
         data-limit bears = linked .here .settled (hearer-knows end (ap isOpenMessage bears) moves) .limited
 
-        pub head-may : (name format : List ℕ) → offeredIn m e name format ≡ true
-            → MayTake (model .rules) makings end e dues m name format (phaseIn a) (nIn a) later
-        head-may name format offers =
+        pub head-may : (pipe : Offer) → offeredIn m e pipe ≡ true
+            → MayTake (model .rules) makings end e dues m pipe (phaseIn a) (nIn a) later
+        head-may pipe offers =
             record {
               sound = linked .here .sound;
               proper = linked .there .proper .0;
@@ -228,14 +228,14 @@ module _ {A : Type 0} (makings : Makings) (model : Model A) where
 
         -- a packet that was heard
         pub heard-linked : (result : ReceiveOutcome A) → HeardOn model e dues m (phaseIn a) (nIn a) later result
-            → (name format : List ℕ) → offeredIn m e name format ≡ true → Converge (source makings) end a p (standing y) q
+            → (pipe : Offer) → offeredIn m e pipe ≡ true → Converge (source makings) end a p (standing y) q
             → Linked makings (model .rules) end (tookIn (model .rules .prompt) end x m (model .view .endpoint (result .next))) (withQueue y (map queuedIn q))
             (p ++ answersIn (model .rules .prompt) m) q (model .view .ledger (result .next)) dues-across
-        heard-linked result taken name format offers converge =
+        heard-linked result taken pipe offers converge =
             let comes = taken .comes in
             let next : Endpoint = model .view .endpoint (result .next) in
             let answers : List Packet = answersIn (model .rules .prompt) m in
-            let produces = open-source end e m (open-or-other m) name format (linked .there .proper .0) moves offers in
+            let produces = open-source end e m (open-or-other m) pipe (linked .there .proper .0) moves offers in
             let after = hearer-stands (source makings) end stage m a next hears (comes .phased) (comes .counted) in
             record {
               here = heard-sides makings model end x p (linked .here) m (phaseIn a) (nIn a) next (linked .there .proper .0) moves produces comes;
@@ -317,7 +317,7 @@ record NotedAs (m : Packet) : Type 0 where
   ends : (replied : List Queued) (before : Ending) → endedAfter 0 (toldIn m) replied before ≡ endedBy HeardClose (rowMessage m) before
 
 called-noted : (e : Endpoint) (call : Call) → NotedAs (Called e call)
-called-noted e (OPEN name format) = record { carries = refl; readies = refl; ends = λ replied before. refl }
+called-noted e (OPEN asked) = record { carries = refl; readies = refl; ends = λ replied before. refl }
 called-noted e (READY count) = record { carries = refl; readies = refl; ends = λ replied before. refl }
 called-noted e (DATA type-data true body) = record { carries = refl; readies = refl; ends = λ replied before. refl }
 called-noted e (DATA type-data false body) = record { carries = refl; readies = refl; ends = λ replied before. refl }

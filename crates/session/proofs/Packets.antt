@@ -42,18 +42,18 @@ isOpenMessage Data = false
 isOpenMessage Close = false
 
 pub data OpenOrOther : Packet → Type 0 where
-  an-open : (e : Endpoint) (asked wanted : List ℕ) → OpenOrOther (Called e (OPEN asked wanted))
-  another : {m : Packet} → isOpenMessage (rowMessage m) ≡ false → ((r : Endpoint) (name format : List ℕ) → offeredIn m r name format ≡ true)
+  an-open : (e : Endpoint) (asked : Offer) → OpenOrOther (Called e (OPEN asked))
+  another : {m : Packet} → isOpenMessage (rowMessage m) ≡ false → ((r : Endpoint) (pipe : Offer) → offeredIn m r pipe ≡ true)
       → ((limit : ℕ) → limitAfter m limit ≡ limit) → OpenOrOther m
 
 pub open-or-other : (m : Packet) → OpenOrOther m
-open-or-other (Called e (OPEN name format)) = an-open e name format
-open-or-other (Called e (READY count)) = another refl (λ r name format. refl) (λ limit. refl)
-open-or-other (Called e (DATA type-data ask body)) = another refl (λ r name format. refl) (λ limit. refl)
-open-or-other (Called e (NOOP type-data ask)) = another refl (λ r name format. refl) (λ limit. refl)
-open-or-other (Called e (CLOSE code)) = another refl (λ r name format. refl) (λ limit. refl)
-open-or-other (Confirms message type-data) = another refl (λ r name format. refl) (λ limit. refl)
-open-or-other (Closes code) = another refl (λ r name format. refl) (λ limit. refl)
+open-or-other (Called e (OPEN asked)) = an-open e pipe
+open-or-other (Called e (READY count)) = another refl (λ r pipe. refl) (λ limit. refl)
+open-or-other (Called e (DATA datum)) = another refl (λ r pipe. refl) (λ limit. refl)
+open-or-other (Called e (NOOP type-data ask)) = another refl (λ r pipe. refl) (λ limit. refl)
+open-or-other (Called e (CLOSE code)) = another refl (λ r pipe. refl) (λ limit. refl)
+open-or-other (Confirms message type-data) = another refl (λ r pipe. refl) (λ limit. refl)
+open-or-other (Closes code) = another refl (λ r pipe. refl) (λ limit. refl)
 
 -- ---- where a row leads
 
@@ -143,9 +143,9 @@ module _ (e after : Endpoint) (phase n limit : ℕ) (comes : Comes e phase n lim
 -- what leads to phase 5 is a CLOSE, which asks for nothing
 shut-asks : (call : Call) {next count : ℕ} → Landed (messageOf call) next count → next ≡ shut
     → cond (askOf call) (entryFor (messageOf call) (typeDataOf call) ∷ []) [] ≡ []
-shut-asks (OPEN name format) landed is-shut = refl
+shut-asks (OPEN asked) landed is-shut = refl
 shut-asks (READY count) landed is-shut = refl
-shut-asks (DATA type-data ask body) (goes-on stays low) is-shut = absurd (omega (arith, is-shut, low))
+shut-asks (DATA datum) (goes-on stays low) is-shut = absurd (omega (arith, is-shut, low))
 shut-asks (NOOP type-data ask) (goes-on stays low) is-shut = absurd (omega (arith, is-shut, low))
 shut-asks (CLOSE code) landed is-shut = refl
 

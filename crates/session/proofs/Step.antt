@@ -27,10 +27,10 @@ use Rattle.session.proofs.Link.{across-linked, sent-linked}
 use Rattle.session.proofs.Hearing.{leads, clients-open, moves, head-may, heard-linked, refused-linked, late-linked, heard-noted, refused-noted}
 
 -- what an end may answer to a message takes it from its queue
-answer-takes : {x y : Side Endpoint} {s name format : List ℕ} {number : ℕ} → MayAnswer x y s name format number → isKept number ≡ false
+answer-takes : {x y : Side Endpoint} {s pipe : List ℕ} {number : ℕ} → MayAnswer x y s pipe number → isKept number ≡ false
 answer-takes heard = refl
-answer-takes (other-pipe asked wanted as-written differs) = refl
-answer-takes (other-format asked wanted as-written differs) = refl
+answer-takes (other-pipe asked as-written differs) = refl
+answer-takes (other-format asked as-written differs) = refl
 answer-takes (after-own-close wrote) = refl
 
 gone-hears : (from end : End) {m : Packet} {a : Standing} → Hears from end ClosedByItself m a → a ≡ ClosedByItself
@@ -67,18 +67,18 @@ module _ {A O : Type 0} (prog : Program A O) (model : Model A) (laws : Laws prog
     LinkedAs end x y p q = Linked makings (model .rules) end (seen x) (seen y) p q (model .view .ledger (x .self)) (model .view .ledger (y .self))
 
     -- the head of a queue is heard, refused as an OPEN for what is not offered, or passed over after an own close
-    pub record Delivered (end : End) (x y : Side A) (m : Packet) (q : List Packet) (name format : List ℕ) (out : O) : Type 0 where
-      pub may : MayAnswer (seen x) (seen y) (bytesIn m) name format (prog .receive (x .self) (queuedIn m) name format out .number)
-      pub delivered : Joint makings model end (acted prog end x (Receives (queuedIn m) name format out)) (withQueue y (map queuedIn q))
+    pub record Delivered (end : End) (x y : Side A) (m : Packet) (q : List Packet) (pipe : Offer) (out : O) : Type 0 where
+      pub may : MayAnswer (seen x) (seen y) (bytesIn m) pipe (prog .receive (x .self) (queuedIn m) pipe out .number)
+      pub delivered : Joint makings model end (acted prog end x (Receives (queuedIn m) pipe out)) (withQueue y (map queuedIn q))
 
     module _ (end : End) (x y : Side A) (p q : List Packet) (m : Packet) (linked : LinkedAs end x y p (m ∷ q)) (fine : model .Fine (x .self))
-        (fine-across : model .Fine (y .self)) (name format : List ℕ) (out : O) (enough : 14 ≤ prog .room out) where
+        (fine-across : model .Fine (y .self)) (pipe : Offer) (out : O) (enough : 14 ≤ prog .room out) where
       abbrev result : ReceiveOutcome A
-      result = prog .receive (x .self) (queuedIn m) name format out
+      result = prog .receive (x .self) (queuedIn m) pipe out
 
       -- an OPEN for what is not offered
-      refused-delivered : x .past .ending ≡ Going → kindOf (rowMessage m) ≡ Moves → OpenRefused model (seen x) (seen y) (bytesIn m) name format result
-          → Delivered end x y m q name format out
+      refused-delivered : x .past .ending ≡ Going → kindOf (rowMessage m) ≡ Moves → OpenRefused model (seen x) (seen y) (bytesIn m) pipe result
+          → Delivered end x y m q pipe out
       refused-delivered going moving refusal =
           let noted = refused-noted model end x m result (refusal .code) (refusal .refused) (refusal .told) (refusal .replied) in
           record {
@@ -96,11 +96,11 @@ module _ {A O : Type 0} (prog : Program A O) (model : Model A) (laws : Laws prog
           }
 
       heard-delivered : x .past .ending ≡ Going → (a : Standing) → Hears (source makings) end (At (stageOf (seen x .self))) m a
-          → Converge (source makings) end a p (standing (seen y)) q → offeredIn m (seen x .self) name format ≡ true
-          → Delivered end x y m q name format out
+          → Converge (source makings) end a p (standing (seen y)) q → offeredIn m (seen x .self) pipe ≡ true
+          → Delivered end x y m q pipe out
       heard-delivered going a hears converge offers =
-          let may = head-may makings model (laws .none) end (seen x) (seen y) p q m _ _ linked going a hears name format offers in
-          let taken = laws .hears makings end (x .self) m name format out (phaseIn a) (nIn a) _ fine enough may in
+          let may = head-may makings model (laws .none) end (seen x) (seen y) p q m _ _ linked going a hears pipe offers in
+          let taken = laws .hears makings end (x .self) m pipe out (phaseIn a) (nIn a) _ fine enough may in
           let noted = heard-noted model end x m result makings (linked .there .proper .0) (taken .answered) (taken .told) (taken .replied) going in
           record {
             may = rw (taken .answered) heard;
@@ -110,17 +110,17 @@ module _ {A O : Type 0} (prog : Program A O) (model : Model A) (laws : Laws prog
                   from-across = q;
                   linked =
                       rw noted
-                      (heard-linked makings model (laws .none) end (seen x) (seen y) p q m _ _ linked going a hears result taken name format offers converge);
+                      (heard-linked makings model (laws .none) end (seen x) (seen y) p q m _ _ linked going a hears result taken pipe offers converge);
                   fine = taken .fine;
                   fine-across = fine-across;
                 };
           }
 
       late-delivered : x .past .ending ≡ WroteClose → (a : Standing) → a ≡ ClosedByItself → Converge (source makings) end a p (standing (seen y)) q
-          → Delivered end x y m q name format out
+          → Delivered end x y m q pipe out
       late-delivered wrote a gone converge =
           let is-shut : seen x .self .phase ≡ shut = subst (λ (ending : Ending). PhaseFits ending (seen x .self .phase)) wrote (linked .here .ends) in
-          let passed = laws .late (x .self) (queuedIn m) name format out fine enough is-shut in
+          let passed = laws .late (x .self) (queuedIn m) pipe out fine enough is-shut in
           record {
             may = rw passed (after-own-close wrote);
             delivered =
@@ -137,14 +137,14 @@ module _ {A O : Type 0} (prog : Program A O) (model : Model A) (laws : Laws prog
 
     -- a packet that is not offered is an OPEN to a server
     unoffered-delivered : (end : End) (x y : Side A) (p q : List Packet) (m : Packet) → OpenOrOther m
-        → (linked : LinkedAs end x y p (m ∷ q)) (fine : model .Fine (x .self)) (fine-across : model .Fine (y .self)) (name format : List ℕ) (out : O)
+        → (linked : LinkedAs end x y p (m ∷ q)) (fine : model .Fine (x .self)) (fine-across : model .Fine (y .self)) (pipe : Offer) (out : O)
         → 14 ≤ prog .room out → (going : x .past .ending ≡ Going) → (a : Standing) → Hears (source makings) end (At (stageOf (seen x .self))) m a
-        → offeredIn m (seen x .self) name format ≡ false → Delivered end x y m q name format out
-    unoffered-delivered Client x y p q m (an-open e asked wanted) linked fine fine-across name format out enough going a hears differs =
+        → offeredIn m (seen x .self) pipe ≡ false → Delivered end x y m q pipe out
+    unoffered-delivered Client x y p q m (an-open e asked) linked fine fine-across pipe out enough going a hears differs =
         absurd (clients-open (moves makings model (laws .none) Client (seen x) (seen y) p q m _ _ linked going a hears))
-    unoffered-delivered Server x y p q m (an-open e asked wanted) linked fine fine-across name format out enough going a hears differs =
-        refused-delivered Server x y p q m linked fine fine-across name format out enough going refl
-        (laws .refuses makings x (seen y) e asked wanted name format out fine enough
+    unoffered-delivered Server x y p q m (an-open e asked) linked fine fine-across pipe out enough going a hears differs =
+        refused-delivered Server x y p q m linked fine fine-across pipe out enough going refl
+        (laws .refuses makings x (seen y) e asked pipe out fine enough
         (record {
           sound = linked .here .sound;
           serves = linked .here .role;
@@ -156,46 +156,46 @@ module _ {A O : Type 0} (prog : Program A O) (model : Model A) (laws : Laws prog
           leads = rw (linked .here .role) (leads makings model (laws .none) Server (seen x) (seen y) p q m _ _ linked going a hears);
           differs = differs;
         }))
-    unoffered-delivered end x y p q m (another later always stays) linked fine fine-across name format out enough going a hears differs =
-        let both : true ≡ false = sym (always (seen x .self) name format) ∙ differs in
+    unoffered-delivered end x y p q m (another later always stays) linked fine fine-across pipe out enough going a hears differs =
+        let both : true ≡ false = sym (always (seen x .self) pipe) ∙ differs in
         clash cc
 
     module _ (end : End) (x y : Side A) (p q : List Packet) (m : Packet) (linked : LinkedAs end x y p (m ∷ q)) (fine : model .Fine (x .self))
-        (fine-across : model .Fine (y .self)) (name format : List ℕ) (out : O) (enough : 14 ≤ prog .room out) where
-      pub head-delivered : Delivered end x y m q name format out
+        (fine-across : model .Fine (y .self)) (pipe : Offer) (out : O) (enough : 14 ≤ prog .room out) where
+      pub head-delivered : Delivered end x y m q pipe out
       head-delivered =
           let step = hears-converge (source makings) end (linked .converge) in
           by-ending (x .past .ending) refl (step .0) (step .1) (step .2)
         where
           by-offer : x .past .ending ≡ Going → (a : Standing) → Hears (source makings) end (At (stageOf (seen x .self))) m a
               → Converge (source makings) end a p (standing (seen y)) q
-              → (t : Bool) → offeredIn m (seen x .self) name format ≡ t → Delivered end x y m q name format out
+              → (t : Bool) → offeredIn m (seen x .self) pipe ≡ t → Delivered end x y m q pipe out
           by-offer going a hears converge true offers =
-              heard-delivered end x y p q m linked fine fine-across name format out enough going a hears converge offers
+              heard-delivered end x y p q m linked fine fine-across pipe out enough going a hears converge offers
           by-offer going a hears converge false differs =
-              unoffered-delivered end x y p q m (open-or-other m) linked fine fine-across name format out enough going a hears differs
+              unoffered-delivered end x y p q m (open-or-other m) linked fine fine-across pipe out enough going a hears differs
 
           by-ending : (ending : Ending) → x .past .ending ≡ ending → (a : Standing) → Hears (source makings) end (stands ending (seen x .self)) m a
-              → Converge (source makings) end a p (standing (seen y)) q → Delivered end x y m q name format out
-          by-ending Going going a hears converge = by-offer going a hears converge (offeredIn m (seen x .self) name format) refl
+              → Converge (source makings) end a p (standing (seen y)) q → Delivered end x y m q pipe out
+          by-ending Going going a hears converge = by-offer going a hears converge (offeredIn m (seen x .self) pipe) refl
           by-ending HeardClose shut-down a hears converge = absurd (shut-hears (source makings) hears)
           by-ending WroteClose wrote a hears converge =
-              late-delivered end x y p q m linked fine fine-across name format out enough wrote a (gone-hears (source makings) end hears) converge
+              late-delivered end x y p q m linked fine fine-across pipe out enough wrote a (gone-hears (source makings) end hears) converge
 
     -- the queue of y, as the packets that it holds, is received by x
     received-keeps : (end : End) (x y : Side A) (p q : List Packet) → y .queue ≡ map queuedIn q → LinkedAs end x y p q → model .Fine (x .self)
-        → model .Fine (y .self) → (name format : List ℕ) (out : O) → Invariant model (afterReceive prog end x y (map queuedIn q) name format out)
+        → model .Fine (y .self) → (pipe : Offer) (out : O) → Invariant model (afterReceive prog end x y (map queuedIn q) pipe out)
     unfolding afterReceive
-    received-keeps end x y p [] queued linked fine fine-across name format out =
+    received-keeps end x y p [] queued linked fine fine-across pipe out =
         seen-as makings model end x y (record { from-here = p; from-across = []; linked = linked; fine = fine; fine-across = fine-across })
-    received-keeps end x y p (m ∷ q) queued linked fine fine-across name format out = go (ltb (prog .room out) 14) refl
+    received-keeps end x y p (m ∷ q) queued linked fine fine-across pipe out = go (ltb (prog .room out) 14) refl
       where
-        go : (t : Bool) → ltb (prog .room out) 14 ≡ t → Invariant model (afterReceive prog end x y (map queuedIn (m ∷ q)) name format out)
+        go : (t : Bool) → ltb (prog .room out) 14 ≡ t → Invariant model (afterReceive prog end x y (map queuedIn (m ∷ q)) pipe out)
         go true short =
-            simp (laws .short (x .self) (queuedIn m) name format out fine (ltb-true _ _ short), append-nil, ← queued)
+            simp (laws .short (x .self) (queuedIn m) pipe out fine (ltb-true _ _ short), append-nil, ← queued)
             (seen-as makings model end x y (record { from-here = p; from-across = m ∷ q; linked = linked; fine = fine; fine-across = fine-across }))
         go false room =
-            let head = head-delivered end x y p q m linked fine fine-across name format out (ltb-false _ _ room) in
+            let head = head-delivered end x y p q m linked fine fine-across pipe out (ltb-false _ _ room) in
             rw (answer-takes (head .may)) (seen-as makings model end _ _ (head .delivered))
 
     -- a send, accepted or refused
@@ -246,9 +246,9 @@ step-keeps A O prog model laws w (sends end call out) fits holds =
     let joint = seen-from end w holds in
     sent-keeps prog model laws (holds .makings) end (side w end) (side w (across end)) (joint .from-here) (joint .from-across) (joint .linked)
     (joint .fine) (joint .fine-across) call out fits
-step-keeps A O prog model laws w (receives end name format out) fits holds =
+step-keeps A O prog model laws w (receives end pipe out) fits holds =
     let joint = seen-from end w holds in
     rw (joint .linked .there .queued)
     (received-keeps prog model laws (holds .makings) end (side w end) (side w (across end)) (joint .from-here) (joint .from-across)
-    (joint .linked .there .queued) (joint .linked) (joint .fine) (joint .fine-across) name format out)
+    (joint .linked .there .queued) (joint .linked) (joint .fine) (joint .fine-across) pipe out)
 step-keeps A O prog model laws w (makes makings) fits holds = made-keeps prog model laws makings w fits

@@ -56,17 +56,17 @@ both-fail : (a b : Bool) → a || b ≡ false → not a && not b ≡ true
 both-fail true b fails = clash cc
 both-fail false b fails = simp fails
 
-module _ (flow : ℕ) (name format : List ℕ) (opening : Opening) (serverFlow : ℕ) (offeredName offeredFormat : List ℕ) where
+module _ (flow : ℕ) (pipe : Offer) (opening : Opening) (serverFlow : ℕ) (pipe : List ℕ) where
   -- 21 for another name or socket
   pipe-refused : same name offeredName && eqb (socketOf flow) (offeredSocket serverFlow) ≡ false
-      → answerTo flow name format opening serverFlow offeredName offeredFormat ≡ OpenFrame·Refused OtherPipe
+      → answerTo flow pipe opening serverFlow pipe ≡ OpenFrame·Refused OtherPipe
   unfolding answerTo
   pipe-refused differs = simp (either-fails (same name offeredName) (eqb (socketOf flow) (offeredSocket serverFlow)) differs)
 
   -- 22 for another format
   format-refused : same name offeredName && eqb (socketOf flow) (offeredSocket serverFlow) ≡ true
       → eqb (length format) 0 || same format offeredFormat ≡ false
-      → answerTo flow name format opening serverFlow offeredName offeredFormat ≡ OpenFrame·Refused OtherFormat
+      → answerTo flow pipe opening serverFlow pipe ≡ OpenFrame·Refused OtherFormat
   unfolding answerTo
   format-refused agrees differs =
       let pipe = both-true (same name offeredName) (eqb (socketOf flow) (offeredSocket serverFlow)) agrees in
@@ -74,38 +74,38 @@ module _ (flow : ℕ) (name format : List ℕ) (opening : Opening) (serverFlow :
 
 -- ---- what a server does
 
-module _ (makings : Makings) (x y : Side Endpoint) (e : Endpoint) (asked wanted : List ℕ) (name format : List ℕ)
-    (refusable : MayRefuse (onRecords .rules) makings x y e asked wanted name format) where
+module _ (makings : Makings) (x y : Side Endpoint) (e : Endpoint) (asked : Offer) (pipe : Offer)
+    (refusable : MayRefuse (onRecords .rules) makings x y e asked pipe) where
   abbrev r : Endpoint
   r = x .self
 
   abbrev s : List ℕ
-  s = written e (OPEN asked wanted)
+  s = written e (OPEN asked)
 
   -- what refuses the frame refuses the message
   frame-refused : (refusal : Refusal)
-      → ((opening : Opening) → answerTo (e .flow) asked wanted opening (r .flow) name format ≡ OpenFrame·Refused refusal)
-      → hearOf r s name format ≡ refused r (openNumber (OpenFrame·Refused refusal)) 1
+      → ((opening : Opening) → answerTo (e .flow) asked opening (r .flow) pipe ≡ OpenFrame·Refused refusal)
+      → hearOf r s pipe ≡ refused r (openNumber (OpenFrame·Refused refusal)) 1
   unfolding hearOf hearMessage carriedBy openAt
   frame-refused refusal answers =
-      let call = OPEN asked wanted in
+      let call = OPEN asked in
       let made = refusable .accepted in
       let passed = accepted-passed e (outgoing e call) (made .accepted .room) (made .accepted .accepted) in
       let back = reads-back e call (made .fits) (made .accepted .room) (made .accepted .accepted) in
-      let given = not-false (isGood asked wanted) (passed .given) in
-      let read = read-back (e .flow) asked wanted (e .limit) given (good-told e (passed .is-good) .bounded) s 18 (back .framed) in
-      let heard = read .heard (r .flow) name format ∙ answers (read .opening) in
+      let given = not-false (isGood asked) (passed .given) in
+      let read = read-back (e .flow) asked (e .limit) given (good-told e (passed .is-good) .bounded) s 18 (back .framed) in
+      let heard = read .heard (r .flow) pipe ∙ answers (read .opening) in
       let small = call-small r (refusable .sound) e call (passed .within) (passed .given) (λ bears. clash cc) in
       let leads = call-leads e call r (refusable .phase) (refusable .n) (refusable .leads) in
       let alive = row-alive (other (r .role)) (other (r .flow)) (r .phase) (r .n) Open 0 (refusable .phase) (refusable .n) (refusable .leads) in
       simp (alive, back .read, small, leads, heard)
 
   abbrev pub RefusedBy : Type 0
-  RefusedBy = OpenRefused onRecords x y s name format (outcomeOf s (hearOf r s name format))
+  RefusedBy = OpenRefused onRecords x y s pipe (outcomeOf s (hearOf r s pipe))
 
   -- and then it closes, and says so
-  closes-by : (number code : ℕ) → hearOf r s name format ≡ refused r number 1 → eqb number 0 ≡ false → silent r number 1 ≡ false
-      → closeCode r number 1 ≡ code → code < 256 ^ 2 → MayAnswer x y s name format number → RefusedBy
+  closes-by : (number code : ℕ) → hearOf r s pipe ≡ refused r number 1 → eqb number 0 ≡ false → silent r number 1 ≡ false
+      → closeCode r number 1 ≡ code → code < 256 ^ 2 → MayAnswer x y s pipe number → RefusedBy
   unfolding refused
   closes-by number code heard differs speaks coded small may =
       record {
@@ -120,7 +120,7 @@ module _ (makings : Makings) (x y : Side Endpoint) (e : Endpoint) (asked wanted 
       }
 
   -- the bytes are those of the writer as it is now, which has the flow and the limit that it had
-  as-written : s ≡ written (y .self) (OPEN asked wanted)
+  as-written : s ≡ written (y .self) (OPEN asked)
   as-written = rw (refusable .same-flow, refusable .same-limit) refl
 
   pub open-refused : RefusedBy
@@ -131,27 +131,27 @@ module _ (makings : Makings) (x y : Side Endpoint) (e : Endpoint) (asked wanted 
       go true agrees =
           let format-differs : eqb (length wanted) 0 || same wanted format ≡ false = simp agrees at (refusable .differs) in
           closes-by 22 103
-          (frame-refused OtherFormat (λ opening. format-refused (e .flow) asked wanted opening (r .flow) name format agrees format-differs))
+          (frame-refused OtherFormat (λ opening. format-refused (e .flow) asked opening (r .flow) pipe agrees format-differs))
           refl (simp (refusable .serves)) refl (lit< tt)
-          (other-format asked wanted as-written format-differs)
+          (other-format asked as-written format-differs)
       go false pipe-differs =
           closes-by 21 100
-          (frame-refused OtherPipe (λ opening. pipe-refused (e .flow) asked wanted opening (r .flow) name format pipe-differs))
+          (frame-refused OtherPipe (λ opening. pipe-refused (e .flow) asked opening (r .flow) pipe pipe-differs))
           refl (simp (refusable .serves)) refl (lit< tt)
-          (other-pipe asked wanted as-written (rw (refusable .same-flow) pipe-differs))
+          (other-pipe asked as-written (rw (refusable .same-flow) pipe-differs))
 
 -- a receive of a good record hears the message, or has no room for a reply
-module _ (e : Endpoint) (sound : Sound e) (s name format : List ℕ) (room : ℕ) where
-  received-heard : 14 ≤ room → receivedOf e s name format room ≡ hearOf e s name format
+module _ (e : Endpoint) (sound : Sound e) (s : List ℕ) (pipe : Offer) (room : ℕ) where
+  received-heard : 14 ≤ room → receivedOf e s pipe room ≡ hearOf e s pipe
   unfolding receivedOf
   received-heard enough = simp (sound .is-good, le-ltb room 14 enough)
 
-  received-short : room < 14 → receivedOf e s name format room ≡ unchanged e 2
+  received-short : room < 14 → receivedOf e s pipe room ≡ unchanged e 2
   unfolding receivedOf
   received-short short = simp (sound .is-good, lt-ltb room 14 short)
 
   -- a closed end changes nothing, and what it answers is 3
-  received-late : 14 ≤ room → e .phase ≡ shut → receivedOf e s name format room ≡ unchanged e 3
+  received-late : 14 ≤ room → e .phase ≡ shut → receivedOf e s pipe room ≡ unchanged e 3
   unfolding hearOf
   received-late enough is-shut = received-heard enough ∙ simp (eq-eqb (e .phase) shut is-shut)
 
@@ -196,18 +196,18 @@ tables-laws =
           record { given = accepted-given _ accepts; holds = rw accepts refl; none-due = rw accepts (fresh-due making) };
       moves = λ e call room sound fits number. sent-on e call room sound fits number;
       stays = λ e call room sound fits refused. ap (λ (s : Sent). s .next) (refused-send-stays e call room refused);
-      hears = λ makings end e m name format room phase n rest sound enough may.
+      hears = λ makings end e m pipe room phase n rest sound enough may.
           subst (λ (received : Received). HeardOn onRecords e (promptLedger e) m phase n rest (outcomeOf (bytesIn m) received))
-          (sym (received-heard e (may .sound) (bytesIn m) name format room enough))
-          (packet-taken makings end e name format phase n rest m may);
-      refuses = λ makings x y e asked wanted name format room sound enough may.
-          let s : List ℕ = written e (OPEN asked wanted) in
-          subst (λ (received : Received). OpenRefused onRecords x y s name format (outcomeOf s received))
-          (sym (received-heard (x .self) (may .sound) s name format room enough))
-          (open-refused makings x y e asked wanted name format may);
-      late = λ e m name format room sound enough is-shut.
-          ap (outcomeOf (m .bytes)) (received-late e sound (m .bytes) name format room enough is-shut);
-      short = λ e m name format room sound short. ap (outcomeOf (m .bytes)) (received-short e sound (m .bytes) name format room short);
+          (sym (received-heard e (may .sound) (bytesIn m) pipe room enough))
+          (packet-taken makings end e pipe phase n rest m may);
+      refuses = λ makings x y e asked pipe room sound enough may.
+          let s : List ℕ = written e (OPEN asked) in
+          subst (λ (received : Received). OpenRefused onRecords x y s pipe (outcomeOf s received))
+          (sym (received-heard (x .self) (may .sound) s pipe room enough))
+          (open-refused makings x y e asked pipe may);
+      late = λ e m pipe room sound enough is-shut.
+          ap (outcomeOf (m .bytes)) (received-late e sound (m .bytes) pipe room enough is-shut);
+      short = λ e m pipe room sound short. ap (outcomeOf (m .bytes)) (received-short e sound (m .bytes) pipe room short);
       bounded = λ e sound line. omega (arith, good-told e (sound .is-good) .waits, length-tabulate (entryAt (e .entries)) 0 (e .w));
       none = λ line. refl;
       sends = λ e call sound may fits room enough. (may-sent e call may fits room enough, refl);

@@ -63,12 +63,12 @@ module _ (r : Endpoint) (sound : Sound r) where
   pub call-small : (e : Endpoint) (call : Call) → aboveLimit e call ≡ false → misgiven call ≡ false
       → (messageOf call ≡ Data → r .limit ≡ e .limit) → tooLarge r (messageSent e call) ≡ false
   unfolding tooLarge
-  call-small e (OPEN name format) within given same =
-      let short = frame-short (e .flow) name format (e .limit) (not-false (isGood name format) given) in
-      let frame : ℕ = length (frameFor (e .flow) name format (e .limit)) in
+  call-small e (OPEN asked) within given same =
+      let short = frame-short (e .flow) pipe (e .limit) (not-false (isGood pipe) given) in
+      let frame : ℕ = length (frameFor (e .flow) pipe (e .limit)) in
       simp (le-ltb (r .limit) (8 + frame) (omega (arith, limit-least)), le-ltb 4096 frame (omega arith))
   call-small e (READY count) within given same = le-ltb (r .limit) 8 (omega (arith, limit-least))
-  call-small e (DATA type-data ask body) within given same =
+  call-small e (DATA datum) within given same =
       le-ltb (r .limit) (8 + length body) (omega (arith, same refl, ltb-false (e .limit) (8 + length body) within))
   call-small e (NOOP type-data ask) within given same = le-ltb (r .limit) 8 (omega (arith, limit-least))
   call-small e (CLOSE code) within given same = refl
@@ -76,9 +76,9 @@ module _ (r : Endpoint) (sound : Sound r) where
 -- the body that is heard is the one sent
 call-body : (e : Endpoint) (call : Call) (content : Content) → ContentSent e call (written e call) content
     → bodyAt (written e call) content ≡ bodySent call
-call-body e (OPEN name format) content sent = simp (sent .is)
+call-body e (OPEN asked) content sent = simp (sent .is)
 call-body e (READY count) content sent = simp sent
-call-body e (DATA type-data ask body) content sent = simp (sent .is, sent .bytes)
+call-body e (DATA datum) content sent = simp (sent .is, sent .bytes)
 call-body e (NOOP type-data ask) content sent = simp sent
 call-body e (CLOSE code) content sent = simp sent
 
@@ -94,7 +94,7 @@ confirming-replies e call = go (askOf call)
 module _ (e r : Endpoint) (in-limits : inLimits (e .limit) ≡ true) (after : Endpoint) (phase n : ℕ) (comes : Comes r phase n (r .limit) after) where
   hearing-comes : (call : Call) → Comes r phase n (limitAfter (Called e call) (r .limit)) (afterHearing e call after)
   unfolding limited
-  hearing-comes (OPEN name format) =
+  hearing-comes (OPEN asked) =
       record {
         sound =
             record {
@@ -108,14 +108,14 @@ module _ (e r : Endpoint) (in-limits : inLimits (e .limit) ≡ true) (after : En
         limited = refl;
       }
   hearing-comes (READY count) = comes
-  hearing-comes (DATA type-data ask body) = comes
+  hearing-comes (DATA datum) = comes
   hearing-comes (NOOP type-data ask) = comes
   hearing-comes (CLOSE code) = comes
 
   hearing-awaited : (call : Call) → awaited (afterHearing e call after) ≡ awaited after
-  hearing-awaited (OPEN name format) = limited-awaited after (e .limit)
+  hearing-awaited (OPEN asked) = limited-awaited after (e .limit)
   hearing-awaited (READY count) = refl
-  hearing-awaited (DATA type-data ask body) = refl
+  hearing-awaited (DATA datum) = refl
   hearing-awaited (NOOP type-data ask) = refl
   hearing-awaited (CLOSE code) = refl
 
@@ -206,13 +206,13 @@ answers-confirm (Called e call) = go (askOf call)
 answers-confirm (Confirms message type-data) = refl
 answers-confirm (Closes code) = refl
 
-module _ (makings : Makings) (end : End) (r : Endpoint) (name format : List ℕ) (phase n : ℕ) (rest : ℕ → List Entry) where
+module _ (makings : Makings) (end : End) (r : Endpoint) (pipe : Offer) (phase n : ℕ) (rest : ℕ → List Entry) where
   abbrev May : Packet → Type 0
-  May m = MayTake (onRecords .rules) makings end r (promptLedger r) m name format phase n rest
+  May m = MayTake (onRecords .rules) makings end r (promptLedger r) m pipe phase n rest
 
   -- what comes of a packet by the tables
   abbrev came : Packet → Received
-  came m = hearOf r (bytesIn m) name format
+  came m = hearOf r (bytesIn m) pipe
 
   abbrev Hears : Packet → Type 0
   Hears m = HeardOn onRecords r (promptLedger r) m phase n rest (outcomeOf (bytesIn m) (came m))
@@ -240,7 +240,7 @@ module _ (makings : Makings) (end : End) (r : Endpoint) (name format : List ℕ)
       let room = made .accepted .room in
       let passed = accepted-passed e (outgoing e call) room (made .accepted .accepted) in
       let back =
-      heard-as-sent e call (made .fits) room (made .accepted .accepted) r name format phase n
+      heard-as-sent e call (made .fits) room (made .accepted .accepted) r pipe phase n
       (record {
         leads = call-leads e call r phase n (may .leads);
         small = call-small r (may .sound) e call (passed .within) (passed .given) (λ bears. may .limited bears ∙ sym (made .limited));
@@ -269,7 +269,7 @@ module _ (makings : Makings) (end : End) (r : Endpoint) (name format : List ℕ)
       let quiet = confirmation-quiets message (proper .0) in
       let after : Endpoint = atRow r phase n in
       let heard =
-      replies-heard message ackReply type-data (quiet .reply) (proper .1) r name format phase n
+      replies-heard message ackReply type-data (quiet .reply) (proper .1) r pipe phase n
       (record {
         leads = confirmation-leads r message type-data (quiet .confirming) phase n (may .leads);
         small = reply-small r (may .sound) message ackReply type-data (quiet .reply);
@@ -283,7 +283,7 @@ module _ (makings : Makings) (end : End) (r : Endpoint) (name format : List ℕ)
   close-taken : (code : ℕ) → May (Closes code) → Hears (Closes code)
   close-taken code may =
       let heard =
-      replies-heard Close 0 code refl (may .proper) r name format phase n
+      replies-heard Close 0 code refl (may .proper) r pipe phase n
       (record { leads = close-leads r code phase n (may .leads); small = reply-small r (may .sound) Close 0 code refl; matched = close-matched r code }) in
       reply-taken (Closes code) _ (atRow r phase n) heard refl refl refl
       (row-comes r (may .sound) (other (r .role)) (other (r .flow)) Close code phase n (may .proper) (may .leads))

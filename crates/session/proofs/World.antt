@@ -85,13 +85,13 @@ module _ {A O : Type 0} (p : Program A O) where
 
   -- ---- every event
 
-  receive-runs : (end : End) (w : World A) (queue : List Queued) → side w (across end) .queue ≡ queue → (name format : List ℕ) (out : O)
-      → Runs p w (afterReceive p end (side w end) (side w (across end)) queue name format out)
+  receive-runs : (end : End) (w : World A) (queue : List Queued) → side w (across end) .queue ≡ queue → (pipe : Offer) (out : O)
+      → Runs p w (afterReceive p end (side w end) (side w (across end)) queue pipe out)
   unfolding afterReceive
-  receive-runs Client w [] is name format out = runs-still w
-  receive-runs Server w [] is name format out = runs-still w
-  receive-runs end w (m ∷ rest) is name format out =
-      one-act end w (Receives m name format out) _ (is ∙ go (isKept (p .receive (side w end .self) m name format out .number)))
+  receive-runs Client w [] is pipe out = runs-still w
+  receive-runs Server w [] is pipe out = runs-still w
+  receive-runs end w (m ∷ rest) is pipe out =
+      one-act end w (Receives m pipe out) _ (is ∙ go (isKept (p .receive (side w end .self) m pipe out .number)))
     where
       go : (kept : Bool) → m ∷ rest ≡ cond kept [] (m ∷ []) ++ cond kept (m ∷ rest) rest
       go true = refl
@@ -100,7 +100,7 @@ module _ {A O : Type 0} (p : Program A O) where
   step-runs : (w : World A) (event : Event O) → Runs p w (step p w event)
   unfolding step
   step-runs w (sends end call out) = one-act end w (Sends call out) (side w (across end) .queue) refl
-  step-runs w (receives end name format out) = receive-runs end w (side w (across end) .queue) refl name format out
+  step-runs w (receives end pipe out) = receive-runs end w (side w (across end) .queue) refl pipe out
   step-runs w (makes makings) =
       let client-made : World A = record { client = acted p Client (w .client) (Makes (makingOf makings Client)); server = w .server } in
       runs-on w client-made _ (one-act Client w (Makes (makingOf makings Client)) (w .server .queue) refl)

@@ -50,13 +50,13 @@ pub record Fresh {A : Type 0} (view : View A) (making : Making) (self : A) : Typ
 
 -- "neither end refuses the other's message": what x answers to the bytes s that y wrote, offering this pipe name and format. It hears them, unless
 -- that is an OPEN for another pipe name or socket, or for another format, or x has itself closed.
-pub data MayAnswer (x y : Side Endpoint) (s name format : List ℕ) : ℕ → Type 0 where
-  heard : MayAnswer x y s name format 0
-  other-pipe : (asked wanted : List ℕ) → s ≡ written (y .self) (OPEN asked wanted)
-      → same asked name && eqb (socketOf (y .self .flow)) (offeredSocket (x .self .flow)) ≡ false → MayAnswer x y s name format 21
-  other-format : (asked wanted : List ℕ) → s ≡ written (y .self) (OPEN asked wanted)
-      → eqb (length wanted) 0 || same wanted format ≡ false → MayAnswer x y s name format 22
-  after-own-close : x .past .ending ≡ WroteClose → MayAnswer x y s name format 3
+pub data MayAnswer (x y : Side Endpoint) (s : List ℕ) (pipe : Offer) : ℕ → Type 0 where
+  heard : MayAnswer x y s pipe 0
+  other-pipe : (asked : Offer) → s ≡ written (y .self) (OPEN asked)
+      → same asked name && eqb (socketOf (y .self .flow)) (offeredSocket (x .self .flow)) ≡ false → MayAnswer x y s pipe 21
+  other-format : (asked : Offer) → s ≡ written (y .self) (OPEN asked)
+      → eqb (length wanted) 0 || same wanted format ≡ false → MayAnswer x y s pipe 22
+  after-own-close : x .past .ending ≡ WroteClose → MayAnswer x y s pipe 3
 
 -- "5 closed": an end has closed where its phase is 5, and nowhere else
 abbrev pub PhaseFits : Ending → ℕ → Type 0
@@ -96,9 +96,9 @@ EachAtMost (count ∷ rest) (most ∷ others) = (count ≤ most) × EachAtMost r
 
 -- "a message other than NOOP and CLOSE"
 abbrev pub movesOn : Call → Bool
-movesOn (OPEN name format) = true
+movesOn (OPEN asked) = true
 movesOn (READY count) = true
-movesOn (DATA type-data ask body) = true
+movesOn (DATA datum) = true
 movesOn (NOOP type-data ask) = false
 movesOn (CLOSE code) = false
 
@@ -142,13 +142,13 @@ module _ {A O : Type 0} (p : Program A O) (view : View A) where
     pub stays-good : (end : End) → good (view .endpoint (side w end .self)) ≡ true
     -- "neither end refuses the other's message"
     pub answers : (end : End) (m : Queued) (rest : List Queued) → side w (across end) .queue ≡ m ∷ rest
-        → (name format : List ℕ) (out : O) → 14 ≤ p .room out
-        → MayAnswer (viewedSide (view .endpoint) (side w end)) (viewedSide (view .endpoint) (side w (across end))) (m .bytes) name format
-        (p .receive (side w end .self) m name format out .number)
+        → (pipe : Offer) (out : O) → 14 ≤ p .room out
+        → MayAnswer (viewedSide (view .endpoint) (side w end)) (viewedSide (view .endpoint) (side w (across end))) (m .bytes) pipe
+        (p .receive (side w end .self) m pipe out .number)
     -- 2, "output too short": nothing changes, and the message stays where it is
     pub no-room : (end : End) (m : Queued) (rest : List Queued) → side w (across end) .queue ≡ m ∷ rest
-        → (name format : List ℕ) (out : O) → p .room out < 14
-        → (p .receive (side w end .self) m name format out .number ≡ 2) × (step p w (receives end name format out) ≡ w)
+        → (pipe : Offer) (out : O) → p .room out < 14
+        → (p .receive (side w end .self) m pipe out .number ≡ 2) × (step p w (receives end pipe out) ≡ w)
     -- an end has closed where its phase is 5; the CLOSE that one heard was written by the other, and nothing at all arrives behind it; and the CLOSE
     -- that one wrote closes the other, once it has arrived
     pub closed-by-phase : (end : End) → PhaseFits (side w end .past .ending) (view .endpoint (side w end .self) .phase)

@@ -26,9 +26,9 @@ use Rattle.session.specs.Invariant.{flowAt, Rules, Model, AcceptedCall, 
 
 -- the limit of an end that has heard a packet
 abbrev pub limitAfter : Packet → ℕ → ℕ
-limitAfter (Called e (OPEN name format)) limit = e .limit
+limitAfter (Called e (OPEN asked)) limit = e .limit
 limitAfter (Called e (READY count)) limit = limit
-limitAfter (Called e (DATA type-data ask body)) limit = limit
+limitAfter (Called e (DATA datum)) limit = limit
 limitAfter (Called e (NOOP type-data ask)) limit = limit
 limitAfter (Called e (CLOSE code)) limit = limit
 limitAfter (Confirms message type-data) limit = limit
@@ -52,9 +52,9 @@ answersIn prompt (Closes code) = []
 
 -- whether an OPEN asks for what is offered
 abbrev pub offeredIn : Packet → Endpoint → List ℕ → List ℕ → Bool
-offeredIn (Called e call) r name format = isOffered e call r name format
-offeredIn (Confirms message type-data) r name format = true
-offeredIn (Closes code) r name format = true
+offeredIn (Called e call) r pipe = isOffered e call r pipe
+offeredIn (Confirms message type-data) r pipe = true
+offeredIn (Closes code) r pipe = true
 
 -- a call that does not ask, is within the limit and is given well, and whose row leads on
 pub record MayCall (e : Endpoint) (call : Call) : Type 0 where
@@ -70,27 +70,27 @@ pub record MayCall (e : Endpoint) (call : Call) : Type 0 where
 
 module _ (rules : Rules) where
   -- what an end must be to hear a packet
-  pub record MayTake (makings : Makings) (end : End) (r : Endpoint) (dues : Ledger) (m : Packet) (name format : List ℕ) (phase n : ℕ)
+  pub record MayTake (makings : Makings) (end : End) (r : Endpoint) (dues : Ledger) (m : Packet) (pipe : Offer) (phase n : ℕ)
       (rest : ℕ → List Entry) : Type 0 where
     pub sound : Sound r
     pub proper : Proper makings rules (across end) m
     pub leads : rowOf (other (r .role)) (other (r .flow)) (r .phase) (r .n) (rowMessage m) (typeDataIn m) ≡ To phase n
     pub limited : rowMessage m ≡ Data → r .limit ≡ makings .limit
-    pub offered : offeredIn m r name format ≡ true
+    pub offered : offeredIn m r pipe ≡ true
     pub awaits : (line : ℕ) → dues .waits line ≡ rules .pick line (confirmedIn m) ++ rest line
     pub few : (line : ℕ) → length (dues .owes line) + length (rules .pick line (askedIn m)) ≤ capacity
 
   -- what a server must be to refuse the OPEN of y
-  pub record MayRefuse (makings : Makings) (x y : Side Endpoint) (e : Endpoint) (asked wanted : List ℕ) (name format : List ℕ) : Type 0 where
+  pub record MayRefuse (makings : Makings) (x y : Side Endpoint) (e : Endpoint) (asked : Offer) (pipe : Offer) : Type 0 where
     pub sound : Sound (x .self)
     pub serves : x .self .role ≡ server
-    pub accepted : AcceptedCall makings rules Client e (OPEN asked wanted)
+    pub accepted : AcceptedCall makings rules Client e (OPEN asked)
     pub same-flow : y .self .flow ≡ e .flow
     pub same-limit : y .self .limit ≡ e .limit
     pub phase : ℕ
     pub n : ℕ
     pub leads : rowOf (other (x .self .role)) (other (x .self .flow)) (x .self .phase) (x .self .n) Open 0 ≡ To phase n
-    pub differs : isOffered e (OPEN asked wanted) (x .self) name format ≡ false
+    pub differs : isOffered e (OPEN asked) (x .self) pipe ≡ false
 
 module _ {A : Type 0} (model : Model A) where
   -- a call that was accepted puts a packet on its way that carries what the call sends, leads where its row does, awaits what it asks for, and
@@ -129,8 +129,8 @@ module _ {A : Type 0} (model : Model A) where
     pub owes : (line : ℕ) → (phase ≡ shut → ⊥) → model .view .ledger (result .next) .owes line ≡ left line
 
   -- an OPEN for what is not offered is refused by 21 or 22, and the end closes with a CLOSE
-  pub record OpenRefused (x y : Side Endpoint) (s name format : List ℕ) (result : ReceiveOutcome A) : Type 0 where
-    pub may : MayAnswer x y s name format (result .number)
+  pub record OpenRefused (x y : Side Endpoint) (s : List ℕ) (pipe : Offer) (result : ReceiveOutcome A) : Type 0 where
+    pub may : MayAnswer x y s pipe (result .number)
     pub refused : eqb (result .number) 0 ≡ false
     pub told : result .told ≡ nothingTold
     pub code : ℕ
@@ -156,20 +156,20 @@ module _ {A O : Type 0} (p : Program A O) (model : Model A) where
     pub stays : (self : A) (call : Call) (out : O) → model .Fine self → Fits call → (p .send self call out .number ≡ 0 → ⊥)
         → p .send self call out .next ≡ self
     -- a packet that an end may take is heard
-    pub hears : (makings : Makings) (end : End) (self : A) (m : Packet) (name format : List ℕ) (out : O) (phase n : ℕ) (rest : ℕ → List Entry)
-        → model .Fine self → 14 ≤ p .room out → MayTake (model .rules) makings end (endpoint self) (ledger self) m name format phase n rest
-        → HeardOn model (endpoint self) (ledger self) m phase n rest (p .receive self (queuedIn m) name format out)
+    pub hears : (makings : Makings) (end : End) (self : A) (m : Packet) (pipe : Offer) (out : O) (phase n : ℕ) (rest : ℕ → List Entry)
+        → model .Fine self → 14 ≤ p .room out → MayTake (model .rules) makings end (endpoint self) (ledger self) m pipe phase n rest
+        → HeardOn model (endpoint self) (ledger self) m phase n rest (p .receive self (queuedIn m) pipe out)
     -- an OPEN for what is not offered is refused
-    pub refuses : (makings : Makings) (x : Side A) (y : Side Endpoint) (e : Endpoint) (asked wanted : List ℕ) (name format : List ℕ) (out : O)
+    pub refuses : (makings : Makings) (x : Side A) (y : Side Endpoint) (e : Endpoint) (asked : Offer) (pipe : Offer) (out : O)
         → model .Fine (x .self) → 14 ≤ p .room out
-        → MayRefuse (model .rules) makings (viewedSide (model .view .endpoint) x) y e asked wanted name format
-        → OpenRefused model (viewedSide (model .view .endpoint) x) y (written e (OPEN asked wanted)) name format
-        (p .receive (x .self) (queuedIn (Called e (OPEN asked wanted))) name format out)
+        → MayRefuse (model .rules) makings (viewedSide (model .view .endpoint) x) y e asked pipe
+        → OpenRefused model (viewedSide (model .view .endpoint) x) y (written e (OPEN asked)) pipe
+        (p .receive (x .self) (queuedIn (Called e (OPEN asked))) pipe out)
     -- a message after the own close is passed over, and one with no room for a reply stays where it is
-    pub late : (self : A) (m : Queued) (name format : List ℕ) (out : O) → model .Fine self → 14 ≤ p .room out → endpoint self .phase ≡ shut
-        → p .receive self m name format out ≡ ignored 3 self
-    pub short : (self : A) (m : Queued) (name format : List ℕ) (out : O) → model .Fine self → p .room out < 14
-        → p .receive self m name format out ≡ ignored 2 self
+    pub late : (self : A) (m : Queued) (pipe : Offer) (out : O) → model .Fine self → 14 ≤ p .room out → endpoint self .phase ≡ shut
+        → p .receive self m pipe out ≡ ignored 3 self
+    pub short : (self : A) (m : Queued) (pipe : Offer) (out : O) → model .Fine self → p .room out < 14
+        → p .receive self m pipe out ≡ ignored 2 self
     -- no more are awaited than an end may await; and of no entries none stands on any line
     pub bounded : (self : A) → model .Fine self → (line : ℕ) → length (ledger self .waits line) ≤ capacity
     pub none : (line : ℕ) → model .rules .pick line [] ≡ []

@@ -29,9 +29,9 @@ bytesIn m = queuedIn m .bytes
 
 -- what is told of it
 abbrev pub bodySent : Call → List ℕ
-bodySent (OPEN name format) = []
+bodySent (OPEN asked) = []
 bodySent (READY count) = []
-bodySent (DATA type-data ask body) = body
+bodySent (DATA datum) = body
 bodySent (NOOP type-data ask) = []
 bodySent (CLOSE code) = []
 

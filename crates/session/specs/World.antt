@@ -60,9 +60,9 @@ noHistory = record { sent = []; accepted = []; readies = []; readies-heard = [];
 
 -- the data that a call sends
 abbrev pub dataSent : Call → List Datum
-dataSent (OPEN name format) = []
+dataSent (OPEN asked) = []
 dataSent (READY count) = []
-dataSent (DATA type-data ask body) = record { type-data = type-data; body = body } ∷ []
+dataSent (DATA datum) = record { type-data = type-data; body = body } ∷ []
 dataSent (NOOP type-data ask) = []
 dataSent (CLOSE code) = []
 
@@ -132,7 +132,7 @@ afterMessage end past heard readies ending =
 abbrev pub noted : {A O : Type 0} → End → History → Act O → Done A → History
 noted end past (Makes making) done = cond (eqb (done .number) 0) noHistory past
 noted end past (Sends call out) done = cond (eqb (done .number) 0) (afterCall end past call) past
-noted end past (Receives m name format out) done =
+noted end past (Receives m pipe out) done =
     afterMessage end past (dataTold (done .told)) (readyTold (done .told)) (endedAfter (done .number) (done .told) (done .wrote) (past .ending))
 
 -- ---- two ends
@@ -184,15 +184,15 @@ module _ {A O : Type 0} (p : Program A O) where
 
   -- "only the head of a queue is received"; where there is none, nothing is
   unfoldable pub afterReceive : End → Side A → Side A → List Queued → List ℕ → List ℕ → O → World A
-  afterReceive end x y [] name format out = joined end x y
-  afterReceive end x y (m ∷ rest) name format out =
-      joined end (acted end x (Receives m name format out))
-      (withQueue y (cond (isKept (p .receive (x .self) m name format out .number)) (m ∷ rest) rest))
+  afterReceive end x y [] pipe out = joined end x y
+  afterReceive end x y (m ∷ rest) pipe out =
+      joined end (acted end x (Receives m pipe out))
+      (withQueue y (cond (isKept (p .receive (x .self) m pipe out .number)) (m ∷ rest) rest))
 
   unfoldable pub step : World A → Event O → World A
   step w (sends end call out) = joined end (acted end (side w end) (Sends call out)) (side w (across end))
-  step w (receives end name format out) =
-      afterReceive end (side w end) (side w (across end)) (side w (across end) .queue) name format out
+  step w (receives end pipe out) =
+      afterReceive end (side w end) (side w (across end)) (side w (across end) .queue) pipe out
   step w (makes makings) =
       record {
         client = acted Client (w .client) (Makes (makingOf makings Client));
@@ -211,7 +211,7 @@ module _ {A O : Type 0} (p : Program A O) where
   -- the arguments of a send are of their types
   abbrev pub EventFits : World A → Event O → Type 0
   EventFits w (sends end call out) = Fits call
-  EventFits w (receives end name format out) = Unit
+  EventFits w (receives end pipe out) = Unit
   EventFits w (makes makings) = MayMake w makings
 
   abbrev pub AllFit : World A → List (Event O) → Type 0

@@ -37,7 +37,7 @@ slipping send receive = record { room = tables .room; make = tables .make; send 
 abbrev pub changing :
     (Endpoint → SendOutcome Endpoint → SendOutcome Endpoint) → (Endpoint → ReceiveOutcome Endpoint → ReceiveOutcome Endpoint) → Program Endpoint ℕ
 changing sent received =
-    slipping (λ e call out. sent e (tables .send e call out)) (λ e m name format out. received e (tables .receive e m name format out))
+    slipping (λ e call out. sent e (tables .send e call out)) (λ e m pipe out. received e (tables .receive e m pipe out))
 
 -- the same
 abbrev pub asGiven : {A : Type 0} → Endpoint → A → A
@@ -108,8 +108,8 @@ typeDataSwapped s = let at = startOf s 0 + 6 in putAt s at (reverse (part s at 2
 
 abbrev pub readingLowByteFirst : Program Endpoint ℕ
 readingLowByteFirst =
-    slipping (tables .send) (λ e m name format out.
-    tables .receive e (record { bytes = typeDataSwapped (m .bytes); how = m .how }) name format out)
+    slipping (tables .send) (λ e m pipe out.
+    tables .receive e (record { bytes = typeDataSwapped (m .bytes); how = m .how }) pipe out)
 
 abbrev pub ReadingLowByteFirstFails : Type 0
 ReadingLowByteFirstFails = Fails readingLowByteFirst
@@ -132,8 +132,8 @@ raisedIf test e = cond test (atPhase e (e .phase) 65535) e
 abbrev pub agreeingAboveOffer : Program Endpoint ℕ
 agreeingAboveOffer =
     slipping (λ e call out. tables .send (raisedIf (eqb (tables .send e call out .number) (sendNumber AboveOffer)) e) call out)
-    (λ e m name format out.
-    tables .receive (raisedIf (eqb (tables .receive e m name format out .number) (hearNumber AboveOffer)) e) m name format out)
+    (λ e m pipe out.
+    tables .receive (raisedIf (eqb (tables .receive e m pipe out .number) (hearNumber AboveOffer)) e) m pipe out)
 
 abbrev pub AgreeingAboveOfferFails : Type 0
 AgreeingAboveOfferFails = Fails agreeingAboveOffer
