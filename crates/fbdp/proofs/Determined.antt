@@ -3,6 +3,7 @@ use mathlib.Core.Path.{_≡_}
 use mathlib.Core.List.{List}
 use Prim.Native.Nat.{ℕ}
 use Rattle.bytes_be.proofs.Determined.{coincide}
+use Rattle.open.specs.Offer.{Offer}
 use Rattle.endpoint.specs.declared.Endpoint.{Endpoint}
 use Rattle.sending.specs.Calls.{Call}
 use Rattle.fbdp.specs.Entries.{FrameAnswer, ValueAnswer, LookupAnswer}
@@ -32,7 +33,7 @@ send-determined one other =
     let second = other .finished in
     (coincide (first .numbered) (second .numbered), coincide (first .counted) (second .counted), coincide (first .kept) (second .kept), coincide (one .left) (other .left))
 
-pub receive-determined : {s pipe block out : List ℕ} {number number′ : ℕ} {slots slots′ block₁ block₂ out₁ out₂ : List ℕ} →
+pub receive-determined : {s : List ℕ} {pipe : Offer} {block out : List ℕ} {number number′ : ℕ} {slots slots′ block₁ block₂ out₁ out₂ : List ℕ} →
     ReceiveOnBlock s pipe block out number slots block₁ out₁ → ReceiveOnBlock s pipe block out number′ slots′ block₂ out₂ →
     (number ≡ number′) × (slots ≡ slots′) × (block₁ ≡ block₂) × (out₁ ≡ out₂)
 receive-determined one other =

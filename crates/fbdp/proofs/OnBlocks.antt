@@ -5,6 +5,7 @@ use Prim.Native.Nat.{ℕ}
 use mathlib.Core.List.{List}
 use mathlib.Core.Bool.{false}
 use Rattle.bytes_be.proofs.Parts.{put-nothing}
+use Rattle.open.specs.Offer.{Offer}
 use Rattle.endpoint.specs.declared.Endpoint.{Endpoint}
 use Rattle.endpoint.specs.Block.{isGood, loadOf}
 use Rattle.endpoint.specs.Record.{good}
@@ -15,7 +16,8 @@ use Rattle.receiving.specs.Refusing.{unchanged}
 use Rattle.sending.specs.declared.Sent.{Sent}
 use Rattle.sending.specs.Calls.{Call, written}
 use Rattle.sending.specs.Sending.{SendAnswer as Sent-by-record, leftBy, numberFor, sendOf, sentBy, unsent}
-use Rattle.fbdp.specs.Blocks.{SendOnBlock, ReceiveOnBlock, Finished, BadBlockSends, BadBlockReceives, answerSlots, replyLength, keptAfter, leaves, keptBy}
+use Rattle.fbdp.specs.Blocks.{SendOnBlock, ReceiveOnBlock, Finished, BadBlockSends, BadBlockReceives, replyLength, keptAfter, keptBy}
+use Rattle.fbdp.specs.Slots.{answerSlots, inOrder}
 
 module _ (block : List ℕ) (e : Endpoint) (loaded : e ≡ loadOf block) where
   -- the answer is that of the record that was loaded
@@ -26,16 +28,16 @@ module _ (block : List ℕ) (e : Endpoint) (loaded : e ≡ loadOf block) where
       let by-loaded : Sent-by-record (loadOf block) call out sent out′ = rw loaded at by-record in
       record { finished = rw (by-loaded .answered) at finished; left = by-loaded .left }
 
-  pub receive-finished : (s pipe out out′ : List ℕ) (received : Received) (number : ℕ) (slots block′ : List ℕ) →
+  pub receive-finished : (s : List ℕ) (pipe : Offer) (out out′ : List ℕ) (received : Received) (number : ℕ) (slots block′ : List ℕ) →
       Heard-by-record e s pipe out received out′ → number ≡ answerNumber (received .answer) →
-      slots ≡ answerSlots (received .answer) (replyLength (received .reply)) → block′ ≡ keptBy received block →
+      slots ≡ inOrder (answerSlots (received .answer) (replyLength (received .reply))) → block′ ≡ keptBy received block →
       ReceiveOnBlock s pipe block out number slots block′ out′
   receive-finished s pipe out out′ received number slots block′ by-record its-number its-slots its-block =
       let by-loaded : Heard-by-record (loadOf block) s pipe out received out′ = rw loaded at by-record in
       let on-block = by-loaded .answered in
       record {
         numbered = its-number ∙ ap (λ (r : Received). answerNumber (r .answer)) on-block;
-        told = its-slots ∙ ap (λ (r : Received). answerSlots (r .answer) (replyLength (r .reply))) on-block;
+        told = its-slots ∙ ap (λ (r : Received). inOrder (answerSlots (r .answer) (replyLength (r .reply)))) on-block;
         kept = its-block ∙ ap (λ (r : Received). keptBy r block) on-block;
         left = by-loaded .left;
       }
@@ -65,11 +67,11 @@ bad-block-sends call block out number count block′ out′ bad answer =
     )
 
 pub bad-block-receives : BadBlockReceives
-unfolding unchanged replied keptBy leaves
+unfolding unchanged replied keptBy
 bad-block-receives s pipe block out number slots block′ out′ bad answer =
     let refusal = refused-receive block bad s pipe _ in (
       answer .numbered ∙ ap (λ (r : Received). answerNumber (r .answer)) refusal,
-      answer .told ∙ ap (λ (r : Received). answerSlots (r .answer) (replyLength (r .reply))) refusal,
+      answer .told ∙ ap (λ (r : Received). inOrder (answerSlots (r .answer) (replyLength (r .reply)))) refusal,
       answer .kept ∙ ap (λ (r : Received). keptBy r block) refusal,
       answer .left ∙ ap (λ (r : Received). replied (r .reply) out) refusal ∙ put-nothing out 0,
     )

@@ -2,26 +2,25 @@
 -- output of numbers, for the block and for the output. A call or a message is answered by the record in the block: 1 where it is not good.
 use Prim.Native.Nat.{ℕ}
 use mathlib.Core.Path.{_≡_}
-use mathlib.Core.List.{List, [], _∷_, _++_}
-use mathlib.Core.Bool.{Bool, false, cond, not, _&&_}
+use mathlib.Core.List.{List}
+use mathlib.Core.Bool.{Bool, true, false, cond, not}
 use lib.ListN.{length, replicate}
-use lib.Dec.{leb, eqb}
+use lib.Dec.{eqb}
 use Rattle.bytes_be.specs.Part.{putAt}
-use Rattle.control.specs.Frame.{typeOf}
+use Rattle.open.specs.Offer.{Offer}
 use Rattle.endpoint.specs.declared.Endpoint.{Endpoint}
 use Rattle.endpoint.specs.Record.{givenOf, givenNumber}
 use Rattle.endpoint.specs.Block.{bytesOf, isGood, loadOf}
-use Rattle.receiving.specs.declared.Content.{Content}
-use Rattle.receiving.specs.declared.Content.the-variants.{Nothing, Opening, Body}
-use Rattle.receiving.specs.declared.Heard.{Heard}
 use Rattle.receiving.specs.declared.Answer.{Answer}
-use Rattle.receiving.specs.declared.Answer.the-variants.{Heard as Answer·Heard, Refused}
+use Rattle.receiving.specs.declared.Answer.the-variants.{Heard, Stays, Closes}
 use Rattle.receiving.specs.declared.Reply.{Reply}
 use Rattle.receiving.specs.declared.Received.{Received}
 use Rattle.receiving.specs.Receiving.{answerNumber, replyBytes, replied, receivedOf}
+use Rattle.sending.specs.declared.Report.{Report}
 use Rattle.sending.specs.declared.Sent.{Sent}
 use Rattle.sending.specs.Calls.{Call, written}
 use Rattle.sending.specs.Sending.{sendOf, leftBy}
+use Rattle.fbdp.specs.Slots.{answerSlots, inOrder}
 
 -- the block with the 64 bytes of a record
 unfoldable pub stored : Endpoint → List ℕ → List ℕ
@@ -54,6 +53,10 @@ pub record Finished (sent : Sent) (before : List ℕ) (number count : ℕ) (afte
 abbrev pub asksFor : ℕ → Bool
 asksFor ask = not (eqb ask 0)
 
+-- what a send of DATA is told
+abbrev pub reportOf : ℕ → ℕ → Report
+reportOf type-data ask = record { «type_data» = type-data; ask = asksFor ask }
+
 -- `fbdp_send_open`, `fbdp_send_ready`, `fbdp_send_data`, `fbdp_send_noop` and `fbdp_send_close`
 pub record SendOnBlock (call : Call) (block out : List ℕ) (number count : ℕ) (block′ out′ : List ℕ) : Type 0 where
   pub finished : Finished (sentOn block call (length out)) block number count block′
@@ -66,60 +69,34 @@ BadBlockSends =
     → (number ≡ 1) × (count ≡ 0) × (block′ ≡ block) × (out′ ≡ out)
 
 -- what comes of a message on a block
-abbrev pub receivedOn : List ℕ → List ℕ → List ℕ → List ℕ → ℕ → Received
+abbrev pub receivedOn : List ℕ → List ℕ → Offer → ℕ → Received
 receivedOn block s pipe room = receivedOf (loadOf block) s pipe room
 
 -- how many bytes of the output are the reply
 abbrev pub replyLength : Reply → ℕ
 replyLength reply = length (replyBytes reply)
 
--- "All others change no byte.": 1, 2 and 3
-unfoldable pub leaves : ℕ → Bool
-leaves number = leb 1 number && leb number 3
+-- "All others change no byte.": whether an answer does
+abbrev pub stays : Answer → Bool
+stays (Heard heard) = false
+stays (Stays number) = true
+stays (Closes number) = false
 
 -- the block after a receive
 unfoldable pub keptBy : Received → List ℕ → List ℕ
-keptBy received block = cond (leaves (answerNumber (received .answer))) block (stored (received .next) block)
-
--- socket; the places of name, format and parameters; the place of the body
-abbrev pub contentSlots : Content → List ℕ
-contentSlots Nothing = 0 ∷ 0 ∷ 0 ∷ 0 ∷ 0 ∷ 0 ∷ 0 ∷ 0 ∷ 0 ∷ []
-contentSlots (Opening opening) =
-    opening .socket
-    ∷ opening .name .at
-    ∷ opening .name .length
-    ∷ opening .format .at
-    ∷ opening .format .length
-    ∷ opening .parameters .at
-    ∷ opening .parameters .length
-    ∷ 0
-    ∷ 0
-    ∷ []
-contentSlots (Body place) = 0 ∷ 0 ∷ 0 ∷ 0 ∷ 0 ∷ 0 ∷ 0 ∷ place .at ∷ place .length ∷ []
-
--- type, flags, type-data, reply length, data frames, what it carries, and two spare
-unfoldable pub heardSlots : Heard → ℕ → List ℕ
-heardSlots heard reply =
-    (typeOf (heard .message) ∷ heard .flags ∷ heard .«type_data» ∷ reply ∷ heard .frames ∷ [])
-    ++ contentSlots (heard .content)
-    ++ (0 ∷ 0 ∷ [])
-
--- a refusal says nothing but how long its reply is
-abbrev pub answerSlots : Answer → ℕ → List ℕ
-answerSlots (Answer·Heard heard) reply = heardSlots heard reply
-answerSlots (Refused number) reply = 0 ∷ 0 ∷ 0 ∷ reply ∷ 0 ∷ 0 ∷ 0 ∷ 0 ∷ 0 ∷ 0 ∷ 0 ∷ 0 ∷ 0 ∷ 0 ∷ 0 ∷ 0 ∷ []
+keptBy received block = cond (stays (received .answer)) block (stored (received .next) block)
 
 -- `fbdp_receive`
-pub record ReceiveOnBlock (s pipe block out : List ℕ) (number : ℕ) (slots block′ out′ : List ℕ) : Type 0 where
+pub record ReceiveOnBlock (s : List ℕ) (pipe : Offer) (block out : List ℕ) (number : ℕ) (slots block′ out′ : List ℕ) : Type 0 where
   pub numbered : number ≡ answerNumber (receivedOn block s pipe (length out) .answer)
   pub told :
       slots
-      ≡ answerSlots (receivedOn block s pipe (length out) .answer) (replyLength (receivedOn block s pipe (length out) .reply))
+      ≡ inOrder (answerSlots (receivedOn block s pipe (length out) .answer) (replyLength (receivedOn block s pipe (length out) .reply)))
   pub kept : block′ ≡ keptBy (receivedOn block s pipe (length out)) block
   pub left : out′ ≡ replied (receivedOn block s pipe (length out) .reply) out
 
 -- and a receive on such a block changes none either, and tells nothing
 abbrev pub BadBlockReceives : Type 0
 BadBlockReceives =
-    (s pipe block out : List ℕ) (number : ℕ) (slots block′ out′ : List ℕ) → isGood block ≡ false → ReceiveOnBlock s pipe block out number slots block′ out′
+    (s : List ℕ) (pipe : Offer) (block out : List ℕ) (number : ℕ) (slots block′ out′ : List ℕ) → isGood block ≡ false → ReceiveOnBlock s pipe block out number slots block′ out′
     → (number ≡ 1) × (slots ≡ replicate 16 0) × (block′ ≡ block) × (out′ ≡ out)

@@ -1,9 +1,11 @@
 // The C interface: numbers and byte slices in, a number out.
 ghost use mathlib.Core.Path.{_≡_};
+ghost use Rattle.open.specs.Offer.{offerOf};
 ghost use Rattle.endpoint.specs.Record.{freshOf, freshClient, freshServer};
 ghost use Rattle.receiving.specs.Receiving.{answerNumber};
-ghost use Rattle.sending.specs.Calls.{OPEN, READY, DATA, NOOP, CLOSE};
-ghost use Rattle.fbdp.specs.Blocks.{MakeAnswer, Finished, asksFor, SendOnBlock, replyLength, leaves, contentSlots, heardSlots, answerSlots, ReceiveOnBlock};
+ghost use Rattle.sending.specs.Calls.{datumOf, OPEN, READY, DATA, NOOP, CLOSE};
+ghost use Rattle.fbdp.specs.Blocks.{MakeAnswer, Finished, asksFor, reportOf, SendOnBlock, replyLength, stays, ReceiveOnBlock};
+ghost use Rattle.fbdp.specs.Slots.{carriedInOrder, inOrder, carriesOf, heardSlots, refusedSlots, answerSlots};
 ghost use Rattle.fbdp.specs.Entries.{frameSlots, FrameAnswer, valueSlots, ValueAnswer, termSlots, LookupAnswer};
 use bundle::Frame;
 use endpoint::Given;
@@ -11,6 +13,7 @@ use receiving::Answer;
 use receiving::Content;
 use receiving::Heard;
 use receiving::Reply;
+use sending::Report;
 use sending::Sent;
 use terms::Term;
 use terms::Value;
@@ -152,6 +155,15 @@ fn asks_for(ask: u8) -> bool
     ask != 0
 }
 
+fn report_of(type_data: u16, ask: u8) -> Report
+    ensures { λ r. ⌜ r ≡ reportOf «type_data» ask ⌝ }
+{
+    Report {
+        type_data: type_data,
+        ask: asks_for(ask),
+    }
+}
+
 // Sends OPEN for this pipe name and this format.
 #[no_mangle]
 pub extern "C" fn fbdp_send_open(
@@ -161,7 +173,7 @@ pub extern "C" fn fbdp_send_open(
     out: &mut [u8],
     written: &mut u64,
 ) -> u32
-    ensures { λ r. ⌜ SendOnBlock (OPEN (now (name .entry)) (now (format .entry))) (now (block .entry)) (now (out .entry)) r (now (written .exit)) (now (block .exit)) (now (out .exit)) ⌝ }
+    ensures { λ r. ⌜ SendOnBlock (OPEN (offerOf (now (name .entry)) (now (format .entry)))) (now (block .entry)) (now (out .entry)) r (now (written .exit)) (now (block .exit)) (now (out .exit)) ⌝ }
 {
     let e = endpoint::load(block);
     finish(sending::send_open(e, name, format, out), block, written)
@@ -191,15 +203,11 @@ pub extern "C" fn fbdp_send_data(
     out: &mut [u8],
     written: &mut u64,
 ) -> u32
-    ensures { λ r. ⌜ SendOnBlock (DATA «type_data» (asksFor ask) (now (body .entry))) (now (block .entry)) (now (out .entry)) r (now (written .exit)) (now (block .exit)) (now (out .exit)) ⌝ }
+    ensures { λ r. ⌜ SendOnBlock (DATA (datumOf (reportOf «type_data» ask) (now (body .entry)))) (now (block .entry)) (now (out .entry)) r (now (written .exit)) (now (block .exit)) (now (out .exit)) ⌝ }
 {
     let e = endpoint::load(block);
-    let asked = asks_for(ask);
-    finish(
-        sending::send_data(e, type_data, asked, body, out),
-        block,
-        written,
-    )
+    let report = report_of(type_data, ask);
+    finish(sending::send_data(e, report, body, out), block, written)
 }
 
 // Sends NOOP.
@@ -237,7 +245,8 @@ fn answer_number(answer: Answer) -> u8
 {
     match answer {
         Answer::Heard(_) => 0,
-        Answer::Refused(number) => number,
+        Answer::Stays(number) => number,
+        Answer::Closes(number) => number,
     }
 }
 
@@ -256,7 +265,7 @@ fn reply_length(reply: Reply) -> u64
 
 // Socket, and the places of name, format, parameters and body.
 fn content_slots(content: Content) -> [u64; 9]
-    ensures { λ r. ⌜ r ≡ contentSlots content ⌝ }
+    ensures { λ r. ⌜ r ≡ carriedInOrder (carriesOf content) ⌝ }
 {
     match content {
         Content::Nothing => [0, 0, 0, 0, 0, 0, 0, 0, 0],
@@ -276,7 +285,7 @@ fn content_slots(content: Content) -> [u64; 9]
 }
 
 fn heard_slots(heard: Heard, reply: u64) -> [u64; 16]
-    ensures { λ r. ⌜ r ≡ heardSlots heard reply ⌝ }
+    ensures { λ r. ⌜ r ≡ inOrder (heardSlots heard reply) ⌝ }
 {
     let message = heard.message;
     let content = heard.content;
@@ -301,20 +310,32 @@ fn heard_slots(heard: Heard, reply: u64) -> [u64; 16]
     ]
 }
 
+// A refusal says only how long its reply is.
+fn refused_slots(reply: u64) -> [u64; 16]
+    ensures { λ r. ⌜ r ≡ inOrder (refusedSlots reply) ⌝ }
+{
+    [0, 0, 0, reply, 0, 0, 0, 0, 0, 0, 0, 0, 0, 0, 0, 0]
+}
+
 fn answer_slots(answer: Answer, reply: u64) -> [u64; 16]
-    ensures { λ r. ⌜ r ≡ answerSlots answer reply ⌝ }
+    ensures { λ r. ⌜ r ≡ inOrder (answerSlots answer reply) ⌝ }
 {
     match answer {
         Answer::Heard(heard) => heard_slots(heard, reply),
-        Answer::Refused(_) => [0, 0, 0, reply, 0, 0, 0, 0, 0, 0, 0, 0, 0, 0, 0, 0],
+        Answer::Stays(_) => refused_slots(reply),
+        Answer::Closes(_) => refused_slots(reply),
     }
 }
 
-// Whether a number changes no byte.
-fn leaves_block(number: u8) -> bool
-    ensures { λ r. ⌜ r ≡ leaves number ⌝ }
+// Whether an answer changes no byte.
+fn is_staying(answer: Answer) -> bool
+    ensures { λ r. ⌜ r ≡ stays answer ⌝ }
 {
-    (1 <= number) & (number <= 3)
+    match answer {
+        Answer::Heard(_) => false,
+        Answer::Stays(_) => true,
+        Answer::Closes(_) => false,
+    }
 }
 
 // Receives a message.
@@ -327,7 +348,7 @@ pub extern "C" fn fbdp_receive(
     out: &mut [u8],
     heard: &mut [u64; 16],
 ) -> u32
-    ensures { λ r. ⌜ ReceiveOnBlock (now (message .entry)) (now (name .entry)) (now (format .entry)) (now (block .entry)) (now (out .entry)) r (now (heard .exit)) (now (block .exit)) (now (out .exit)) ⌝ }
+    ensures { λ r. ⌜ ReceiveOnBlock (now (message .entry)) (offerOf (now (name .entry)) (now (format .entry))) (now (block .entry)) (now (out .entry)) r (now (heard .exit)) (now (block .exit)) (now (out .exit)) ⌝ }
 {
     let e = endpoint::load(block);
     let received = receiving::receive(e, message, name, format, out);
@@ -336,7 +357,7 @@ pub extern "C" fn fbdp_receive(
     let reply = received.reply;
     *heard = answer_slots(answer, reply_length(reply));
     let number = answer_number(answer);
-    if leaves_block(number) {
+    if is_staying(answer) {
         return number as u32;
     }
     endpoint::store(next, block);

@@ -13,7 +13,7 @@ enum-known-content-2 : tie.Need-enum-known-content-2
 enum-known-content-2 c = search needs
 
 returns : tie.Need-returns
-returns c = search needs
+returns c = simp (c .enum-told .given .1)
 
 returns-2 : tie.Need-returns-2
 returns-2 c = simp (c .before .content .given .1)

@@ -1,18 +1,16 @@
 -- `fbdp::fbdp_receive` meets its contract: the answer is what the record in the block makes of the message. Assumes nothing.
-use mathlib.Core.Path.{_∙_, _≡_, ap, sym}
+use Prim.Native.Nat.{ℕ}
+use mathlib.Core.Path.{_∙_, ap, sym}
 use mathlib.Core.Bool.{Bool, cond}
 use borrow.Author.Needs.{needs}
 use Rattle.bytes_be.specs.Part.{putAt}
+use Rattle.open.specs.Offer.{offerOf}
 use Rattle.endpoint.specs.Block.{bytesOf}
-use Rattle.receiving.specs.Receiving.{answerNumber}
-use Rattle.fbdp.specs.Blocks.{answerSlots, keptBy, leaves, stored}
+use Rattle.fbdp.specs.Blocks.{keptBy, stored}
+use Rattle.fbdp.specs.Slots.{answerSlots, inOrder}
 use Rattle.fbdp.proofs.OnBlocks.{receive-finished}
 use Rattle.fbdp.proofs.fbdp_receive.Statement.{statement}
 use Rattle.fbdp.proofs.fbdp_receive.Tie as tie
-
--- the number says whether the block is left
-left-by : (c : tie.After-leaves-block) → leaves (answerNumber (c .before .before .before .before .before .before .before .receive .result .answer)) ≡ c .leaves-block .result
-left-by c = ap leaves (sym (c .before .answer-number .ensures)) ∙ sym (c .leaves-block .ensures)
 
 load-requires : tie.Need-load-requires
 load-requires c κs = search needs
@@ -29,8 +27,8 @@ answer-slots-requires c κs = search needs
 answer-number-requires : tie.Need-answer-number-requires
 answer-number-requires c κs = search needs
 
-leaves-block-requires : tie.Need-leaves-block-requires
-leaves-block-requires c κs = search needs
+is-staying-requires : tie.Need-is-staying-requires
+is-staying-requires c κs = search needs
 
 cast-result : tie.Need-cast-result
 cast-result c = search needs
@@ -46,9 +44,9 @@ unfolding keptBy
 returns c =
     let a = c .before .before .before .before .before .before .before .before .before .before .before .before .before .before .before .before .before .args in
     let received = c .before .before .before .before .before .before .before .before .receive .result in
-    receive-finished (a .block .now) (c .before .before .before .before .before .before .before .before .before .before .load .result) (c .before .before .before .before .before .before .before .before .before .before .load .ensures) (a .message .now) (a .name .now) (a .format .now) (a .out .now) _ received _ _ _
-    (c .before .before .before .before .before .before .before .before .receive .ensures) (c .before .before .answer-number .ensures) (c .before .before .before .answer-slots .ensures ∙ ap (answerSlots (received .answer)) (c .before .before .before .before .reply-length .ensures))
-    (sym (ap (λ (t : Bool). cond t (a .block .now) (stored (received .next) (a .block .now))) (left-by (c .before) ∙ c .if1 .taken)))
+    receive-finished (a .block .now) (c .before .before .before .before .before .before .before .before .before .before .load .result) (c .before .before .before .before .before .before .before .before .before .before .load .ensures) (a .message .now) (offerOf (a .name .now) (a .format .now)) (a .out .now) _ received _ _ _
+    (c .before .before .before .before .before .before .before .before .receive .ensures) (c .before .before .answer-number .ensures) (c .before .before .before .answer-slots .ensures ∙ ap (λ (reply : ℕ). inOrder (answerSlots (received .answer) reply)) (c .before .before .before .before .reply-length .ensures))
+    (sym (ap (λ (t : Bool). cond t (a .block .now) (stored (received .next) (a .block .now))) (sym (c .before .is-staying .ensures) ∙ c .if1 .taken)))
 
 store-requires : tie.Need-store-requires
 store-requires c κs = search needs
@@ -67,9 +65,9 @@ unfolding stored keptBy
 returns-2 c =
     let a = c .before .before .before .before .before .before .before .before .before .before .before .before .before .before .before .before .before .before .before .before .before .args in
     let received = c .before .before .before .before .before .before .before .before .before .before .before .before .receive .result in
-    receive-finished (a .block .now) (c .before .before .before .before .before .before .before .before .before .before .before .before .before .before .load .result) (c .before .before .before .before .before .before .before .before .before .before .before .before .before .before .load .ensures) (a .message .now) (a .name .now) (a .format .now) (a .out .now) _ received _ _ _
-    (c .before .before .before .before .before .before .before .before .before .before .before .before .receive .ensures) (c .before .before .before .before .before .before .answer-number .ensures) (c .before .before .before .before .before .before .before .answer-slots .ensures ∙ ap (answerSlots (received .answer)) (c .before .before .before .before .before .before .before .before .reply-length .ensures))
-    (c .before .before .store .ensures ∙ sym (ap (λ (t : Bool). cond t (a .block .now) (putAt (a .block .now) 0 (bytesOf (received .next)))) (left-by (c .before .before .before .before .before) ∙ c .before .before .before .before .if1 .left)))
+    receive-finished (a .block .now) (c .before .before .before .before .before .before .before .before .before .before .before .before .before .before .load .result) (c .before .before .before .before .before .before .before .before .before .before .before .before .before .before .load .ensures) (a .message .now) (offerOf (a .name .now) (a .format .now)) (a .out .now) _ received _ _ _
+    (c .before .before .before .before .before .before .before .before .before .before .before .before .receive .ensures) (c .before .before .before .before .before .before .answer-number .ensures) (c .before .before .before .before .before .before .before .answer-slots .ensures ∙ ap (λ (reply : ℕ). inOrder (answerSlots (received .answer) reply)) (c .before .before .before .before .before .before .before .before .reply-length .ensures))
+    (c .before .before .store .ensures ∙ sym (ap (λ (t : Bool). cond t (a .block .now) (putAt (a .block .now) 0 (bytesOf (received .next)))) (sym (c .before .before .before .before .before .is-staying .ensures) ∙ c .before .before .before .before .if1 .left)))
 
 pub fbdp-receive-spec : {M : Type 1} → statement M
 fbdp-receive-spec =
@@ -80,7 +78,7 @@ fbdp-receive-spec =
     reply-length-requires
     answer-slots-requires
     answer-number-requires
-    leaves-block-requires
+    is-staying-requires
     cast-result
     same-length
     same-length-2

@@ -1,5 +1,6 @@
 -- `fbdp::fbdp_send_open` meets its contract: the answer is what the record in the block makes of the call. Assumes nothing.
 use borrow.Author.Needs.{needs}
+use Rattle.open.specs.Offer.{offerOf}
 use Rattle.sending.specs.Calls.{OPEN}
 use Rattle.fbdp.proofs.OnBlocks.{send-finished}
 use Rattle.fbdp.proofs.fbdp_send_open.Statement.{statement}
@@ -23,7 +24,7 @@ same-length-2 c = search needs
 returns : tie.Need-returns
 returns c =
     let a = c .before .before .before .before .before .before .before .before .before .before .before .before .before .before .before .args in
-    send-finished (a .block .now) (c .before .before .before .before .before .before .before .before .before .load .result) (c .before .before .before .before .before .before .before .before .before .load .ensures) (OPEN (a .name .now) (a .format .now)) (a .out .now) _ (c .before .before .before .before .before .before .before .send-open .result) _ _ _ (c .before .before .before .before .before .before .before .send-open .ensures) (c .before .before .finish .ensures)
+    send-finished (a .block .now) (c .before .before .before .before .before .before .before .before .before .load .result) (c .before .before .before .before .before .before .before .before .before .load .ensures) (OPEN (offerOf (a .name .now) (a .format .now))) (a .out .now) _ (c .before .before .before .before .before .before .before .send-open .result) _ _ _ (c .before .before .before .before .before .before .before .send-open .ensures) (c .before .before .finish .ensures)
 
 pub fbdp-send-open-spec : {M : Type 1} → statement M
 fbdp-send-open-spec =

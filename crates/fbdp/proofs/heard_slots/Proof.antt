@@ -5,7 +5,7 @@ use mathlib.Core.List.{List, [], _++_, _∷_}
 use lib.ListN.{length}
 use borrow.Author.Needs.{needs}
 use Rattle.bytes_be.proofs.Filled.{last-elements}
-use Rattle.fbdp.specs.Blocks.{heardSlots}
+use Rattle.fbdp.specs.Slots.{heardSlots}
 use Rattle.fbdp.proofs.heard_slots.Statement.{statement}
 use Rattle.fbdp.proofs.heard_slots.Tie as tie
 
