@@ -9,6 +9,7 @@ use denote.Laws.{Is}
 use denote.Ref.{RefT}
 use denote.Slice.{sliceVal}
 use denote.Struct.Laws as Struct
+use Rattle.open.specs.Offer.{Offer}
 use Rattle.endpoint.specs.declared.Endpoint.{Endpoint}
 use Rattle.endpoint.proofs.Endpoint as Endpoint-row
 use Rattle.endpoint.proofs.Endpoint.Laws as Endpoint-laws
@@ -52,7 +53,7 @@ pub send-said : (e : Endpoint) (call : Call) (before : List ℕ) {sent : Sent} {
 send-said e call before said =
     record { answered = ap toldOf (said .answered); changed = ap (λ (sent : Sent). sent .next) (said .answered); left = said .left }
 
-pub receive-said : (e : Endpoint) (s pipe before : List ℕ) {received : Received} {after : List ℕ} → ReceiveAnswer e s pipe before received after →
+pub receive-said : (e : Endpoint) (s : List ℕ) (pipe : Offer) (before : List ℕ) {received : Received} {after : List ℕ} → ReceiveAnswer e s pipe before received after →
     ReceiveOnLent e s pipe before (outcomeOf received) (received .next) after
 receive-said e s pipe before said =
     record {

@@ -4,6 +4,7 @@ use Prim.Native.Nat.{ℕ}
 use mathlib.Core.Path.{_≡_}
 use mathlib.Core.List.{List}
 use lib.ListN.{length}
+use Rattle.open.specs.Offer.{Offer}
 use Rattle.endpoint.specs.declared.Endpoint.{Endpoint}
 use Rattle.receiving.specs.declared.Received.{Received}
 use Rattle.receiving.specs.Receiving.{replied, receivedOf}
@@ -28,7 +29,7 @@ abbrev pub outcomeOf : Received → Outcome
 outcomeOf received = record { answer = received .answer; reply = received .reply }
 
 -- what a receive of this record answers, and the record and the output afterwards
-pub record ReceiveOnLent (e : Endpoint) (s pipe before : List ℕ) (outcome : Outcome) (next : Endpoint) (after : List ℕ) : Type 0 where
+pub record ReceiveOnLent (e : Endpoint) (s : List ℕ) (pipe : Offer) (before : List ℕ) (outcome : Outcome) (next : Endpoint) (after : List ℕ) : Type 0 where
   pub answered : outcome ≡ outcomeOf (receivedOf e s pipe (length before))
   pub changed : next ≡ receivedOf e s pipe (length before) .next
   pub left : after ≡ replied (receivedOf e s pipe (length before) .reply) before

@@ -36,6 +36,7 @@ use denote.Triple.Spec.{tripleOf}
 use denote.Triple.Clauses.{atExit}
 use denote.Triple.Walked.{Stays, stay-ref, stay-dropped, gave-slice, walkOf, AllGo, goes-dropped, goes-ref, goes-gave-slice, ends-at}
 use denote.Exit.{yes}
+use Rattle.open.specs.Offer.{offerOf}
 use Rattle.endpoint.specs.declared.Endpoint.{Endpoint}
 use Rattle.endpoint.proofs.Endpoint as Endpoint-row
 use Rattle.endpoint.proofs.Endpoint.Laws as Endpoint-laws
@@ -78,8 +79,8 @@ module _ {M : Type 1} (𝓤 : URA M) (H : Heap 𝓤) (A : Atoms 𝓤) (W : Given
   to-callee = (((κ₁, (κ₂, (κ₃, (κ₄, tt)))), (q₁, (q₂, (q₃, (q₄, tt)))), tt, (h, (s, (name, (format, (out, tt))))), (vals h, (slice-of s ∷ [], (slice-of name ∷ [], (slice-of format ∷ [], (slice-of out ∷ [], tt)))))), tt)
 
   -- what is said at exit follows from what the callee ensures
-  exits : (r : Received) (zs : List ℕ) → ReceiveAnswer h (s .now) (name .now) (format .now) (out .now) r zs → ent 𝓤 (emp 𝓤) (own.clauses 𝓤 H A at-mem run (entry .0 .0) x .ensures tt (outcomeOf r) (atExit own.ended (entry .0 .0) x (r .next, (tt, (tt, (tt, (zs, tt)))))))
-  exits r zs e = factI 𝓤 _ (emp 𝓤) (receive-said h (s .now) (name .now) (format .now) (out .now) e)
+  exits : (r : Received) (zs : List ℕ) → ReceiveAnswer h (s .now) (offerOf (name .now) (format .now)) (out .now) r zs → ent 𝓤 (emp 𝓤) (own.clauses 𝓤 H A at-mem run (entry .0 .0) x .ensures tt (outcomeOf r) (atExit own.ended (entry .0 .0) x (r .next, (tt, (tt, (tt, (zs, tt)))))))
+  exits r zs e = factI 𝓤 _ (emp 𝓤) (receive-said h (s .now) (offerOf (name .now) (format .now)) (out .now) e)
 
   walk : (C : Calls 𝓤 H) (Λ : Loops 𝓤 H) → FmC 𝓤 H (W .laws) C → Triple 𝓤 (C callee-def.name) (Callee 𝓤 H A at-mem run) → Room u8 (length (s .now)) → Room u8 (length (name .now)) → Room u8 (length (format .now)) → Room u8 (length (out .now))
       → ent 𝓤 (onEntry 𝓤 H A own.signature (κ, (κ₁, (κ₂, (κ₃, (κ₄, tt))))) (q, (q₁, (q₂, (q₃, (q₄, tt))))) x at) (WpFn 𝓤 H C Λ code.function (vptr b o ∷ slice-of s ∷ slice-of name ∷ slice-of format ∷ slice-of out ∷ []) (walkOf 𝓤 H A own.ended stayed (own.clauses 𝓤 H A at-mem run) .post entry))
@@ -99,7 +100,7 @@ module _ {M : Type 1} (𝓤 : URA M) (H : Heap 𝓤) (A : Atoms 𝓤) (W : Given
       move ! (1 ∷ 5 ∷ 6 ∷ []) $ passes ! $
       -- [what the callee asks; the record's cell; the open borrow; obs; auth; _9 (5); …]
       calls-at ! fm (Callee 𝓤 H A at-mem run) known to-callee (and-then ! (load ! (from ! (stop !)) (look ! 9 refl)) (and-then ! (load ! (from ! (stop !)) (look ! 19 refl)) (and-then ! (load ! (from ! (stop !)) (look ! 17 refl)) (and-then ! (load ! (from ! (stop !)) (look ! 15 refl)) (and-then ! (load ! (from ! (stop !)) (look ! 5 refl)) (no-more !)))))) (λ v.
-      answered ! tt 3 Received-row.the-row (alive 𝓤 H A callee.signature (κ₁, (κ₂, (κ₃, (κ₄, tt)))) (q₁, (q₂, (q₃, (q₄, tt))))) out (ReceiveAnswer h (s .now) (name .now) (format .now) (out .now)) v (λ r zs e l is.
+      answered ! tt 3 Received-row.the-row (alive 𝓤 H A callee.signature (κ₁, (κ₂, (κ₃, (κ₄, tt)))) (q₁, (q₂, (q₃, (q₄, tt))))) out (ReceiveAnswer h (s .now) (offerOf (name .now) (format .now)) (out .now)) v (λ r zs e l is.
       -- [what r owns; the other tokens; the last list; the record's cell (3); the open borrow; obs; auth (6); _9 (7); …]
       land ! (from ! (stop !)) (init ! 13 refl (Struct.lawful Received-row.the-type Received-laws.the-laws 𝓤 H A W .typed r _ is .0)) $
       rewrite ! 13 (λ (u : Val). ‵ (fat fullShare Received-laws.mir l₆ 0 u)) (ap only (Struct.tells Received-row.the-type Received-laws.the-laws r _ is)) refl $

@@ -36,6 +36,7 @@ use denote.Triple.Spec.{tripleOf}
 use denote.Triple.Clauses.{atExit}
 use denote.Triple.Walked.{Stays, stay-ref, stay-dropped, gave-slice, walkOf, AllGo, goes-dropped, goes-ref, goes-gave-slice, ends-at}
 use denote.Exit.{yes}
+use Rattle.open.specs.Offer.{offerOf}
 use Rattle.endpoint.specs.declared.Endpoint.{Endpoint}
 use Rattle.endpoint.proofs.Endpoint as Endpoint-row
 use Rattle.endpoint.proofs.Endpoint.Laws as Endpoint-laws
@@ -79,8 +80,8 @@ module _ {M : Type 1} (𝓤 : URA M) (H : Heap 𝓤) (A : Atoms 𝓤) (W : Given
   to-callee = (((κ₁, (κ₂, (κ₃, tt))), (q₁, (q₂, (q₃, tt))), tt, (h, (name, (format, (out, tt)))), (vals h, (slice-of name ∷ [], (slice-of format ∷ [], (slice-of out ∷ [], tt))))), tt)
 
   -- what is said at exit follows from what the callee ensures
-  exits : (r : Sent) (zs : List ℕ) → SendAnswer h (OPEN (name .now) (format .now)) (out .now) r zs → ent 𝓤 (emp 𝓤) (own.clauses 𝓤 H A at-mem run (entry .0 .0) x .ensures tt (toldOf r) (atExit own.ended (entry .0 .0) x (r .next, (tt, (tt, (zs, tt))))))
-  exits r zs e = factI 𝓤 _ (emp 𝓤) (send-said h (OPEN (name .now) (format .now)) (out .now) e)
+  exits : (r : Sent) (zs : List ℕ) → SendAnswer h (OPEN (offerOf (name .now) (format .now))) (out .now) r zs → ent 𝓤 (emp 𝓤) (own.clauses 𝓤 H A at-mem run (entry .0 .0) x .ensures tt (toldOf r) (atExit own.ended (entry .0 .0) x (r .next, (tt, (tt, (zs, tt))))))
+  exits r zs e = factI 𝓤 _ (emp 𝓤) (send-said h (OPEN (offerOf (name .now) (format .now))) (out .now) e)
 
   walk : (C : Calls 𝓤 H) (Λ : Loops 𝓤 H) → FmC 𝓤 H (W .laws) C → Triple 𝓤 (C callee-def.name) (Callee 𝓤 H A at-mem run) → Room u8 (length (name .now)) → Room u8 (length (format .now)) → Room u8 (length (out .now))
       → ent 𝓤 (onEntry 𝓤 H A own.signature (κ, (κ₁, (κ₂, (κ₃, tt)))) (q, (q₁, (q₂, (q₃, tt)))) x at) (WpFn 𝓤 H C Λ code.function (vptr b o ∷ slice-of name ∷ slice-of format ∷ slice-of out ∷ []) (walkOf 𝓤 H A own.ended stayed (own.clauses 𝓤 H A at-mem run) .post entry))
@@ -100,7 +101,7 @@ module _ {M : Type 1} (𝓤 : URA M) (H : Heap 𝓤) (A : Atoms 𝓤) (W : Given
       move ! (1 ∷ 5 ∷ 6 ∷ []) $ passes ! $
       -- [what the callee asks; the record's cell; the open borrow; obs; auth; _8 (5); …]
       calls-at ! fm (Callee 𝓤 H A at-mem run) known to-callee (and-then ! (load ! (from ! (stop !)) (look ! 9 refl)) (and-then ! (load ! (from ! (stop !)) (look ! 17 refl)) (and-then ! (load ! (from ! (stop !)) (look ! 15 refl)) (and-then ! (load ! (from ! (stop !)) (look ! 5 refl)) (no-more !))))) (λ v.
-      answered ! tt 2 Sent-row.the-row (alive 𝓤 H A callee.signature (κ₁, (κ₂, (κ₃, tt))) (q₁, (q₂, (q₃, tt)))) out (SendAnswer h (OPEN (name .now) (format .now)) (out .now)) v (λ r zs e l is.
+      answered ! tt 2 Sent-row.the-row (alive 𝓤 H A callee.signature (κ₁, (κ₂, (κ₃, tt))) (q₁, (q₂, (q₃, tt)))) out (SendAnswer h (OPEN (offerOf (name .now) (format .now))) (out .now)) v (λ r zs e l is.
       -- [what r owns; the other tokens; the last list; the record's cell (3); the open borrow; obs; auth (6); _8 (7); …]
       land ! (from ! (stop !)) (init ! 13 refl (Struct.lawful Sent-row.the-type Sent-laws.the-laws 𝓤 H A W .typed r _ is .0)) $
       rewrite ! 13 (λ (u : Val). ‵ (fat fullShare Sent-laws.mir l₅ 0 u)) (ap only (Struct.tells Sent-row.the-type Sent-laws.the-laws r _ is)) refl $
