@@ -11,11 +11,12 @@ use Rattle.control.specs.declared.MessageType.the-variants.{Ready, Close}
 use Rattle.control.specs.Frame.{typeOf, bytesOf}
 use Rattle.double.specs.Double.{bytesOf as Double·bytesOf}
 use Rattle.double.specs.Limit.{mostLimit}
+use Rattle.open.specs.Offer.{Offer, offerOf}
 use Rattle.open_write.specs.Frame.{frameFor}
 use Rattle.endpoint.specs.declared.Endpoint.{Endpoint}
 use Rattle.endpoint.specs.Record.{producer, consumer, idle, batch, shut, freshClient, freshServer, atPhase}
 use Rattle.receiving.specs.declared.Answer.{Answer}
-use Rattle.receiving.specs.declared.Answer.the-variants.{Heard, Refused}
+use Rattle.receiving.specs.declared.Answer.the-variants.{Heard, Stays, Closes}
 use Rattle.receiving.specs.declared.Received.{Received}
 use Rattle.receiving.specs.Receiving.{answerNumber, replyBytes, receivedOf}
 use Rattle.sending.specs.Calls.{Call, OPEN, READY, DATA, written}
@@ -25,9 +26,9 @@ pub record Case : Type 0 where
   pub found : List ℕ
   pub expected : List ℕ
 
--- the pipe name, with the empty format
-abbrev pub pipeName : List ℕ
-pipeName = ascii "press7"
+-- the pipe `press7`, with the empty format
+abbrev pub thePipe : Offer
+thePipe = offerOf (ascii "press7") []
 
 -- the client with the default limit, before its first message
 abbrev pub theClient : Endpoint
@@ -43,12 +44,13 @@ sentInto room e call = leftBy (sendOf e call room) (written e call) (replicate r
 
 -- a receive with just room for a reply, at an end that offers the pipe
 abbrev pub receive : Endpoint → List ℕ → Received
-receive e s = receivedOf e s pipeName [] 14
+receive e s = receivedOf e s thePipe 14
 
 -- "Heard with any message are its type, flags and type-data."
 abbrev pub heardIn : Answer → List ℕ
 heardIn (Heard heard) = typeOf (heard .message) ∷ heard .flags ∷ heard .«type_data» ∷ []
-heardIn (Refused number) = []
+heardIn (Stays number) = []
+heardIn (Closes number) = []
 
 -- what came of a receive: the number, the phase and n, and the bytes of the reply
 abbrev pub outcome : Received → List ℕ
@@ -89,7 +91,7 @@ k3 =
 abbrev pub k4 : Case
 k4 =
     record {
-      found = frameFor producer pipeName [] mostLimit ++ (sendOf theClient (OPEN pipeName []) 28 .written ∷ []);
+      found = frameFor producer thePipe mostLimit ++ (sendOf theClient (OPEN thePipe) 28 .written ∷ []);
       expected = 0x0A ∷ 0x06 ∷ 0x70 ∷ 0x72 ∷ 0x65 ∷ 0x73 ∷ 0x73 ∷ 0x37 ∷ 0x10 ∷ 0x01 ∷ 28 ∷ [];
     }
 
@@ -97,7 +99,7 @@ k4 =
 abbrev pub k5 : Case
 k5 =
     record {
-      found = Double·bytesOf 1000000 ++ (length (frameFor producer pipeName [] 1000000) ∷ []);
+      found = Double·bytesOf 1000000 ++ (length (frameFor producer thePipe 1000000) ∷ []);
       expected = 0x00 ∷ 0x00 ∷ 0x00 ∷ 0x00 ∷ 0x80 ∷ 0x84 ∷ 0x2E ∷ 0x41 ∷ 44 ∷ [];
     }
 
@@ -119,7 +121,7 @@ k8 = record { found = outcome (readyAfterOffer 0); expected = 0 ∷ idle ∷ 0 �
 
 -- a DATA with a body of three bytes
 abbrev pub dataMessage : List ℕ
-dataMessage = written theClient (DATA 0 false (ascii "run"))
+dataMessage = written theClient (DATA (record { type-data = 0; ask = false; body = ascii "run" }))
 
 -- what becomes of it at the server, with one DATA still to come
 abbrev pub afterData : Received

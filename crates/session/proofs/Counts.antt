@@ -14,9 +14,9 @@ use Rattle.control.specs.declared.MessageType.the-variants.{Open, Ready, Noop, 
 use Rattle.endpoint.specs.declared.Endpoint.{Endpoint}
 use Rattle.endpoint.specs.Record.{idle, offer, batch, shut, countFits, closed}
 use Rattle.endpoint.proofs.Told.{good-told}
-use Rattle.sending.specs.Calls.{Call, messageOf, typeDataOf, OPEN, READY, DATA, NOOP, CLOSE}
+use Rattle.sending.specs.Calls.{Datum, Call, messageOf, typeDataOf, OPEN, READY, DATA, NOOP, CLOSE}
 use Rattle.machine.specs.Good.{Sound}
-use Rattle.session.specs.World.{End, across, Datum, Ending, History, dataSent, readyCount, recentAfter, afterCall, afterMessage, Client, Server}
+use Rattle.session.specs.World.{End, across, Ending, History, dataSent, readyCount, recentAfter, afterCall, afterMessage, Client, Server}
 use Rattle.session.specs.Packets.{Packet, rowMessage, typeDataIn, dataIn, readyIn, Called, Confirms, Closes}
 use Rattle.session.specs.Turns.{roleOf}
 use Rattle.session.specs.Demand.{agreed, offersAt, sum, newest, nonZero, EachAtMost}

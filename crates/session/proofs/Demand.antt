@@ -9,6 +9,7 @@ use lib.Dec.{eqb, lit<}
 use borrow.Author.Tests.{eqb-true, le-ltb, ne-eqb, eqb-false}
 use lib.ListN.{length, length-append}
 use Rattle.utf8.specs.Text.{table, dueBehind, rest, wellFormed}
+use Rattle.open.specs.Offer.{Offer}
 use Rattle.open_write.specs.Frame.{goodName, goodFormat, isGood}
 use Rattle.endpoint.specs.declared.Endpoint.{Endpoint}
 use Rattle.endpoint.specs.Record.{producer, fresh, opening, idle, offer, batch, shut}

@@ -14,11 +14,11 @@ use Rattle.control.specs.declared.MessageType.{MessageType}
 use Rattle.control.specs.declared.MessageType.the-variants.{Noop, Data}
 use Rattle.endpoint.specs.declared.Endpoint.{Endpoint}
 use Rattle.table.specs.Table.{other}
-use Rattle.sending.specs.Calls.{Call, OPEN, READY, DATA, NOOP, CLOSE, messageOf, typeDataOf}
+use Rattle.sending.specs.Calls.{Datum, Call, OPEN, READY, DATA, NOOP, CLOSE, messageOf, typeDataOf}
 use Rattle.machine.proofs.Rows.{closed-sound}
 use Rattle.machine.specs.Good.{Sound}
 use Rattle.machine.specs.Programs.{Making, AsClient, AsServer, freshBy, Queued, SendOutcome}
-use Rattle.session.specs.World.{End, Makings, makingOf, noHistory, made, Client, Server, across, Datum, Ending, Side, endedBy, afterCall}
+use Rattle.session.specs.World.{End, Makings, makingOf, noHistory, made, Client, Server, across, Ending, Side, endedBy, afterCall}
 use Rattle.session.specs.World.{afterMessage, Going, HeardClose, WroteClose}
 use Rattle.session.specs.Packets.{Packet, dataIn, readyIn, queuedIn, rowMessage, typeDataIn, Called, Confirms, Closes}
 use Rattle.session.specs.Turns.{roleOf, Standing, nothing, empty, ahead}

@@ -6,10 +6,10 @@ use mathlib.Core.Bool.{true, false}
 use lib.ListN.{length}
 use Rattle.endpoint.specs.declared.Endpoint.{Endpoint}
 use Rattle.endpoint.specs.Record.{freshClient, freshServer}
-use Rattle.sending.specs.Calls.{OPEN, READY, DATA, NOOP, CLOSE}
+use Rattle.sending.specs.Calls.{Datum, OPEN, READY, DATA, NOOP, CLOSE}
 use Rattle.machine.specs.Programs.{tables}
 use Rattle.machine.proofs.Computing.{computing}
-use Rattle.session.specs.World.{Datum, Ending, World, Event, begun, afterReceive, step, run, Client, Server, Going, HeardClose, WroteClose}
+use Rattle.session.specs.World.{Ending, World, Event, begun, afterReceive, step, run, Client, Server, Going, HeardClose, WroteClose}
 use Rattle.session.specs.World.{sends, receives, makes}
 
 -- what is looked at afterwards: data sent by the client and by the server, data accepted by each, batches agreed, how each end ended, and how many

@@ -12,6 +12,7 @@ use Rattle.bytes_be.specs.Part.{same}
 use Rattle.bytes_be.proofs.Tests.{both-true, clash}
 use Rattle.control.specs.declared.MessageType.{MessageType}
 use Rattle.control.specs.declared.MessageType.the-variants.{Open, Ready, Noop, Data, Close}
+use Rattle.open.specs.Offer.{Offer}
 use Rattle.receiving.specs.Hearing.{confirmable}
 use Rattle.open.specs.Open.{offeredSocket}
 use Rattle.open_write.specs.Frame.{socketOf}

@@ -10,6 +10,7 @@ use Rattle.bytes_be.proofs.Tests.{clash}
 use Rattle.bytes_be.specs.Part.{putAt}
 use Rattle.control.specs.declared.MessageType.{MessageType}
 use Rattle.control.specs.declared.MessageType.the-variants.{Open, Ready, Noop, Data, Close}
+use Rattle.open.specs.Offer.{Offer}
 use Rattle.endpoint.specs.declared.Endpoint.{Endpoint}
 use Rattle.endpoint.specs.declared.Entry.{Entry}
 use Rattle.endpoint.specs.Record.{asked, atPhase, awaited, capacity, closed, entryBytes, shut}

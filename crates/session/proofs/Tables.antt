@@ -14,6 +14,7 @@ use Rattle.open.specs.declared.Open.the-variants.{Refused as OpenFrame·Refused
 use Rattle.open.specs.declared.Opening.{Opening}
 use Rattle.open.specs.declared.Refusal.{Refusal}
 use Rattle.open.specs.declared.Refusal.the-variants.{OtherPipe, OtherFormat}
+use Rattle.open.specs.Offer.{Offer}
 use Rattle.open.specs.Open.{offeredSocket, openNumber}
 use Rattle.open_write.specs.Frame.{isGood, socketOf}
 use Rattle.open_write.specs.Round.{answerTo}

@@ -3,6 +3,7 @@ use mathlib.Core.Path.{_≡_, refl, sym, ap, _∙_}
 use Prim.Native.Nat.{ℕ}
 use mathlib.Core.List.{List, [], _∷_, _++_, append-assoc, append-nil}
 use mathlib.Core.Bool.{Bool, true, false, cond}
+use Rattle.open.specs.Offer.{Offer}
 use Rattle.machine.specs.Programs.{Queued, Program}
 use Rattle.machine.specs.Runs.{Act, Makes, Sends, Receives, isKept, doneBy, takenBy, leftIn, gatheredIn, wroteIn, takenIn}
 use Rattle.machine.proofs.Runs.{left-append, gathered-append}

@@ -8,6 +8,7 @@ use mathlib.Core.Bool.{Bool, true, false, cond, _&&_, _||_}
 use lib.ListN.{length}
 use lib.Dec.{eqb}
 use Rattle.bytes_be.specs.Part.{same}
+use Rattle.open.specs.Offer.{Offer, offerOf}
 use Rattle.open.specs.Open.{offeredSocket}
 use Rattle.open_write.specs.Frame.{socketOf}
 use Rattle.endpoint.specs.declared.Endpoint.{Endpoint}
@@ -48,14 +49,14 @@ pub record Fresh {A : Type 0} (view : View A) (making : Making) (self : A) : Typ
   pub holds : view .endpoint self ≡ freshBy making
   pub none-due : view .ledger self ≡ nothingDue
 
--- "neither end refuses the other's message": what x answers to the bytes s that y wrote, offering this pipe name and format. It hears them, unless
--- that is an OPEN for another pipe name or socket, or for another format, or x has itself closed.
+-- "neither end refuses the other's message": what x answers to the bytes s that y wrote, with this offer. It hears them, unless that is an OPEN for
+-- another pipe name or socket, or for another format, or x has itself closed.
 pub data MayAnswer (x y : Side Endpoint) (s : List ℕ) (pipe : Offer) : ℕ → Type 0 where
   heard : MayAnswer x y s pipe 0
   other-pipe : (asked : Offer) → s ≡ written (y .self) (OPEN asked)
-      → same asked name && eqb (socketOf (y .self .flow)) (offeredSocket (x .self .flow)) ≡ false → MayAnswer x y s pipe 21
+      → same (asked .name) (pipe .name) && eqb (socketOf (y .self .flow)) (offeredSocket (x .self .flow)) ≡ false → MayAnswer x y s pipe 21
   other-format : (asked : Offer) → s ≡ written (y .self) (OPEN asked)
-      → eqb (length wanted) 0 || same wanted format ≡ false → MayAnswer x y s pipe 22
+      → eqb (length (asked .format)) 0 || same (asked .format) (pipe .format) ≡ false → MayAnswer x y s pipe 22
   after-own-close : x .past .ending ≡ WroteClose → MayAnswer x y s pipe 3
 
 -- "5 closed": an end has closed where its phase is 5, and nowhere else
@@ -117,9 +118,9 @@ nextEnd e = turn (producing Client (e .flow)) (e .phase)
 
 abbrev pub nextCall : Endpoint → Call
 nextCall e =
-    cond (eqb (e .phase) fresh) (OPEN (97 ∷ []) [])
+    cond (eqb (e .phase) fresh) (OPEN (offerOf (97 ∷ []) []))
     (cond (eqb (e .phase) offer) (READY (e .n))
-    (cond (eqb (e .phase) batch) (DATA 0 false [])
+    (cond (eqb (e .phase) batch) (DATA (record { type-data = 0; ask = false; body = [] }))
     (READY 1)))
 
 -- "While neither has closed and nothing is in transit"

@@ -7,12 +7,13 @@ use lib.ListN.{length}
 use lib.Dec.{eqb}
 use Rattle.control.specs.declared.MessageType.{MessageType}
 use Rattle.control.specs.declared.MessageType.the-variants.{Open, Data}
+use Rattle.open.specs.Offer.{Offer}
 use Rattle.endpoint.specs.declared.Endpoint.{Endpoint}
 use Rattle.endpoint.specs.declared.Entry.{Entry}
 use Rattle.endpoint.specs.Record.{capacity, closed, server, shut}
 use Rattle.table.specs.declared.Row.the-variants.{To}
 use Rattle.table.specs.Table.{other, rowOf}
-use Rattle.sending.specs.Calls.{Call, OPEN, READY, DATA, NOOP, CLOSE, messageOf, typeDataOf, askOf, aboveLimit, misgiven, miscoded, written}
+use Rattle.sending.specs.Calls.{Call, OPEN, READY, DATA, NOOP, CLOSE, messageOf, typeDataOf, askOf, ownNumber, written}
 use Rattle.sending.specs.Sending.{sendOf}
 use Rattle.machine.specs.Good.{Sound, Fits}
 use Rattle.machine.specs.Round.{isOffered}
@@ -51,12 +52,12 @@ answersIn prompt (Confirms message type-data) = []
 answersIn prompt (Closes code) = []
 
 -- whether an OPEN asks for what is offered
-abbrev pub offeredIn : Packet → Endpoint → List ℕ → List ℕ → Bool
+abbrev pub offeredIn : Packet → Endpoint → Offer → Bool
 offeredIn (Called e call) r pipe = isOffered e call r pipe
 offeredIn (Confirms message type-data) r pipe = true
 offeredIn (Closes code) r pipe = true
 
--- a call that does not ask, is within the limit and is given well, and whose row leads on
+-- a call that does not ask, that its own test does not refuse, and whose row leads on
 pub record MayCall (e : Endpoint) (call : Call) : Type 0 where
   pub sound : Sound e
   pub alive : eqb (e .phase) shut ≡ false
@@ -64,9 +65,7 @@ pub record MayCall (e : Endpoint) (call : Call) : Type 0 where
   pub n : ℕ
   pub leads : rowOf (e .role) (e .flow) (e .phase) (e .n) (messageOf call) (typeDataOf call) ≡ To phase n
   pub askless : askOf call ≡ false
-  pub small : aboveLimit e call ≡ false
-  pub given : misgiven call ≡ false
-  pub coded : miscoded e call ≡ false
+  pub unrefused : ownNumber e call ≡ 0
 
 module _ (rules : Rules) where
   -- what an end must be to hear a packet
@@ -81,7 +80,7 @@ module _ (rules : Rules) where
     pub few : (line : ℕ) → length (dues .owes line) + length (rules .pick line (askedIn m)) ≤ capacity
 
   -- what a server must be to refuse the OPEN of y
-  pub record MayRefuse (makings : Makings) (x y : Side Endpoint) (e : Endpoint) (asked : Offer) (pipe : Offer) : Type 0 where
+  pub record MayRefuse (makings : Makings) (x y : Side Endpoint) (e : Endpoint) (asked pipe : Offer) : Type 0 where
     pub sound : Sound (x .self)
     pub serves : x .self .role ≡ server
     pub accepted : AcceptedCall makings rules Client e (OPEN asked)
@@ -160,7 +159,7 @@ module _ {A O : Type 0} (p : Program A O) (model : Model A) where
         → model .Fine self → 14 ≤ p .room out → MayTake (model .rules) makings end (endpoint self) (ledger self) m pipe phase n rest
         → HeardOn model (endpoint self) (ledger self) m phase n rest (p .receive self (queuedIn m) pipe out)
     -- an OPEN for what is not offered is refused
-    pub refuses : (makings : Makings) (x : Side A) (y : Side Endpoint) (e : Endpoint) (asked : Offer) (pipe : Offer) (out : O)
+    pub refuses : (makings : Makings) (x : Side A) (y : Side Endpoint) (e : Endpoint) (asked pipe : Offer) (out : O)
         → model .Fine (x .self) → 14 ≤ p .room out
         → MayRefuse (model .rules) makings (viewedSide (model .view .endpoint) x) y e asked pipe
         → OpenRefused model (viewedSide (model .view .endpoint) x) y (written e (OPEN asked)) pipe

@@ -8,10 +8,10 @@ use Rattle.control.specs.Frame.{ackReply, typeOf}
 use Rattle.endpoint.specs.declared.Endpoint.{Endpoint}
 use Rattle.receiving.specs.declared.Reply.the-variants.{Frame}
 use Rattle.receiving.specs.Receiving.{replyBytes}
-use Rattle.sending.specs.Calls.{Call, OPEN, READY, DATA, NOOP, CLOSE, messageOf, typeDataOf, askOf, flagsFor, written}
+use Rattle.sending.specs.Calls.{Datum, Call, OPEN, READY, DATA, NOOP, CLOSE, messageOf, typeDataOf, askOf, flagsFor, written}
 use Rattle.machine.specs.Programs.{howOf, Queued, Told}
 use Rattle.machine.specs.Runs.{asReply}
-use Rattle.session.specs.World.{Datum, dataSent, readyCount}
+use Rattle.session.specs.World.{dataSent, readyCount}
 
 -- a call with the record that it was made on; the confirmation of a message; the CLOSE of a refusal
 pub data Packet : Type 0 where
@@ -31,7 +31,7 @@ bytesIn m = queuedIn m .bytes
 abbrev pub bodySent : Call → List ℕ
 bodySent (OPEN asked) = []
 bodySent (READY count) = []
-bodySent (DATA datum) = body
+bodySent (DATA datum) = datum .body
 bodySent (NOOP type-data ask) = []
 bodySent (CLOSE code) = []
 

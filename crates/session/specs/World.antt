@@ -9,8 +9,9 @@ use lib.Dec.{eqb}
 use lib.ListN.{length}
 use Rattle.control.specs.declared.MessageType.{MessageType}
 use Rattle.control.specs.declared.MessageType.the-variants.{Open, Ready, Noop, Data, Close}
-use Rattle.control.specs.Frame.{ackReply, typeOf}
-use Rattle.sending.specs.Calls.{Call, OPEN, READY, DATA, NOOP, CLOSE, messageOf, typeDataOf}
+use Rattle.control.specs.Frame.{ackRequest, ackReply, typeOf}
+use Rattle.open.specs.Offer.{Offer}
+use Rattle.sending.specs.Calls.{Datum, Call, OPEN, READY, DATA, NOOP, CLOSE, messageOf, typeDataOf}
 use Rattle.machine.specs.Good.{Fits}
 use Rattle.machine.specs.Programs.{Making, AsClient, AsServer, Queued, Told, Program}
 use Rattle.machine.specs.Runs.{Act, Makes, Sends, Receives, Done, isKept, doneBy, leftIn, wroteIn, takenIn}
@@ -33,11 +34,6 @@ makingOf makings Client = AsClient (makings .flow) (makings .limit)
 makingOf makings Server = AsServer (makings .server-flow)
 
 -- ---- what an end did and heard
-
--- what a DATA message carries
-pub record Datum : Type 0 where
-  pub type-data : ℕ
-  pub body : List ℕ
 
 -- whether an end has closed: by a CLOSE that it heard, or by any that it wrote
 pub data Ending : Type 0 where
@@ -62,7 +58,7 @@ noHistory = record { sent = []; accepted = []; readies = []; readies-heard = [];
 abbrev pub dataSent : Call → List Datum
 dataSent (OPEN asked) = []
 dataSent (READY count) = []
-dataSent (DATA datum) = record { type-data = type-data; body = body } ∷ []
+dataSent (DATA datum) = datum ∷ []
 dataSent (NOOP type-data ask) = []
 dataSent (CLOSE code) = []
 
@@ -70,7 +66,7 @@ dataSent (CLOSE code) = []
 abbrev pub dataTold : Told → List Datum
 dataTold told =
     cond (eqb (told .message) (typeOf Data) && not (eqb (told .flags) ackReply))
-    (record { type-data = told .type-data; body = told .body } ∷ [])
+    (record { type-data = told .type-data; ask = eqb (told .flags) ackRequest; body = told .body } ∷ [])
     []
 
 -- the count of a message that is a READY, and of a READY that is told
@@ -171,11 +167,11 @@ module _ {A : Type 0} where
   abbrev pub after : {O : Type 0} → End → Side A → Act O → Done A → Side A
   after end x act done = record { self = done .next; queue = x .queue ++ done .wrote; past = noted end (x .past) act done }
 
--- "Whatever is called and delivered, in any order": a send with any arguments; the receiving of the head of a queue with any pipe name and format on
--- offer; each with any output; and both ends made again
+-- "Whatever is called and delivered, in any order": a send with any arguments; the receiving of the head of a queue with any offer; each with any
+-- output; and both ends made again
 pub data Event (O : Type 0) : Type 0 where
   sends : End → Call → O → Event O
-  receives : End → List ℕ → List ℕ → O → Event O
+  receives : End → Offer → O → Event O
   makes : Makings → Event O
 
 module _ {A O : Type 0} (p : Program A O) where
@@ -183,7 +179,7 @@ module _ {A O : Type 0} (p : Program A O) where
   acted end x act = after end x act (doneBy p (x .self) act)
 
   -- "only the head of a queue is received"; where there is none, nothing is
-  unfoldable pub afterReceive : End → Side A → Side A → List Queued → List ℕ → List ℕ → O → World A
+  unfoldable pub afterReceive : End → Side A → Side A → List Queued → Offer → O → World A
   afterReceive end x y [] pipe out = joined end x y
   afterReceive end x y (m ∷ rest) pipe out =
       joined end (acted end x (Receives m pipe out))
