@@ -13,7 +13,7 @@ use Rattle.open.specs.Offer.{Offer}
 use Rattle.open_write.specs.Frame.{goodName, goodFormat, isGood}
 use Rattle.endpoint.specs.declared.Endpoint.{Endpoint}
 use Rattle.endpoint.specs.Record.{producer, fresh, opening, idle, offer, batch, shut}
-use Rattle.sending.specs.Calls.{Call, OPEN, READY, DATA, messageOf, typeDataOf, askOf, aboveLimit, misgiven, miscoded}
+use Rattle.sending.specs.Calls.{Call, OPEN, READY, DATA, messageOf, typeDataOf, askOf, aboveLimit, misgiven, numberIf, ownNumber}
 use Rattle.machine.specs.Good.{Fits, Sound}
 use Rattle.machine.proofs.Rows.{n-small}
 use Rattle.machine.specs.Programs.{Program, Queued, tables}
@@ -22,7 +22,7 @@ use Rattle.endpoint.specs.declared.Entry.{Entry}
 use Rattle.session.specs.World.{End, across, Client, Server, Ending, Side, World, Event, AllFit, side, joined, withQueue, afterReceive, step}
 use Rattle.session.specs.World.{run, begun, viewedSide, Going, HeardClose, WroteClose, receives}
 use Rattle.session.specs.Turns.{roleOf, Stage, stageOf, Standing, IsOpen, Listens, stands, standing, Converge, ClosedByOther, ClosedByItself}
-use Rattle.session.specs.Demand.{MaySend, movesOn, producing, MayAnswer, PhaseFits, agreed, sum, nextEnd, nextCall, AtRest, Demand, turn}
+use Rattle.session.specs.Demand.{pipeA, emptyDatum, MaySend, movesOn, producing, MayAnswer, PhaseFits, agreed, sum, nextEnd, nextCall, AtRest, Demand, turn}
 use Rattle.session.specs.Invariant.{Model, Delivers, source, Linked, Joint, Invariant}
 use Rattle.session.specs.Laws.{Laws, MayCall, InvariantHolds, LawsSuffice, onRecords}
 use Rattle.session.specs.Packets.{Packet, queuedIn, dataIn, readyIn}
@@ -58,7 +58,7 @@ is-producer end flow own = eqb-true flow producer (go (eqb flow producer) own)
     go true same = refl
     go false same = absurd (across-differs end same)
 
-named-well : isGood (97 ∷ []) [] ≡ true
+named-well : isGood pipeA ≡ true
 unfolding isGood goodName goodFormat wellFormed rest dueBehind table
 named-well = refl
 
@@ -66,8 +66,8 @@ module _ (end : End) (e : Endpoint) (sound : Sound e) (role : e .role ≡ roleOf
   -- the row of a call leads on, and no test refuses it
   may-call : eqb (e .phase) shut ≡ false → (call : Call) {phase n : ℕ}
       → Moved (e .role) (e .flow) (e .phase) (e .n) (messageOf call) (typeDataOf call) phase n
-      → askOf call ≡ false → aboveLimit e call ≡ false → misgiven call ≡ false → miscoded e call ≡ false → MayCall e call
-  may-call alive call {phase} {n} moves askless small given coded =
+      → askOf call ≡ false → ownNumber e call ≡ 0 → MayCall e call
+  may-call alive call {phase} {n} moves askless unrefused =
       record {
         sound = sound;
         alive = alive;
@@ -75,17 +75,16 @@ module _ (end : End) (e : Endpoint) (sound : Sound e) (role : e .role ≡ roleOf
         n = n;
         leads = moved-row moves;
         askless = askless;
-        small = small;
-        given = given;
-        coded = coded;
+        unrefused = unrefused;
       }
 
-  opens-first : end ≡ Client → e .phase ≡ fresh → Speaks e (OPEN (97 ∷ []) [])
+  opens-first : end ≡ Client → e .phase ≡ fresh → Speaks e (OPEN pipeA)
+  unfolding misgiven numberIf
   opens-first mine begins =
       record {
         fits = lit< tt;
         moves-on = refl;
-        may = may-call (rw begins refl) (OPEN (97 ∷ []) []) (opens (role ∙ rw mine refl) begins) refl refl (simp named-well) refl;
+        may = may-call (rw begins refl) (OPEN pipeA) (opens (role ∙ rw mine refl) begins) refl (simp named-well);
       }
 
   offers-one : end ≡ Server → opening ≤ e .phase → e .phase ≤ idle → Speaks e (READY 1)
@@ -95,7 +94,7 @@ module _ (end : End) (e : Endpoint) (sound : Sound e) (role : e .role ≡ roleOf
         moves-on = refl;
         may =
             may-call (ne-eqb (e .phase) shut (λ same. omega arith)) (READY 1)
-            (offers (λ same. not-client mine (sym role ∙ same)) low high (something (omega arith))) refl refl refl refl;
+            (offers (λ same. not-client mine (sym role ∙ same)) low high (something (omega arith))) refl refl;
       }
     where
       not-client : end ≡ Server → roleOf end ≡ 1 → ⊥
@@ -108,17 +107,18 @@ module _ (end : End) (e : Endpoint) (sound : Sound e) (role : e .role ≡ roleOf
         moves-on = refl;
         may =
             may-call (rw offered refl) (READY (e .n)) (takes (role ∙ rw mine refl) offered (omega arith) (begun-any batch (e .n) .2))
-            refl refl refl refl;
+            refl refl;
       }
 
-  gives-data : producing end (e .flow) ≡ end → e .phase ≡ batch → Speaks e (DATA 0 false [])
+  gives-data : producing end (e .flow) ≡ end → e .phase ≡ batch → Speaks e (DATA emptyDatum)
+  unfolding aboveLimit numberIf
   gives-data mine batching =
       record {
         fits = lit< tt;
         moves-on = refl;
         may =
-            may-call (rw batching refl) (DATA 0 false []) (gives (is-producer end (e .flow) mine) batching (begun-any batch (e .n - 1) .2))
-            refl (le-ltb (e .limit) 8 (omega (arith, limit-least e sound))) refl refl;
+            may-call (rw batching refl) (DATA emptyDatum) (gives (is-producer end (e .flow) mine) batching (begun-any batch (e .n - 1) .2))
+            refl (simp (le-ltb (e .limit) 8 (omega (arith, limit-least e sound))));
       }
 
 -- the phases that are neither 0, 3, 4 nor 5 are 1 and 2
@@ -264,7 +264,7 @@ module _ {A O : Type 0} (prog : Program A O) (model : Model A) (laws : Laws prog
         spoken : (is-fresh is-offer is-batch : Bool) → Type 0
         spoken is-fresh is-offer is-batch =
             MaySend prog (model .view) (side w (cond (is-fresh || is-offer) Client (cond is-batch producer-end Server)) .self)
-            (cond is-fresh (OPEN (97 ∷ []) []) (cond is-offer (READY (here .n)) (cond is-batch (DATA 0 false []) (READY 1))))
+            (cond is-fresh (OPEN pipeA) (cond is-offer (READY (here .n)) (cond is-batch (DATA emptyDatum) (READY 1))))
 
         by-client : (call : Call) → Speaks here call → MaySend prog (model .view) (w .client .self) call
         by-client call speaks = speaks-sent laws (w .client .self) call (holds .joint .fine) speaks
@@ -272,12 +272,12 @@ module _ {A O : Type 0} (prog : Program A O) (model : Model A) (laws : Laws prog
         by-server : (call : Call) → Speaks there call → MaySend prog (model .view) (w .server .self) call
         by-server call speaks = speaks-sent laws (w .server .self) call (holds .joint .fine-across) speaks
 
-        in-batch : here .phase ≡ batch → (end : End) → producer-end ≡ end → MaySend prog (model .view) (side w end .self) (DATA 0 false [])
+        in-batch : here .phase ≡ batch → (end : End) → producer-end ≡ end → MaySend prog (model .view) (side w end .self) (DATA emptyDatum)
         in-batch batching Client mine =
-            by-client (DATA 0 false []) (gives-data Client here (linked .here .sound) (linked .here .role) mine batching)
+            by-client (DATA emptyDatum) (gives-data Client here (linked .here .sound) (linked .here .role) mine batching)
         in-batch batching Server mine =
             let settled = linked .there .settled (omega (arith, same-phase), omega (arith, same-phase)) in
-            by-server (DATA 0 false [])
+            by-server (DATA emptyDatum)
             (gives-data Server there (linked .there .sound) (linked .there .role)
             (settled .produced ∙ ap (producing Client) (sym (linked .here .flows)) ∙ mine) (sym same-phase ∙ batching))
 
@@ -296,7 +296,7 @@ module _ {A O : Type 0} (prog : Program A O) (model : Model A) (laws : Laws prog
 
         from-fresh : (t : Bool) → eqb (here .phase) fresh ≡ t → spoken t (eqb (here .phase) offer) (eqb (here .phase) batch)
         from-fresh true begins =
-            by-client (OPEN (97 ∷ []) [])
+            by-client (OPEN pipeA)
             (opens-first Client here (linked .here .sound) (linked .here .role) refl (eqb-true (here .phase) fresh begins))
         from-fresh false other = from-offer (eqb (here .phase) offer) refl (eqb-false (here .phase) fresh other)
 

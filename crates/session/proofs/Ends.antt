@@ -185,8 +185,11 @@ module _ {A : Type 0} (makings : Makings) (model : Model A) where
       → AllProper makings (model .rules) end (answersIn prompt m)
   answers-proper prompt end (Called e (OPEN asked)) made = tt
   answers-proper prompt end (Called e (READY count)) made = tt
-  answers-proper prompt end (Called e (DATA type-data true body)) made = proper-if end (Confirms Data type-data) (prompt Data) (refl, made .fits)
-  answers-proper prompt end (Called e (DATA type-data false body)) made = tt
+  answers-proper prompt end (Called e (DATA datum)) made = go (datum .ask)
+    where
+      go : (ask : Bool) → AllProper makings (model .rules) end (cond ask (cond (prompt Data) (Confirms Data (datum .type-data) ∷ []) []) [])
+      go true = proper-if end (Confirms Data (datum .type-data)) (prompt Data) (refl, made .fits)
+      go false = tt
   answers-proper prompt end (Called e (NOOP type-data true)) made = proper-if end (Confirms Noop type-data) (prompt Noop) (refl, made .fits)
   answers-proper prompt end (Called e (NOOP type-data false)) made = tt
   answers-proper prompt end (Called e (CLOSE code)) made = tt

@@ -2,8 +2,9 @@
 use mathlib.Core.Path.{_≡_, refl}
 use mathlib.Core.List.{List, [], _∷_, _++_}
 use Prim.Native.Nat.{ℕ}
-use mathlib.Core.Bool.{true, false}
+use mathlib.Core.Bool.{Bool, true, false}
 use lib.ListN.{length}
+use Rattle.open.specs.Offer.{Offer, offerOf}
 use Rattle.endpoint.specs.declared.Endpoint.{Endpoint}
 use Rattle.endpoint.specs.Record.{freshClient, freshServer}
 use Rattle.sending.specs.Calls.{Datum, OPEN, READY, DATA, NOOP, CLOSE}
@@ -11,6 +12,7 @@ use Rattle.machine.specs.Programs.{tables}
 use Rattle.machine.proofs.Computing.{computing}
 use Rattle.session.specs.World.{Ending, World, Event, begun, afterReceive, step, run, Client, Server, Going, HeardClose, WroteClose}
 use Rattle.session.specs.World.{sends, receives, makes}
+use Rattle.session.specs.Demand.{pipeA}
 
 -- what is looked at afterwards: data sent by the client and by the server, data accepted by each, batches agreed, how each end ended, and how many
 -- messages are on their way to the server and to the client
@@ -26,41 +28,47 @@ summary w =
 abbrev start : ℕ → ℕ → ℕ → World Endpoint
 start flow limit server-flow = begun (freshClient flow limit) (freshServer server-flow)
 
+abbrev nothingOffered : Offer
+nothingOffered = offerOf [] []
+
+abbrev datum : ℕ → Bool → List ℕ → Datum
+datum type-data ask body = record { type-data = type-data; ask = ask; body = body }
+
 -- the client opens and the server hears that
 opens : List (Event ℕ)
-opens = sends Client (OPEN (97 ∷ []) []) 4200 ∷ receives Server (97 ∷ []) [] 14 ∷ []
+opens = sends Client (OPEN pipeA) 4200 ∷ receives Server pipeA 14 ∷ []
 
 -- the client produces: of an offer of five it takes two, asks for a confirmation of the second, and is refused a third; one receive has no room
 -- for a reply; the server closes, and the client's NOOP comes after that
 client-produces : List (Event ℕ)
 client-produces =
     opens
-    ++ (sends Server (READY 5) 14 ∷ receives Client [] [] 14 ∷ sends Client (READY 2) 14 ∷ [])
-    ++ (sends Client (DATA 1 false (10 ∷ [])) 20 ∷ sends Client (DATA 2 true (20 ∷ [])) 20 ∷ sends Client (DATA 3 false []) 20 ∷ [])
-    ++ (receives Server [] [] 14 ∷ receives Server [] [] 13 ∷ receives Server [] [] 14 ∷ receives Server [] [] 14 ∷ [])
+    ++ (sends Server (READY 5) 14 ∷ receives Client nothingOffered 14 ∷ sends Client (READY 2) 14 ∷ [])
+    ++ (sends Client (DATA (datum 1 false (10 ∷ []))) 20 ∷ sends Client (DATA (datum 2 true (20 ∷ []))) 20 ∷ sends Client (DATA (datum 3 false [])) 20 ∷ [])
+    ++ (receives Server nothingOffered 14 ∷ receives Server nothingOffered 13 ∷ receives Server nothingOffered 14 ∷ receives Server nothingOffered 14 ∷ [])
     ++ (sends Client (NOOP 9 true) 14 ∷ sends Server (CLOSE 0) 14 ∷ [])
-    ++ (receives Server [] [] 14 ∷ receives Client [] [] 14 ∷ receives Client [] [] 14 ∷ [])
+    ++ (receives Server nothingOffered 14 ∷ receives Client nothingOffered 14 ∷ receives Client nothingOffered 14 ∷ [])
 
 -- the server produces: one batch of one, the confirmation of whose DATA is still on its way
 server-produces : List (Event ℕ)
 server-produces =
     opens
-    ++ (sends Server (READY 0) 14 ∷ sends Server (READY 1) 14 ∷ receives Client [] [] 14 ∷ receives Client [] [] 14 ∷ [])
-    ++ (sends Client (READY 1) 14 ∷ receives Server [] [] 14 ∷ sends Server (DATA 7 true []) 18 ∷ receives Client [] [] 14 ∷ [])
+    ++ (sends Server (READY 0) 14 ∷ sends Server (READY 1) 14 ∷ receives Client nothingOffered 14 ∷ receives Client nothingOffered 14 ∷ [])
+    ++ (sends Client (READY 1) 14 ∷ receives Server nothingOffered 14 ∷ sends Server (DATA (datum 7 true [])) 18 ∷ receives Client nothingOffered 14 ∷ [])
 
 -- both produce, and the OPEN is refused; once its CLOSE is heard, both are made again, and the server sends READY
 both-produce : List (Event ℕ)
 both-produce =
     opens
-    ++ (receives Client [] [] 14 ∷ makes (record { flow = 1; limit = 50000000; server-flow = 2 }) ∷ [])
+    ++ (receives Client nothingOffered 14 ∷ makes (record { flow = 1; limit = 50000000; server-flow = 2 }) ∷ [])
     ++ opens
     ++ (sends Server (READY 3) 14 ∷ [])
 
 abbrev pages : List Datum
-pages = record { type-data = 1; body = 10 ∷ [] } ∷ record { type-data = 2; body = 20 ∷ [] } ∷ []
+pages = datum 1 false (10 ∷ []) ∷ datum 2 true (20 ∷ []) ∷ []
 
 abbrev report : List Datum
-report = record { type-data = 7; body = [] } ∷ []
+report = datum 7 true [] ∷ []
 
 sessions :
     summary (run tables (start 1 1000000 2) client-produces)

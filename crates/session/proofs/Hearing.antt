@@ -102,13 +102,17 @@ answers-converge : (prompt : MessageType → Bool) (from end : End) {s : Stage} 
     → Hears from end (At s) m a → Converge from end a p b q → Converge from end a (p ++ answersIn prompt m) b q
 answers-converge prompt from end (Called e (OPEN asked)) hears converge = rw append-nil converge
 answers-converge prompt from end (Called e (READY count)) hears converge = rw append-nil converge
-answers-converge prompt from end {s} (Called e (DATA type-data true body)) (moved {t = t} moving theirs leads) converge =
-    let move = row-moved (roleOf (turn from (s .phase))) producer (s .phase) (s .n) Data type-data (t .phase) (t .n) leads in
-    converge-if from end (prompt Data)
-    (calms refl (leads-active from s (Called e (DATA type-data true body)) t moving leads (data-active move))) converge
-answers-converge prompt from end (Called e (DATA type-data true body)) (rested still active) converge = clash cc
-answers-converge prompt from end (Called e (DATA type-data true body)) (Hears·closed closing alive) converge = clash cc
-answers-converge prompt from end (Called e (DATA type-data false body)) hears converge = rw append-nil converge
+answers-converge prompt from end {s} {b = b} {p = p} {q = q} (Called e (DATA datum)) (moved {t = t} moving theirs leads) converge = go (datum .ask)
+  where
+    move : Moved (roleOf (turn from (s .phase))) producer (s .phase) (s .n) Data (datum .type-data) (t .phase) (t .n)
+    move = row-moved (roleOf (turn from (s .phase))) producer (s .phase) (s .n) Data (datum .type-data) (t .phase) (t .n) leads
+
+    go : (ask : Bool) → Converge from end (At t) (p ++ cond ask (cond (prompt Data) (Confirms Data (datum .type-data) ∷ []) []) []) b q
+    go true =
+        converge-if from end (prompt Data) (calms refl (leads-active from s (Called e (DATA datum)) t moving leads (data-active move))) converge
+    go false = rw append-nil converge
+answers-converge prompt from end (Called e (DATA datum)) (rested still active) converge = clash cc
+answers-converge prompt from end (Called e (DATA datum)) (Hears·closed closing alive) converge = clash cc
 answers-converge prompt from end (Called e (NOOP type-data true)) (moved moving theirs leads) converge = clash cc
 answers-converge prompt from end (Called e (NOOP type-data true)) (rested still active) converge =
     converge-if from end (prompt Noop) (calms refl active) converge
@@ -150,10 +154,10 @@ module _ {A : Type 0} (makings : Makings) (model : Model A) where
       → offeredIn m r pipe ≡ true → isOpenMessage (rowMessage m) ≡ true → producing end (r .flow) ≡ source makings
   open-source Client r _ (an-open e asked) pipe made moves offers is = absurd (clients-open moves)
   open-source Server r _ (an-open e asked) pipe made moves offers is =
-      let all = both-true (same asked name && eqb (socketOf (e .flow)) (offeredSocket (r .flow)))
-      (eqb (length wanted) 0 || same wanted format) offers in
-      let pipe = both-true (same asked name) (eqb (socketOf (e .flow)) (offeredSocket (r .flow))) (all .0) in
-      offered-source (r .flow) (e .flow) (eqb-true _ _ (pipe .1)) ∙ ap (producing Client) (made .flows)
+      let all = both-true (same (asked .name) (pipe .name) && eqb (socketOf (e .flow)) (offeredSocket (r .flow)))
+      (eqb (length (asked .format)) 0 || same (asked .format) (pipe .format)) offers in
+      let named = both-true (same (asked .name) (pipe .name)) (eqb (socketOf (e .flow)) (offeredSocket (r .flow))) (all .0) in
+      offered-source (r .flow) (e .flow) (eqb-true _ _ (named .1)) ∙ ap (producing Client) (made .flows)
   open-source end r m (another later always stays) pipe made moves offers is = clash cc
 
   module _ (nothing : (line : ℕ) → model .rules .pick line [] ≡ []) (end : End) (x y : Side Endpoint) (p q : List Packet) (m : Packet)
@@ -320,8 +324,11 @@ record NotedAs (m : Packet) : Type 0 where
 called-noted : (e : Endpoint) (call : Call) → NotedAs (Called e call)
 called-noted e (OPEN asked) = record { carries = refl; readies = refl; ends = λ replied before. refl }
 called-noted e (READY count) = record { carries = refl; readies = refl; ends = λ replied before. refl }
-called-noted e (DATA type-data true body) = record { carries = refl; readies = refl; ends = λ replied before. refl }
-called-noted e (DATA type-data false body) = record { carries = refl; readies = refl; ends = λ replied before. refl }
+called-noted e (DATA datum) = go (datum .ask)
+  where
+    go : (ask : Bool) → NotedAs (Called e (DATA (record { type-data = datum .type-data; ask = ask; body = datum .body })))
+    go true = record { carries = refl; readies = refl; ends = λ replied before. refl }
+    go false = record { carries = refl; readies = refl; ends = λ replied before. refl }
 called-noted e (NOOP type-data ask) = record { carries = refl; readies = refl; ends = λ replied before. refl }
 called-noted e (CLOSE code) = record { carries = refl; readies = refl; ends = λ replied before. refl }
 

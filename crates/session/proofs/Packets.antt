@@ -48,7 +48,7 @@ pub data OpenOrOther : Packet → Type 0 where
       → ((limit : ℕ) → limitAfter m limit ≡ limit) → OpenOrOther m
 
 pub open-or-other : (m : Packet) → OpenOrOther m
-open-or-other (Called e (OPEN asked)) = an-open e pipe
+open-or-other (Called e (OPEN asked)) = an-open e asked
 open-or-other (Called e (READY count)) = another refl (λ r pipe. refl) (λ limit. refl)
 open-or-other (Called e (DATA datum)) = another refl (λ r pipe. refl) (λ limit. refl)
 open-or-other (Called e (NOOP type-data ask)) = another refl (λ r pipe. refl) (λ limit. refl)

@@ -28,7 +28,7 @@ use Rattle.session.proofs.Link.{across-linked, sent-linked}
 use Rattle.session.proofs.Hearing.{leads, clients-open, moves, head-may, heard-linked, refused-linked, late-linked, heard-noted, refused-noted}
 
 -- what an end may answer to a message takes it from its queue
-answer-takes : {x y : Side Endpoint} {s pipe : List ℕ} {number : ℕ} → MayAnswer x y s pipe number → isKept number ≡ false
+answer-takes : {x y : Side Endpoint} {s : List ℕ} {pipe : Offer} {number : ℕ} → MayAnswer x y s pipe number → isKept number ≡ false
 answer-takes heard = refl
 answer-takes (other-pipe asked as-written differs) = refl
 answer-takes (other-format asked as-written differs) = refl

@@ -5,7 +5,7 @@ use mathlib.Core.List.{List}
 use mathlib.Core.Bool.{Bool, true, false, not, _&&_, _||_}
 use lib.ListN.{length}
 use lib.Dec.{eqb, lit<}
-use borrow.Author.Tests.{not-false, eq-eqb, le-ltb, lt-ltb}
+use borrow.Author.Tests.{eq-eqb, le-ltb, lt-ltb}
 use native.Mathlib.Omega.{arith}
 use Rattle.bytes_be.specs.Part.{same}
 use Rattle.bytes_be.proofs.Tests.{both-true, clash}
@@ -16,18 +16,18 @@ use Rattle.open.specs.declared.Refusal.{Refusal}
 use Rattle.open.specs.declared.Refusal.the-variants.{OtherPipe, OtherFormat}
 use Rattle.open.specs.Offer.{Offer}
 use Rattle.open.specs.Open.{offeredSocket, openNumber}
-use Rattle.open_write.specs.Frame.{isGood, socketOf}
+use Rattle.open_write.specs.Frame.{socketOf}
 use Rattle.open_write.specs.Round.{answerTo}
 use Rattle.open_write.proofs.Round.{read-back}
 use Rattle.endpoint.specs.declared.Endpoint.{Endpoint}
 use Rattle.endpoint.specs.Record.{server, entryAt, shut, givenNumber, freshOf}
 use Rattle.endpoint.proofs.Told.{good-told}
 use Rattle.table.specs.Table.{other}
-use Rattle.receiving.specs.Hearing.{carriedBy, hearMessage, hearOf, openAt}
+use Rattle.receiving.specs.Hearing.{carriedBy, forbidden, hearContent, hearMessage, hearOf, openAt}
 use Rattle.receiving.specs.Refusing.{closeCode, refused, silent, unchanged}
 use Rattle.sending.specs.Calls.{OPEN, outgoing, written, Call}
 use Rattle.sending.proofs.Decided.{accepted-passed, passed-accepted}
-use Rattle.machine.proofs.Round.{reads-back}
+use Rattle.machine.proofs.Round.{reads-back, well-given}
 use Rattle.machine.proofs.Rows.{closed-sound, row-alive}
 use Rattle.machine.specs.Programs.{outcomeOf, Making, AsClient, AsServer, freshBy}
 use Rattle.bytes_be.proofs.Parts.{length-tabulate}
@@ -57,25 +57,25 @@ both-fail : (a b : Bool) → a || b ≡ false → not a && not b ≡ true
 both-fail true b fails = clash cc
 both-fail false b fails = simp fails
 
-module _ (flow : ℕ) (pipe : Offer) (opening : Opening) (serverFlow : ℕ) (pipe : List ℕ) where
+module _ (flow : ℕ) (asked : Offer) (opening : Opening) (serverFlow : ℕ) (pipe : Offer) where
   -- 21 for another name or socket
-  pipe-refused : same name offeredName && eqb (socketOf flow) (offeredSocket serverFlow) ≡ false
-      → answerTo flow pipe opening serverFlow pipe ≡ OpenFrame·Refused OtherPipe
+  pipe-refused : same (asked .name) (pipe .name) && eqb (socketOf flow) (offeredSocket serverFlow) ≡ false
+      → answerTo flow asked opening serverFlow pipe ≡ OpenFrame·Refused OtherPipe
   unfolding answerTo
-  pipe-refused differs = simp (either-fails (same name offeredName) (eqb (socketOf flow) (offeredSocket serverFlow)) differs)
+  pipe-refused differs = simp (either-fails (same (asked .name) (pipe .name)) (eqb (socketOf flow) (offeredSocket serverFlow)) differs)
 
   -- 22 for another format
-  format-refused : same name offeredName && eqb (socketOf flow) (offeredSocket serverFlow) ≡ true
-      → eqb (length format) 0 || same format offeredFormat ≡ false
-      → answerTo flow pipe opening serverFlow pipe ≡ OpenFrame·Refused OtherFormat
+  format-refused : same (asked .name) (pipe .name) && eqb (socketOf flow) (offeredSocket serverFlow) ≡ true
+      → eqb (length (asked .format)) 0 || same (asked .format) (pipe .format) ≡ false
+      → answerTo flow asked opening serverFlow pipe ≡ OpenFrame·Refused OtherFormat
   unfolding answerTo
   format-refused agrees differs =
-      let pipe = both-true (same name offeredName) (eqb (socketOf flow) (offeredSocket serverFlow)) agrees in
-      simp (pipe .0, pipe .1, both-fail (eqb (length format) 0) (same format offeredFormat) differs)
+      let named = both-true (same (asked .name) (pipe .name)) (eqb (socketOf flow) (offeredSocket serverFlow)) agrees in
+      simp (named .0, named .1, both-fail (eqb (length (asked .format)) 0) (same (asked .format) (pipe .format)) differs)
 
 -- ---- what a server does
 
-module _ (makings : Makings) (x y : Side Endpoint) (e : Endpoint) (asked : Offer) (pipe : Offer)
+module _ (makings : Makings) (x y : Side Endpoint) (e : Endpoint) (asked pipe : Offer)
     (refusable : MayRefuse (onRecords .rules) makings x y e asked pipe) where
   abbrev r : Endpoint
   r = x .self
@@ -87,16 +87,16 @@ module _ (makings : Makings) (x y : Side Endpoint) (e : Endpoint) (asked : Offer
   frame-refused : (refusal : Refusal)
       → ((opening : Opening) → answerTo (e .flow) asked opening (r .flow) pipe ≡ OpenFrame·Refused refusal)
       → hearOf r s pipe ≡ refused r (openNumber (OpenFrame·Refused refusal)) 1
-  unfolding hearOf hearMessage carriedBy openAt
+  unfolding hearOf hearMessage hearContent forbidden carriedBy openAt
   frame-refused refusal answers =
       let call = OPEN asked in
       let made = refusable .accepted in
       let passed = accepted-passed e (outgoing e call) (made .accepted .room) (made .accepted .accepted) in
       let back = reads-back e call (made .fits) (made .accepted .room) (made .accepted .accepted) in
-      let given = not-false (isGood asked) (passed .given) in
+      let given = well-given asked (passed .unrefused) in
       let read = read-back (e .flow) asked (e .limit) given (good-told e (passed .is-good) .bounded) s 18 (back .framed) in
       let heard = read .heard (r .flow) pipe ∙ answers (read .opening) in
-      let small = call-small r (refusable .sound) e call (passed .within) (passed .given) (λ bears. clash cc) in
+      let small = call-small r (refusable .sound) e call (passed .unrefused) (λ bears. clash cc) in
       let leads = call-leads e call r (refusable .phase) (refusable .n) (refusable .leads) in
       let alive = row-alive (other (r .role)) (other (r .flow)) (r .phase) (r .n) Open 0 (refusable .phase) (refusable .n) (refusable .leads) in
       simp (alive, back .read, small, leads, heard)
@@ -126,11 +126,11 @@ module _ (makings : Makings) (x y : Side Endpoint) (e : Endpoint) (asked : Offer
 
   pub open-refused : RefusedBy
   unfolding silent closeCode
-  open-refused = go (same asked name && eqb (socketOf (e .flow)) (offeredSocket (r .flow))) refl
+  open-refused = go (same (asked .name) (pipe .name) && eqb (socketOf (e .flow)) (offeredSocket (r .flow))) refl
     where
-      go : (t : Bool) → same asked name && eqb (socketOf (e .flow)) (offeredSocket (r .flow)) ≡ t → RefusedBy
+      go : (t : Bool) → same (asked .name) (pipe .name) && eqb (socketOf (e .flow)) (offeredSocket (r .flow)) ≡ t → RefusedBy
       go true agrees =
-          let format-differs : eqb (length wanted) 0 || same wanted format ≡ false = simp agrees at (refusable .differs) in
+          let format-differs : eqb (length (asked .format)) 0 || same (asked .format) (pipe .format) ≡ false = simp agrees at (refusable .differs) in
           closes-by 22 103
           (frame-refused OtherFormat (λ opening. format-refused (e .flow) asked opening (r .flow) pipe agrees format-differs))
           refl (simp (refusable .serves)) refl (lit< tt)
@@ -168,9 +168,7 @@ may-sent e call may fits room enough =
       allowed = simp (may .leads);
       below = simp (may .leads);
       awaits = simp (may .askless);
-      within = may .small;
-      given = may .given;
-      coded = may .coded;
+      unrefused = may .unrefused;
       fits = enough;
     })
 

@@ -6,7 +6,7 @@ use mathlib.Core.Bool.{Bool, true, false, cond}
 use native.Mathlib.Omega.{arith}
 use lib.ListN.{drop, length}
 use lib.Dec.{leb}
-use borrow.Author.Tests.{eq-eqb, le-ltb, leb-true, lt-ltb, ltb-false, not-false}
+use borrow.Author.Tests.{eq-eqb, le-ltb, leb-true, lt-ltb, ltb-false}
 use Rattle.bytes_be.specs.Part.{tabulate}
 use Rattle.bytes_be.proofs.Tests.{both-true, clash}
 use Rattle.control.specs.declared.MessageType.{MessageType}
@@ -20,7 +20,7 @@ use Rattle.endpoint.specs.Record.{awaited, confirmed, entryAt, limited, oldest,
 use Rattle.endpoint.proofs.Awaited.{confirmed-awaited, limited-awaited, oldest-awaited}
 use Rattle.endpoint.proofs.StaysGood.{confirmed-good, confirmed-sized, limited-good, limited-sized}
 use Rattle.endpoint.proofs.Told.{good-told}
-use Rattle.open_write.specs.Frame.{frameFor, isGood}
+use Rattle.open_write.specs.Frame.{frameFor}
 use Rattle.open_write.proofs.Fields.{frame-short}
 use Rattle.table.specs.declared.Row.the-variants.{To}
 use Rattle.table.specs.Table.{atRow, other, rowOf}
@@ -30,12 +30,12 @@ use Rattle.receiving.specs.declared.Received.{Received}
 use Rattle.receiving.specs.declared.Reply.the-variants.{Nothing as Reply·Nothing, Frame}
 use Rattle.receiving.specs.Hearing.{confirmable, confirms, hearOf, hearRow, matchesOldest, movesAs, tooLarge, unmatched}
 use Rattle.receiving.specs.Receiving.{answerNumber}
-use Rattle.sending.specs.Calls.{Call, OPEN, READY, DATA, NOOP, CLOSE, aboveLimit, askOf, messageOf, misgiven, outgoing, typeDataOf, written}
+use Rattle.sending.specs.Calls.{Call, OPEN, READY, DATA, NOOP, CLOSE, askOf, messageOf, outgoing, ownNumber, typeDataOf, written}
 use Rattle.sending.proofs.Decided.{accepted-passed}
 use Rattle.machine.specs.Good.{Sound}
 use Rattle.machine.specs.Round.{ContentSent, afterHearing, confirmation, isReply, messageSent, messageWith}
 use Rattle.machine.proofs.Replies.{replies-heard}
-use Rattle.machine.proofs.Round.{heard-as-sent, own-flags}
+use Rattle.machine.proofs.Round.{heard-as-sent, not-above, own-flags, well-given}
 use Rattle.machine.specs.Programs.{bodyAt, toldOf, replies, outcomeOf}
 use Rattle.session.specs.World.{End, Makings}
 use Rattle.session.specs.Packets.{Packet, bytesIn, bodySent, toldIn, Called, Confirms, Closes}
@@ -61,18 +61,19 @@ module _ (r : Endpoint) (sound : Sound r) where
       (both-true (leb leastLimit (r .limit)) (leb (r .limit) mostLimit) (good-told r (sound .is-good) .bounded) .0)
 
   -- what an end may send is not too large for another of its limit, and only data can be
-  pub call-small : (e : Endpoint) (call : Call) → aboveLimit e call ≡ false → misgiven call ≡ false
+  pub call-small : (e : Endpoint) (call : Call) → ownNumber e call ≡ 0
       → (messageOf call ≡ Data → r .limit ≡ e .limit) → tooLarge r (messageSent e call) ≡ false
   unfolding tooLarge
-  call-small e (OPEN asked) within given same =
-      let short = frame-short (e .flow) pipe (e .limit) (not-false (isGood pipe) given) in
-      let frame : ℕ = length (frameFor (e .flow) pipe (e .limit)) in
+  call-small e (OPEN asked) own same =
+      let short = frame-short (e .flow) asked (e .limit) (well-given asked own) in
+      let frame : ℕ = length (frameFor (e .flow) asked (e .limit)) in
       simp (le-ltb (r .limit) (8 + frame) (omega (arith, limit-least)), le-ltb 4096 frame (omega arith))
-  call-small e (READY count) within given same = le-ltb (r .limit) 8 (omega (arith, limit-least))
-  call-small e (DATA datum) within given same =
-      le-ltb (r .limit) (8 + length body) (omega (arith, same refl, ltb-false (e .limit) (8 + length body) within))
-  call-small e (NOOP type-data ask) within given same = le-ltb (r .limit) 8 (omega (arith, limit-least))
-  call-small e (CLOSE code) within given same = refl
+  call-small e (READY count) own same = le-ltb (r .limit) 8 (omega (arith, limit-least))
+  call-small e (DATA datum) own same =
+      let size = 8 + length (datum .body) in
+      le-ltb (r .limit) size (omega (arith, same refl, ltb-false (e .limit) size (not-above e datum own)))
+  call-small e (NOOP type-data ask) own same = le-ltb (r .limit) 8 (omega (arith, limit-least))
+  call-small e (CLOSE code) own same = refl
 
 -- the body that is heard is the one sent
 call-body : (e : Endpoint) (call : Call) (content : Content) → ContentSent e call (written e call) content
@@ -244,7 +245,7 @@ module _ (makings : Makings) (end : End) (r : Endpoint) (pipe : Offer) (phase n 
       heard-as-sent e call (made .fits) room (made .accepted .accepted) r pipe phase n
       (record {
         leads = call-leads e call r phase n (may .leads);
-        small = call-small r (may .sound) e call (passed .within) (passed .given) (λ bears. may .limited bears ∙ sym (made .limited));
+        small = call-small r (may .sound) e call (passed .unrefused) (λ bears. may .limited bears ∙ sym (made .limited));
         offered = may .offered;
       }) in
       let comes = row-comes r (may .sound) (other (r .role)) (other (r .flow)) (messageOf call) (typeDataOf call) phase n (made .fits) (may .leads) in

@@ -15,7 +15,7 @@ use Rattle.endpoint.specs.declared.Endpoint.{Endpoint}
 use Rattle.endpoint.specs.declared.Entry.{Entry}
 use Rattle.endpoint.specs.declared.Given.the-variants.{Good}
 use Rattle.endpoint.specs.Record.{awaited, producer, fresh, offer, batch, shut, good, givenOf}
-use Rattle.sending.specs.Calls.{Call, OPEN, READY, DATA, NOOP, CLOSE, written}
+use Rattle.sending.specs.Calls.{Datum, Call, OPEN, READY, DATA, NOOP, CLOSE, written}
 use Rattle.machine.specs.Good.{Fits}
 use Rattle.machine.specs.Programs.{Making, freshBy, Queued, Program, tables}
 use Rattle.session.specs.World.{End, Client, Server, across, Makings, makingOf, Ending, Going, HeardClose, WroteClose, History, Side, World, side}
@@ -116,11 +116,17 @@ turn source phase = cond (eqb phase fresh || eqb phase offer) Client (cond (eqb 
 abbrev pub nextEnd : Endpoint → End
 nextEnd e = turn (producing Client (e .flow)) (e .phase)
 
+abbrev pub pipeA : Offer
+pipeA = offerOf (97 ∷ []) []
+
+abbrev pub emptyDatum : Datum
+emptyDatum = record { type-data = 0; ask = false; body = [] }
+
 abbrev pub nextCall : Endpoint → Call
 nextCall e =
-    cond (eqb (e .phase) fresh) (OPEN (offerOf (97 ∷ []) []))
+    cond (eqb (e .phase) fresh) (OPEN pipeA)
     (cond (eqb (e .phase) offer) (READY (e .n))
-    (cond (eqb (e .phase) batch) (DATA (record { type-data = 0; ask = false; body = [] }))
+    (cond (eqb (e .phase) batch) (DATA emptyDatum)
     (READY 1)))
 
 -- "While neither has closed and nothing is in transit"
