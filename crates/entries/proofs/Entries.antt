@@ -2,35 +2,38 @@
 use mathlib.Core.Path.{_≡_, _∙_, ap, refl, sym}
 use Prim.Native.Nat.{ℕ, _≤_}
 use mathlib.Core.List.{List, []}
+use mathlib.Core.Bool.{true, cond}
 use native.Mathlib.Omega.{arith}
 use lib.ListN.{length, take}
 use lib.Dec.{eqb}
 use lib.Seq.{take-all}
-use borrow.Author.Tests.{eqb-true, le-leb, lt-leb, ne-eqb}
+use borrow.Author.Tests.{eqb-true, ne-eqb}
 use Rattle.bytes_be.proofs.Tests.{clash, took-first}
 use Rattle.bytes_be.specs.Part.{putAt}
 use Rattle.bytes_be.proofs.Parts.{length-put, part-put}
+use Rattle.open.specs.Offer.{Offer}
 use Rattle.endpoint.specs.declared.Endpoint.{Endpoint}
 use Rattle.endpoint.specs.Record.{givenOf, givenNumber}
 use Rattle.endpoint.specs.Block.{bytesOf, loadOf}
 use Rattle.endpoint.proofs.Round.{block-told, loaded-good, stored-loads}
 use Rattle.endpoint.proofs.Stored.{length-block}
 use Rattle.receiving.specs.declared.Answer.{Answer}
-use Rattle.receiving.specs.declared.Answer.the-variants.{Heard as Answer·Heard, Refused}
+use Rattle.receiving.specs.declared.Answer.the-variants.{Heard, Stays, Closes}
 use Rattle.receiving.specs.declared.Reply.{Reply}
 use Rattle.receiving.specs.declared.Reply.the-variants.{Nothing, Frame}
 use Rattle.receiving.specs.declared.Received.{Received}
 use Rattle.receiving.specs.Receiving.{answerNumber, receivedOf, replied}
-use Rattle.receiving.specs.Refusing.{refused, unchanged}
+use Rattle.receiving.specs.Refusing.{unchanged}
 use Rattle.sending.specs.declared.Sent.{Sent}
 use Rattle.sending.specs.Calls.{Call, outgoing, written}
 use Rattle.sending.specs.Sending.{leftBy, sendOf}
 use Rattle.sending.proofs.Decided.{accepted-passed, accepted-sent}
 use Rattle.machine.specs.Good.{Sound}
-use Rattle.machine.specs.Refusals.{Outcome, stays, closes, hears}
-use Rattle.machine.proofs.Refusals.{receive-comes-to}
-use Rattle.fbdp.specs.Blocks.{MakeAnswer, makeNumber, SendOnBlock, ReceiveOnBlock, answerSlots, heardSlots, keptAfter, keptBy, leaves, replyLength}
-use Rattle.fbdp.specs.Blocks.{stored}
+use Rattle.machine.specs.Refusals.{DoesAs, saidBy}
+use Rattle.machine.proofs.Refusals.{receive-does}
+use Rattle.machine.proofs.Stages.{uncoded}
+use Rattle.fbdp.specs.Slots.{answerSlots, heardSlots, slotsIn}
+use Rattle.fbdp.specs.Blocks.{MakeAnswer, makeNumber, SendOnBlock, ReceiveOnBlock, keptAfter, keptBy, replyLength, stays, stored}
 use Rattle.machine.specs.Programs.{Making, freshBy, toldOf, replies, outcomeOf, ReceiveOutcome, ignored, tables}
 use Rattle.entries.specs.Entries.{Entries, Meets, onBlocks, toldBy, receiveTold, repliesBy, TablesMeet, byTables, MadeAreFresh, DemandOnBlocks}
 use Rattle.session.specs.Demand.{promptLedger}
@@ -99,22 +102,30 @@ module _ (block : List ℕ) (call : Call) (out : List ℕ) (number count : ℕ) 
 
 -- a receive: what the entry told, wrote and left is what the record in its block came to
 
-received-back : (block : List ℕ) (received : Received) → Outcome (loadOf block) received → length block ≡ 64 → Sound (received .next)
-    → loadOf (keptBy received block) ≡ received .next
-unfolding keptBy leaves unchanged refused
-received-back block _ (stays number among) full sound = simp (le-leb 1 number (among .0), le-leb number 3 (among .1))
-received-back block _ (closes number said among) full sound =
-    simp (le-leb 1 number (omega (arith, among .0)), lt-leb number 3 (omega (arith, among .0))) (stored-back _ sound block full)
-received-back block _ (hears heard next reply) full sound = stored-back next sound block full
+received-back : (s block : List ℕ) (answer : Answer) (next : Endpoint) (reply : Reply)
+    → DoesAs (loadOf block) s (record { answer = answer; next = next; reply = reply }) answer → length block ≡ 64 → Sound next
+    → loadOf (cond (stays answer) block (stored next block)) ≡ next
+unfolding unchanged
+received-back s block (Heard heard) next reply does full sound = stored-back next sound block full
+received-back s block (Stays number) next reply does full sound = ap (λ (r : Received). r .next) (sym does)
+received-back s block (Closes number) next reply does full sound = stored-back next sound block full
+
+-- a receive that answers 2 or 3 leaves the block, as no CLOSE has such a number
+ignored-stays : (e : Endpoint) (s : List ℕ) (received : Received) (answer : Answer) → DoesAs e s received answer
+    → (2 ≤ answerNumber answer) × (answerNumber answer ≤ 3) → stays answer ≡ true
+ignored-stays e s received (Heard heard) does among = absurd (omega (arith, among .0))
+ignored-stays e s received (Stays number) does among = refl
+ignored-stays e s received (Closes number) does among = absurd (does .coded (uncoded e number (saidBy s) (omega (arith, among .1))))
 
 no-reply : (answer : Answer) (reply : Reply) (out : List ℕ) → replies reply ≡ []
     → repliesBy (answerSlots answer (replyLength reply)) (replied reply out) ≡ []
 unfolding heardSlots
-no-reply (Answer·Heard heard) Nothing out none = refl
-no-reply (Refused number) Nothing out none = refl
+no-reply (Heard heard) Nothing out none = refl
+no-reply (Stays number) Nothing out none = refl
+no-reply (Closes number) Nothing out none = refl
 no-reply answer (Frame message flags type-data) out none = clash cc
 
-module _ (s pipe block out : List ℕ) (number : ℕ) (slots block′ out′ : List ℕ)
+module _ (s : List ℕ) (pipe : Offer) (block out : List ℕ) (number : ℕ) (slots block′ out′ : List ℕ)
     (answer : ReceiveOnBlock s pipe block out number slots block′ out′) where
   abbrev heard : Received
   heard = receivedOf (loadOf block) s pipe (length out)
@@ -123,26 +134,28 @@ module _ (s pipe block out : List ℕ) (number : ℕ) (slots block′ out′ : L
   outcome = receiveTold s (record { number = number; slots = slots; block = block′; out = out′ })
 
   received-told : outcome .told ≡ toldOf s (heard .answer)
-  received-told = ap (toldBy s) (answer .told) ∙ answer-told s (heard .answer) (replyLength (heard .reply))
+  received-told = ap (λ (numbers : List ℕ). toldBy s (slotsIn numbers)) (answer .told) ∙ answer-told s (heard .answer) (replyLength (heard .reply))
 
   received-alike : 14 ≤ length out → Sound (loadOf block) → Sound (heard .next) → Alike loadOf outcome (outcomeOf s heard)
+  unfolding keptBy
   received-alike room sound next-sound =
-      let comes = receive-comes-to (loadOf block) s pipe (length out) in
+      let does = receive-does (loadOf block) s pipe (length out) in
       record {
         number = answer .numbered;
         told = received-told;
-        replied = (λ i. repliesBy (answer .told i) (answer .left i)) ∙ reply-told (heard .answer) (heard .reply) out room;
-        next = ap loadOf (answer .kept) ∙ received-back block heard comes (block-full block sound) next-sound;
+        replied = (λ i. repliesBy (slotsIn (answer .told i)) (answer .left i)) ∙ reply-told (heard .answer) (heard .reply) out room;
+        next = ap loadOf (answer .kept) ∙ received-back s block (heard .answer) (heard .next) (heard .reply) does (block-full block sound) next-sound;
       }
 
   received-ignored : (k : ℕ) → (2 ≤ k) × (k ≤ 3) → outcomeOf s heard ≡ ignored k (loadOf block) → outcome ≡ ignored k block
-  unfolding keptBy leaves
+  unfolding keptBy
   received-ignored k among same =
       let number-of : answerNumber (heard .answer) ≡ k = ap (λ (r : ReceiveOutcome Endpoint). r .number) same in
       let none-told = received-told ∙ ap (λ (r : ReceiveOutcome Endpoint). r .told) same in
       let none = no-reply (heard .answer) (heard .reply) out (ap (λ (r : ReceiveOutcome Endpoint). r .replied) same) in
-      let none-replied = (λ i. repliesBy (answer .told i) (answer .left i)) ∙ none in
-      let kept : block′ ≡ block = answer .kept ∙ simp (number-of, le-leb 1 k (omega (arith, among .0)), le-leb k 3 (among .1)) in
+      let none-replied = (λ i. repliesBy (slotsIn (answer .told i)) (answer .left i)) ∙ none in
+      let does = receive-does (loadOf block) s pipe (length out) in
+      let kept : block′ ≡ block = answer .kept ∙ simp (ignored-stays (loadOf block) s heard (heard .answer) does (omega (arith, number-of, among .0), omega (arith, number-of, among .1))) in
       λ i. record { number = (answer .numbered ∙ number-of) i; told = none-told i; replied = none-replied i; next = kept i }
 
 -- a making: what was made has 64 bytes and is loaded again

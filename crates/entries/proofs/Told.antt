@@ -1,11 +1,12 @@
 -- What `fbdp_receive` tells in its slots and writes to its output is what was heard and replied. Assumes nothing.
 use mathlib.Core.Path.{_≡_, ap, refl}
 use Prim.Native.Nat.{ℕ, _≤_}
-use mathlib.Core.List.{List, [], _∷_, _++_}
+use mathlib.Core.List.{List, [], _∷_}
 use mathlib.Core.Bool.{cond}
 use native.Mathlib.Omega.{arith}
 use lib.Dec.{eqb}
 use lib.ListN.{length, take}
+use Rattle.bytes_be.specs.Part.{partAt}
 use Rattle.bytes_be.proofs.Parts.{part-put}
 use Rattle.bundle.proofs.Outputs.{one-long}
 use Rattle.control.specs.declared.MessageType.{MessageType}
@@ -15,12 +16,13 @@ use Rattle.receiving.specs.declared.Content.{Content}
 use Rattle.receiving.specs.declared.Content.the-variants.{Nothing as Content·Nothing, Opening, Body}
 use Rattle.receiving.specs.declared.Heard.{Heard}
 use Rattle.receiving.specs.declared.Answer.{Answer}
-use Rattle.receiving.specs.declared.Answer.the-variants.{Heard as Answer·Heard, Refused}
+use Rattle.receiving.specs.declared.Answer.the-variants.{Heard as Answer·Heard, Stays, Closes}
 use Rattle.receiving.specs.declared.Reply.{Reply}
 use Rattle.receiving.specs.declared.Reply.the-variants.{Nothing, Frame}
 use Rattle.receiving.specs.Receiving.{replyBytes, replied}
-use Rattle.fbdp.specs.Blocks.{answerSlots, contentSlots, heardSlots, replyLength}
-use Rattle.machine.specs.Programs.{bodyAt, toldOf, replies}
+use Rattle.fbdp.specs.Slots.{answerSlots, carriesOf, heardSlots}
+use Rattle.fbdp.specs.Blocks.{replyLength}
+use Rattle.machine.specs.Programs.{Told, bodyAt, toldOf, replies}
 use Rattle.entries.specs.Entries.{toldBy, repliesBy}
 
 -- type, flags, type-data and the place of the body
@@ -28,16 +30,18 @@ heard-told : (s : List ℕ) (heard : Heard) (reply : ℕ) → toldBy s (heardSlo
 unfolding heardSlots
 heard-told s heard reply = go (heard .content)
   where
-    go : (content : Content)
-        → toldBy s ((typeOf (heard .message) ∷ heard .flags ∷ heard .«type_data» ∷ reply ∷ heard .frames ∷ []) ++ contentSlots content ++ (0 ∷ 0 ∷ []))
-        ≡ record { message = typeOf (heard .message); flags = heard .flags; type-data = heard .«type_data»; body = bodyAt s content }
+    told : List ℕ → Told
+    told body = record { message = typeOf (heard .message); flags = heard .flags; type-data = heard .«type_data»; body = body }
+
+    go : (content : Content) → told (partAt s (carriesOf content .body)) ≡ told (bodyAt s content)
     go Content·Nothing = refl
     go (Opening opening) = refl
     go (Body place) = refl
 
 pub answer-told : (s : List ℕ) (answer : Answer) (reply : ℕ) → toldBy s (answerSlots answer reply) ≡ toldOf s answer
 answer-told s (Answer·Heard heard) reply = heard-told s heard reply
-answer-told s (Refused number) reply = refl
+answer-told s (Stays number) reply = refl
+answer-told s (Closes number) reply = refl
 
 -- a reply has 14 bytes, which a host finds in an output that has room for it
 
@@ -56,4 +60,5 @@ pub reply-told : (answer : Answer) (reply : Reply) (out : List ℕ) → 14 ≤ l
     → repliesBy (answerSlots answer (replyLength reply)) (replied reply out) ≡ replies reply
 unfolding heardSlots
 reply-told (Answer·Heard heard) reply out room = reply-found reply out room
-reply-told (Refused number) reply out room = reply-found reply out room
+reply-told (Stays number) reply out room = reply-found reply out room
+reply-told (Closes number) reply out room = reply-found reply out room

@@ -3,9 +3,10 @@
 use Prim.Native.Nat.{ℕ}
 use mathlib.Core.List.{List, [], _∷_}
 use mathlib.Core.Bool.{cond}
-use lib.ListN.{length, getD, take}
+use lib.ListN.{length, take}
 use lib.Dec.{eqb}
-use Rattle.bytes_be.specs.Part.{part}
+use Rattle.bytes_be.specs.Part.{partAt}
+use Rattle.open.specs.Offer.{Offer}
 use Rattle.endpoint.specs.declared.Endpoint.{Endpoint}
 use Rattle.endpoint.specs.Block.{loadOf}
 use Rattle.receiving.specs.declared.Received.{Received}
@@ -15,8 +16,8 @@ use Rattle.sending.specs.Calls.{Call, written}
 use Rattle.sending.specs.Sending.{leftBy}
 use Rattle.machine.specs.Good.{Fits}
 use Rattle.machine.specs.Programs.{Making, freshBy, Told, MakeOutcome, SendOutcome, ReceiveOutcome, Program}
-use Rattle.fbdp.specs.Blocks.{MakeAnswer, SendOnBlock, ReceiveOnBlock, answerSlots, keptAfter, keptBy, makeNumber, receivedOn, replyLength, sentOn}
-use Rattle.fbdp.specs.Blocks.{stored}
+use Rattle.fbdp.specs.Blocks.{MakeAnswer, SendOnBlock, ReceiveOnBlock, keptAfter, keptBy, makeNumber, receivedOn, replyLength, sentOn, stored}
+use Rattle.fbdp.specs.Slots.{Slots, answerSlots, inOrder, slotsIn}
 use Rattle.session.specs.Demand.{View, promptLedger, Fresh, DemandOf}
 
 -- ---- the entries
@@ -35,11 +36,11 @@ pub record ReceiveResult : Type 0 where
   pub block : List ℕ
   pub out : List ℕ
 
--- a making on a block; a call on a block and an output; a message, the pipe name and the format on offer, on a block and an output
+-- a making on a block; a call on a block and an output; a message with an offer, on a block and an output
 pub record Entries : Type 0 where
   pub makes : Making → List ℕ → MakeOutcome (List ℕ)
   pub sends : Call → List ℕ → List ℕ → SendResult
-  pub receives : List ℕ → List ℕ → List ℕ → List ℕ → List ℕ → ReceiveResult
+  pub receives : List ℕ → Offer → List ℕ → List ℕ → ReceiveResult
 
 -- whatever is called, with arguments of their types, the result meets the contract of the entry. Blocks, messages and outputs are any lists of numbers,
 -- as in the contracts: an entry is known on bytes alone, and on other lists it is taken to do as `byTables`.
@@ -49,7 +50,7 @@ pub record Meets (entries : Entries) : Type 0 where
   pub calls : (call : Call) → Fits call → (block out : List ℕ)
       → SendOnBlock call block out (entries .sends call block out .number) (entries .sends call block out .count)
       (entries .sends call block out .block) (entries .sends call block out .out)
-  pub messages : (s pipe block out : List ℕ)
+  pub messages : (s : List ℕ) (pipe : Offer) (block out : List ℕ)
       → ReceiveOnBlock s pipe block out (entries .receives s pipe block out .number)
       (entries .receives s pipe block out .slots) (entries .receives s pipe block out .block)
       (entries .receives s pipe block out .out)
@@ -75,7 +76,7 @@ abbrev pub receiveResult : Received → List ℕ → List ℕ → ReceiveResult
 receiveResult received block out =
     record {
       number = answerNumber (received .answer);
-      slots = answerSlots (received .answer) (replyLength (received .reply));
+      slots = inOrder (answerSlots (received .answer) (replyLength (received .reply)));
       block = keptBy received block;
       out = replied (received .reply) out;
     }
@@ -95,21 +96,19 @@ TablesMeet = Meets byTables
 
 -- ---- what a host is told
 
--- the slots of `struct fbdp_heard`: 0 the type, 1 the flags, 2 type-data, 3 the length of the reply, 12 and 13 the place of the body
-abbrev pub slot : List ℕ → ℕ → ℕ
-slot slots i = getD slots i 0
-
-abbrev pub toldBy : List ℕ → List ℕ → Told
+-- of what was heard
+abbrev pub toldBy : List ℕ → Slots → Told
 toldBy s slots =
     record {
-      message = slot slots 0;
-      flags = slot slots 1;
-      type-data = slot slots 2;
-      body = part s (slot slots 12) (slot slots 13);
+      message = slots .message;
+      flags = slots .flags;
+      type-data = slots .type-data;
+      body = partAt s (slots .carries .body);
     }
 
-abbrev pub repliesBy : List ℕ → List ℕ → List (List ℕ)
-repliesBy slots out = cond (eqb (slot slots 3) 0) [] (take (slot slots 3) out ∷ [])
+-- and of a reply, which stands at the start of the output
+abbrev pub repliesBy : Slots → List ℕ → List (List ℕ)
+repliesBy slots out = cond (eqb (slots .reply) 0) [] (take (slots .reply) out ∷ [])
 
 abbrev pub sendTold : SendResult → SendOutcome (List ℕ)
 sendTold result = record { number = result .number; bytes = take (result .count) (result .out); next = result .block }
@@ -118,8 +117,8 @@ abbrev pub receiveTold : List ℕ → ReceiveResult → ReceiveOutcome (List ℕ
 receiveTold s result =
     record {
       number = result .number;
-      told = toldBy s (result .slots);
-      replied = repliesBy (result .slots) (result .out);
+      told = toldBy s (slotsIn (result .slots));
+      replied = repliesBy (slotsIn (result .slots)) (result .out);
       next = result .block;
     }
 

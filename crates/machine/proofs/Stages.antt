@@ -1,11 +1,11 @@
 -- What holds of every refusal and of every message that all tests let pass holds of whatever a receive makes of bytes. Assumes nothing.
 use mathlib.Core.Path.{_≡_, ap, refl, subst}
-use Prim.Native.Nat.{ℕ, _+_, _≤_}
+use Prim.Native.Nat.{ℕ, _+_, _≤_, _<_}
 use mathlib.Core.List.{List}
 use mathlib.Core.Bool.{Bool, cond, false, not, true, _&&_}
 use native.Mathlib.Omega.{arith}
 use lib.Dec.{eqb, ltb}
-use borrow.Author.Tests.{eqb-false}
+use borrow.Author.Tests.{eqb-false, ne-eqb}
 use Rattle.bytes_be.proofs.Tests.{took-second}
 use Rattle.control.specs.Frame.{typeOf}
 use Rattle.open.specs.Offer.{Offer}
@@ -86,6 +86,28 @@ coded e number said low high none =
     let past-24 = took-second (eqb number 24) (λ is. absurd (omega arith)) (past-23 .1) in
     let from-25 = above from-24 (eqb-false number 24 (past-24 .0)) in
     omega arith
+
+-- and no number below has one
+pub uncoded : (e : Endpoint) (number said : ℕ) → number < 10 → closeCode e number said ≡ 0
+unfolding closeCode
+uncoded e number said low =
+    simp (
+      ne-eqb number 10 (λ same. omega arith),
+      ne-eqb number 11 (λ same. omega arith),
+      ne-eqb number 12 (λ same. omega arith),
+      ne-eqb number 13 (λ same. omega arith),
+      ne-eqb number 14 (λ same. omega arith),
+      ne-eqb number 15 (λ same. omega arith),
+      ne-eqb number 16 (λ same. omega arith),
+      ne-eqb number 17 (λ same. omega arith),
+      ne-eqb number 18 (λ same. omega arith),
+      ne-eqb number 19 (λ same. omega arith),
+      ne-eqb number 20 (λ same. omega arith),
+      ne-eqb number 21 (λ same. omega arith),
+      ne-eqb number 22 (λ same. omega arith),
+      ne-eqb number 23 (λ same. omega arith),
+      ne-eqb number 24 (λ same. omega arith),
+    )
 
 -- and so has that of a message that is not read, and of one whose content is not heard
 
