@@ -11,10 +11,12 @@ use Rattle.bytes_be.specs.Part.{part, putAt}
 use Rattle.bytes_be.proofs.Parts.{part-put}
 use Rattle.control.specs.declared.MessageType.the-variants.{Noop}
 use Rattle.control.specs.Frame.{typeOf}
+use Rattle.open.specs.Offer.{Offer}
 use Rattle.endpoint.specs.Record.{opening, offer}
 use Rattle.endpoint.specs.Block.{loadOf}
 use Rattle.sending.specs.Calls.{Call}
 use Rattle.machine.specs.Good.{Fits}
+use Rattle.fbdp.specs.Slots.{slotsIn}
 use Rattle.entries.specs.Entries.{Entries, SendResult, ReceiveResult, Meets, byTables}
 use Rattle.machine.specs.Programs.{Making}
 use Rattle.fbdp.proofs.Determined.{make-determined, send-determined, receive-determined}
@@ -35,7 +37,7 @@ module _ (p : Entries) (meets : Meets p) where
       let same = send-determined (meets .calls call fits block out) (tables-meet .calls call fits block out) in
       λ i. record { number = same .0 i; count = same .1 i; block = same .2 i; out = same .3 i }
 
-  receives-as-tables : (s pipe block out : List ℕ) → p .receives s pipe block out ≡ byTables .receives s pipe block out
+  receives-as-tables : (s : List ℕ) (pipe : Offer) (block out : List ℕ) → p .receives s pipe block out ≡ byTables .receives s pipe block out
   receives-as-tables s pipe block out =
       let same = receive-determined (meets .messages s pipe block out) (tables-meet .messages s pipe block out) in
       λ i. record { number = same .0 i; slots = same .1 i; block = same .2 i; out = same .3 i }
@@ -49,13 +51,13 @@ module _ {p : Entries} (meets : Meets p) where
   opens-alike = only-tables p meets .calls _ (omega arith) _ _
 
   hears-open-alike : hearsOpen p ≡ hearsOpen byTables
-  hears-open-alike = only-tables p meets .messages _ _ _ _ _
+  hears-open-alike = only-tables p meets .messages _ _ _ _
 
   hears-agreed-alike : hearsAgreed p ≡ hearsAgreed byTables
-  hears-agreed-alike = only-tables p meets .messages _ _ _ _ _
+  hears-agreed-alike = only-tables p meets .messages _ _ _ _
 
   hears-noop-alike : hearsNoop p ≡ hearsNoop byTables
-  hears-noop-alike = only-tables p meets .messages _ _ _ _ _
+  hears-noop-alike = only-tables p meets .messages _ _ _ _
 
 pub refusing-rejected : RefusingRejected
 refusing-rejected p refuses meets =
@@ -64,8 +66,8 @@ refusing-rejected p refuses meets =
 pub hearing-noop-rejected : HearingNoopRejected
 hearing-noop-rejected p noop meets =
     let accepts = ap (λ (result : ReceiveResult). result .number) (hears-open-alike meets) ∙ tables-give .open-taken in
-    let vice : getD (hearsOpen p .slots) 0 0 ≡ typeOf Noop = noop _ _ _ _ _ accepts in
-    let alike = ap (λ (result : ReceiveResult). getD (result .slots) 0 0) (hears-open-alike meets) in
+    let vice : slotsIn (hearsOpen p .slots) .message ≡ typeOf Noop = noop _ _ _ _ accepts in
+    let alike = ap (λ (result : ReceiveResult). slotsIn (result .slots) .message) (hears-open-alike meets) in
     absurd (omega (arith, vice, alike, tables-give .open-heard))
 
 pub untouching-rejected : UntouchingRejected
@@ -80,13 +82,13 @@ behind-opening phase is = omega (arith, is)
 
 pub echoing-rejected : EchoingRejected
 echoing-rejected p echoes meets =
-    let vice : hearsAgreed p .block ≡ offers 1 byTables .block = echoes .stays _ _ _ _ _ (behind-opening _ (tables-give .offering)) in
+    let vice : hearsAgreed p .block ≡ offers 1 byTables .block = echoes .stays _ _ _ _ (behind-opening _ (tables-give .offering)) in
     let alike = ap (λ (result : ReceiveResult). getD (result .block) 2 0) (hears-agreed-alike meets) in
     absurd (omega (arith, ap (λ (block : List ℕ). getD block 2 0) vice, alike, tables-give .phase-offering, tables-give .phase-agreed))
 
 pub writing-back-rejected : WritingBackRejected
 writing-back-rejected p writes meets =
-    let vice : hearsNoop p .out ≡ putAt output 0 (message (sendsNoop true byTables)) = writes _ _ _ _ _
+    let vice : hearsNoop p .out ≡ putAt output 0 (message (sendsNoop true byTables)) = writes _ _ _ _
     (behind-opening _ (tables-give .offer-heard)) in
     let alike = ap (λ (result : ReceiveResult). getD (result .out) 11 0) (hears-noop-alike meets) in
     absurd (omega (arith, ap (λ (out : List ℕ). getD out 11 0) vice, alike, tables-give .flags-sent, tables-give .flags-replied))

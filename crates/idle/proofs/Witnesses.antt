@@ -10,11 +10,14 @@ use Rattle.bytes_be.specs.Part.{part, putAt}
 use Rattle.control.specs.declared.MessageType.the-variants.{Open}
 use Rattle.control.specs.Frame.{ackReply, ackRequest, typeOf}
 use Rattle.double.specs.Limit.{mostLimit}
+use Rattle.open.specs.Offer.{noOffer}
 use Rattle.endpoint.specs.Record.{fresh, opening, offer, batch, producer, consumer, freshClient, freshServer, freshOf, givenOf}
 use Rattle.endpoint.specs.Block.{loadOf}
 use Rattle.sending.specs.Calls.{OPEN, READY, NOOP}
 use Rattle.machine.proofs.Computing.{computing}
-use Rattle.fbdp.specs.Blocks.{MakeAnswer, makeNumber, stored, keptAfter, leaves, keptBy, heardSlots}
+use Rattle.fbdp.specs.Slots.{heardSlots, slotsIn}
+use Rattle.fbdp.specs.Blocks.{MakeAnswer, makeNumber, stored, keptAfter, keptBy}
+use Rattle.session.specs.Demand.{pipeA}
 use Rattle.entries.specs.Entries.{SendResult, ReceiveResult, Entries, byTables}
 
 -- a client that produces and a server that consumes, each just made
@@ -32,10 +35,6 @@ pub server-made : MakeAnswer (freshServer consumer) (replicate 64 0) 0 madeServe
 unfolding freshOf makeNumber givenOf
 server-made = record { numbered = refl; kept = refl }
 
--- the pipe `a`
-abbrev pipe : List ℕ
-pipe = 97 ∷ []
-
 -- an output with room for the longest message, which is the OPEN
 abbrev pub output : List ℕ
 output = replicate 23 0
@@ -48,28 +47,28 @@ message result = take (result .count) (result .out)
 -- server sends a NOOP, with an ask or without, and the client hears the one with an ask
 
 abbrev pub opens : Entries → SendResult
-opens p = p .sends (OPEN pipe []) madeClient output
+opens p = p .sends (OPEN pipeA) madeClient output
 
 abbrev pub hearsOpen : Entries → ReceiveResult
-hearsOpen p = p .receives (message (opens byTables)) pipe [] madeServer output
+hearsOpen p = p .receives (message (opens byTables)) pipeA madeServer output
 
 abbrev pub offers : ℕ → Entries → SendResult
 offers count p = p .sends (READY count) (hearsOpen byTables .block) output
 
 abbrev hearsOffer : Entries → ReceiveResult
-hearsOffer p = p .receives (message (offers 1 byTables)) [] [] (opens byTables .block) output
+hearsOffer p = p .receives (message (offers 1 byTables)) noOffer (opens byTables .block) output
 
 abbrev agrees : Entries → SendResult
 agrees p = p .sends (READY 1) (hearsOffer byTables .block) output
 
 abbrev pub hearsAgreed : Entries → ReceiveResult
-hearsAgreed p = p .receives (message (agrees byTables)) pipe [] (offers 1 byTables .block) output
+hearsAgreed p = p .receives (message (agrees byTables)) pipeA (offers 1 byTables .block) output
 
 abbrev pub sendsNoop : Bool → Entries → SendResult
 sendsNoop ask p = p .sends (NOOP 0 ask) (offers 1 byTables .block) output
 
 abbrev pub hearsNoop : Entries → ReceiveResult
-hearsNoop p = p .receives (message (sendsNoop true byTables)) [] [] (hearsOffer byTables .block) output
+hearsNoop p = p .receives (message (sendsNoop true byTables)) noOffer (hearsOffer byTables .block) output
 
 -- a call was accepted, and these bytes stand at this place of its block
 pub record BytesLeft (result : SendResult) (at : ℕ) (bytes : List ℕ) : Type 0 where
@@ -84,7 +83,7 @@ pub record TablesGive : Type 0 where
   pub phase-before : getD madeClient 2 0 ≡ fresh
   pub phase-after : getD (opens byTables .block) 2 0 ≡ opening
   pub open-taken : hearsOpen byTables .number ≡ 0
-  pub open-heard : getD (hearsOpen byTables .slots) 0 0 ≡ typeOf Open
+  pub open-heard : slotsIn (hearsOpen byTables .slots) .message ≡ typeOf Open
   -- "4-5 n", after an offer of one and of two
   pub one-offered : BytesLeft (offers 1 byTables) 4 (0 ∷ 1 ∷ [])
   pub two-offered : BytesLeft (offers 2 byTables) 4 (0 ∷ 2 ∷ [])
@@ -101,7 +100,7 @@ pub record TablesGive : Type 0 where
   pub flags-replied : getD (hearsNoop byTables .out) 11 0 ≡ ackReply
 
 pub tables-give : TablesGive
-unfolding computing stored keptAfter leaves keptBy heardSlots byTables
+unfolding computing stored keptAfter keptBy heardSlots byTables
 tables-give =
     record {
       opened = refl;

@@ -7,18 +7,20 @@ use Prim.Native.Nat.{ℕ, _≤_, _<_}
 use mathlib.Core.Path.{_≡_}
 use mathlib.Core.List.{List, _∷_}
 use mathlib.Core.Bool.{cond}
-use lib.ListN.{getD, length, replicate}
+use lib.ListN.{length, replicate}
 use lib.Dec.{leb, eqb}
 use Rattle.bytes_be.specs.Number.{toBytes}
 use Rattle.bytes_be.specs.Part.{part, putAt}
 use Rattle.control.specs.declared.MessageType.the-variants.{Noop}
 use Rattle.control.specs.Frame.{typeOf}
+use Rattle.open.specs.Offer.{Offer}
 use Rattle.endpoint.specs.Record.{opening}
 use Rattle.endpoint.specs.Block.{loadOf}
 use Rattle.sending.specs.Calls.{Call}
 use Rattle.table.specs.declared.Row.the-variants.{NotAllowed}
 use Rattle.table.specs.Table.{sendNumber}
 use Rattle.machine.specs.Good.{Fits}
+use Rattle.fbdp.specs.Slots.{slotsIn}
 use Rattle.entries.specs.Entries.{Entries, SendResult, ReceiveResult, Meets, byTables}
 use Rattle.machine.specs.Programs.{Making}
 
@@ -26,7 +28,7 @@ use Rattle.machine.specs.Programs.{Making}
 pub record AsTables (p : Entries) : Type 0 where
   pub making : (making : Making) (block : List ℕ) → p .makes making block ≡ byTables .makes making block
   pub calls : (call : Call) → Fits call → (block out : List ℕ) → p .sends call block out ≡ byTables .sends call block out
-  pub messages : (s pipe block out : List ℕ) → p .receives s pipe block out ≡ byTables .receives s pipe block out
+  pub messages : (s : List ℕ) (pipe : Offer) (block out : List ℕ) → p .receives s pipe block out ≡ byTables .receives s pipe block out
 
 abbrev pub OnlyTables : Type 0
 OnlyTables = (p : Entries) → Meets p → AsTables p
@@ -37,7 +39,7 @@ Rejected p = Meets p → ⊥
 -- "one that refuses everything", by whatever numbers
 pub record RefusesEverything (p : Entries) : Type 0 where
   pub refuses-calls : (call : Call) (block out : List ℕ) → p .sends call block out .number ≡ 0 → ⊥
-  pub refuses-messages : (s pipe block out : List ℕ) → p .receives s pipe block out .number ≡ 0 → ⊥
+  pub refuses-messages : (s : List ℕ) (pipe : Offer) (block out : List ℕ) → p .receives s pipe block out .number ≡ 0 → ⊥
 
 abbrev pub RefusingRejected : Type 0
 RefusingRejected = (p : Entries) → RefusesEverything p → Rejected p
@@ -57,8 +59,8 @@ refusing number =
 -- "one that always hears NOOP": whatever message it accepts
 abbrev pub HearsNoop : Entries → Type 0
 HearsNoop p =
-    (s pipe block out : List ℕ) → p .receives s pipe block out .number ≡ 0
-    → getD (p .receives s pipe block out .slots) 0 0 ≡ typeOf Noop
+    (s : List ℕ) (pipe : Offer) (block out : List ℕ) → p .receives s pipe block out .number ≡ 0
+    → slotsIn (p .receives s pipe block out .slots) .message ≡ typeOf Noop
 
 abbrev pub HearingNoopRejected : Type 0
 HearingNoopRejected = (p : Entries) → HearsNoop p → Rejected p
@@ -75,7 +77,7 @@ hearingNoop =
 -- "one that leaves the block untouched"
 pub record LeavesBlock (p : Entries) : Type 0 where
   pub after-calls : (call : Call) (block out : List ℕ) → p .sends call block out .block ≡ block
-  pub after-messages : (s pipe block out : List ℕ) → p .receives s pipe block out .block ≡ block
+  pub after-messages : (s : List ℕ) (pipe : Offer) (block out : List ℕ) → p .receives s pipe block out .block ≡ block
 
 abbrev pub UntouchingRejected : Type 0
 UntouchingRejected = (p : Entries) → LeavesBlock p → Rejected p
@@ -109,16 +111,16 @@ untouching = leaving (λ number before after. before)
 -- what is written back, be that the message itself or a confirmation
 pub record OpensThenEchoes (p : Entries) : Type 0 where
   pub sends-open : (call : Call) (block out : List ℕ) → loadOf block .phase ≤ opening → p .sends call block out ≡ byTables .sends call block out
-  pub hears-open : (s pipe block out : List ℕ) → loadOf block .phase ≤ opening
+  pub hears-open : (s : List ℕ) (pipe : Offer) (block out : List ℕ) → loadOf block .phase ≤ opening
       → p .receives s pipe block out ≡ byTables .receives s pipe block out
-  pub stays : (s pipe block out : List ℕ) → opening < loadOf block .phase → p .receives s pipe block out .block ≡ block
+  pub stays : (s : List ℕ) (pipe : Offer) (block out : List ℕ) → opening < loadOf block .phase → p .receives s pipe block out .block ≡ block
 
 abbrev pub EchoingRejected : Type 0
 EchoingRejected = (p : Entries) → OpensThenEchoes p → Rejected p
 
 -- and one that writes the message itself back is rejected for that alone
 abbrev pub WritesBack : Entries → Type 0
-WritesBack p = (s pipe block out : List ℕ) → opening < loadOf block .phase → p .receives s pipe block out .out ≡ putAt out 0 s
+WritesBack p = (s : List ℕ) (pipe : Offer) (block out : List ℕ) → opening < loadOf block .phase → p .receives s pipe block out .out ≡ putAt out 0 s
 
 abbrev pub WritingBackRejected : Type 0
 WritingBackRejected = (p : Entries) → WritesBack p → Rejected p
@@ -141,7 +143,7 @@ echoing =
 pub data MadeUp (at count : ℕ) (p : Entries) : Type 0 where
   by-call : (call : Call) → Fits call → (block out : List ℕ)
       → (part (p .sends call block out .block) at count ≡ part (byTables .sends call block out .block) at count → ⊥) → MadeUp at count p
-  by-message : (s pipe block out : List ℕ)
+  by-message : (s : List ℕ) (pipe : Offer) (block out : List ℕ)
       → (part (p .receives s pipe block out .block) at count ≡ part (byTables .receives s pipe block out .block) at count → ⊥)
       → MadeUp at count p
 

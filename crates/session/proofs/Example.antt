@@ -4,7 +4,7 @@ use mathlib.Core.List.{List, [], _∷_, _++_}
 use Prim.Native.Nat.{ℕ}
 use mathlib.Core.Bool.{Bool, true, false}
 use lib.ListN.{length}
-use Rattle.open.specs.Offer.{Offer, offerOf}
+use Rattle.open.specs.Offer.{noOffer}
 use Rattle.endpoint.specs.declared.Endpoint.{Endpoint}
 use Rattle.endpoint.specs.Record.{freshClient, freshServer}
 use Rattle.sending.specs.Calls.{Datum, OPEN, READY, DATA, NOOP, CLOSE}
@@ -28,9 +28,6 @@ summary w =
 abbrev start : ℕ → ℕ → ℕ → World Endpoint
 start flow limit server-flow = begun (freshClient flow limit) (freshServer server-flow)
 
-abbrev nothingOffered : Offer
-nothingOffered = offerOf [] []
-
 abbrev datum : ℕ → Bool → List ℕ → Datum
 datum type-data ask body = record { type-data = type-data; ask = ask; body = body }
 
@@ -43,24 +40,24 @@ opens = sends Client (OPEN pipeA) 4200 ∷ receives Server pipeA 14 ∷ []
 client-produces : List (Event ℕ)
 client-produces =
     opens
-    ++ (sends Server (READY 5) 14 ∷ receives Client nothingOffered 14 ∷ sends Client (READY 2) 14 ∷ [])
+    ++ (sends Server (READY 5) 14 ∷ receives Client noOffer 14 ∷ sends Client (READY 2) 14 ∷ [])
     ++ (sends Client (DATA (datum 1 false (10 ∷ []))) 20 ∷ sends Client (DATA (datum 2 true (20 ∷ []))) 20 ∷ sends Client (DATA (datum 3 false [])) 20 ∷ [])
-    ++ (receives Server nothingOffered 14 ∷ receives Server nothingOffered 13 ∷ receives Server nothingOffered 14 ∷ receives Server nothingOffered 14 ∷ [])
+    ++ (receives Server noOffer 14 ∷ receives Server noOffer 13 ∷ receives Server noOffer 14 ∷ receives Server noOffer 14 ∷ [])
     ++ (sends Client (NOOP 9 true) 14 ∷ sends Server (CLOSE 0) 14 ∷ [])
-    ++ (receives Server nothingOffered 14 ∷ receives Client nothingOffered 14 ∷ receives Client nothingOffered 14 ∷ [])
+    ++ (receives Server noOffer 14 ∷ receives Client noOffer 14 ∷ receives Client noOffer 14 ∷ [])
 
 -- the server produces: one batch of one, the confirmation of whose DATA is still on its way
 server-produces : List (Event ℕ)
 server-produces =
     opens
-    ++ (sends Server (READY 0) 14 ∷ sends Server (READY 1) 14 ∷ receives Client nothingOffered 14 ∷ receives Client nothingOffered 14 ∷ [])
-    ++ (sends Client (READY 1) 14 ∷ receives Server nothingOffered 14 ∷ sends Server (DATA (datum 7 true [])) 18 ∷ receives Client nothingOffered 14 ∷ [])
+    ++ (sends Server (READY 0) 14 ∷ sends Server (READY 1) 14 ∷ receives Client noOffer 14 ∷ receives Client noOffer 14 ∷ [])
+    ++ (sends Client (READY 1) 14 ∷ receives Server noOffer 14 ∷ sends Server (DATA (datum 7 true [])) 18 ∷ receives Client noOffer 14 ∷ [])
 
 -- both produce, and the OPEN is refused; once its CLOSE is heard, both are made again, and the server sends READY
 both-produce : List (Event ℕ)
 both-produce =
     opens
-    ++ (receives Client nothingOffered 14 ∷ makes (record { flow = 1; limit = 50000000; server-flow = 2 }) ∷ [])
+    ++ (receives Client noOffer 14 ∷ makes (record { flow = 1; limit = 50000000; server-flow = 2 }) ∷ [])
     ++ opens
     ++ (sends Server (READY 3) 14 ∷ [])
 

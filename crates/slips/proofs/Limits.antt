@@ -8,9 +8,10 @@ use lib.ListN.{length, length-replicate, replicate}
 use lib.Ieee.{div, lt, mul}
 use Rattle.control.specs.declared.MessageType.the-variants.{Data}
 use Rattle.control.specs.Frame.{typeOf}
+use Rattle.open.specs.Offer.{noOffer}
 use Rattle.endpoint.specs.declared.Endpoint.{Endpoint}
 use Rattle.endpoint.specs.Record.{consumer, producer, batch, idle, freshClient, freshServer, atPhase, limited}
-use Rattle.sending.specs.Calls.{DATA, READY, written}
+use Rattle.sending.specs.Calls.{READY, written}
 use Rattle.machine.specs.Programs.{Queued, Told, SendOutcome, ReceiveOutcome, Program, bodyAt, toldOf, tables}
 use Rattle.machine.specs.Round.{MayHear}
 use Rattle.machine.proofs.Computing.{computing}
@@ -19,7 +20,7 @@ use Rattle.session.specs.World.{Client, Server, Going, noHistory, afterCall, af
 use Rattle.session.specs.Demand.{DemandOf, asRecords, Holds}
 use Rattle.slips.specs.Slips.{slipping, refusalLowered, loweringOnRefusal, LoweringOnRefusalFails}
 use Rattle.slips.specs.Slips.{measured, comparingMegabytes, ComparingMegabytesFails}
-use Rattle.slips.proofs.Runs.{agreeing, at-rest, at-the-end, calls, limit, room, running, start}
+use Rattle.slips.proofs.Runs.{agreeing, at-rest, at-the-end, calls, limit, report, room, running, start}
 
 -- ---- a batch of 1 is agreed
 
@@ -42,11 +43,11 @@ giving done = slipping (λ e call out. done) (tables .receive)
 
 -- demand 3 after the client's DATA, where it is known what comes of that
 after-data : (p : Program Endpoint ℕ) → DemandOf p asRecords → run p start (agreeing 1 1 []) ≡ agreed
-    → (body : List ℕ) (done : SendOutcome Endpoint) → p .send sender (DATA 0 false body) room ≡ done
-    → Holds p asRecords (step (giving done) agreed (calls Client (DATA 0 false body)))
+    → (body : List ℕ) (done : SendOutcome Endpoint) → p .send sender (report false body) room ≡ done
+    → Holds p asRecords (step (giving done) agreed (calls Client (report false body)))
 unfolding run step
 after-data p demand agrees body done gives =
-    let sending = calls Client (DATA 0 false body) in
+    let sending = calls Client (report false body) in
     subst (Holds p asRecords)
     (ap (λ (w : World Endpoint). step p w sending) agrees ∙ ap (λ (x : SendOutcome Endpoint). step (giving x) agreed sending) gives)
     (at-the-end p demand (agreeing 1 1 (sending ∷ [])) (λ w. omega arith))
@@ -58,7 +59,7 @@ some-body size by = by (replicate size 0) (length-replicate size 0)
 -- ---- above the limit
 
 large-refused : (body : List ℕ) → length body ≡ limit
-    → tables .send sender (DATA 0 false body) room ≡ record { number = 33; bytes = written sender (DATA 0 false body); next = sender }
+    → tables .send sender (report false body) room ≡ record { number = 33; bytes = written sender (report false body); next = sender }
 unfolding computing
 large-refused body long = rw long refl
 
@@ -76,23 +77,23 @@ lowering-on-refusal-fails = some-body limit lowering-fails
 
 module _ (body : List ℕ) (long : length body ≡ limit - 8) where
   abbrev message : Queued
-  message = record { bytes = written sender (DATA 0 false body); how = 0 }
+  message = record { bytes = written sender (report false body); how = 0 }
 
   abbrev told : Told
   told = record { message = typeOf Data; flags = 0; type-data = 0; body = body }
 
   -- the tables send it and hear it
 
-  full-sent : tables .send sender (DATA 0 false body) room ≡ record { number = 0; bytes = message .bytes; next = atPhase sender idle 0 }
+  full-sent : tables .send sender (report false body) room ≡ record { number = 0; bytes = message .bytes; next = atPhase sender idle 0 }
   unfolding computing
   full-sent = simp (append-nil, long)
 
-  full-told : tables .receive hearer message [] [] room .told ≡ told
+  full-told : tables .receive hearer message noOffer room .told ≡ told
   unfolding computing
   full-told =
       let number = ap (λ (done : SendOutcome Endpoint). done .number) full-sent in
-      let may : MayHear sender (DATA 0 false body) hearer [] [] idle 0 = record { leads = refl; small = rw long refl; offered = refl } in
-      let back = heard-as-sent sender (DATA 0 false body) (omega arith) room number hearer [] [] idle 0 may in
+      let may : MayHear sender (report false body) hearer noOffer idle 0 = record { leads = refl; small = rw long refl; offered = refl } in
+      let back = heard-as-sent sender (report false body) (omega arith) room number hearer noOffer idle 0 may in
       let carried = ap (bodyAt (message .bytes)) (back .carried .is) ∙ back .carried .bytes in
       ap (toldOf (message .bytes)) (back .answered) ∙ (λ i. record { message = typeOf Data; flags = 0; type-data = 0; body = carried i })
 
@@ -104,9 +105,9 @@ module _ (body : List ℕ) (long : length body ≡ limit - 8) where
   comparing-fails : ComparingMegabytesFails
   unfolding running
   comparing-fails demand =
-      let refuses = full-refused (tables .receive hearer message [] [] room) full-told in
+      let refuses = full-refused (tables .receive hearer message noOffer room) full-told in
       let holds = after-data comparingMegabytes demand refl body _ full-sent in
-      elim (rw refuses at (holds .answers Server message [] refl [] [] room (omega arith))) [ ]
+      elim (rw refuses at (holds .answers Server message [] refl noOffer room (omega arith))) [ ]
 
 pub comparing-megabytes-fails : ComparingMegabytesFails
 comparing-megabytes-fails = some-body (limit - 8) comparing-fails

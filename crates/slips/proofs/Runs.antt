@@ -1,14 +1,15 @@
 -- The opening that all runs share, and demand 3 at the end of a run. Assumes nothing.
 use mathlib.Core.Path.{_≡_, refl}
 use mathlib.Core.List.{List, [], _∷_}
+use mathlib.Core.Bool.{Bool}
 use Prim.Native.Nat.{ℕ, _+_}
 use Rattle.endpoint.specs.declared.Endpoint.{Endpoint}
 use Rattle.endpoint.specs.Record.{consumer, producer, freshClient, freshOf, freshServer, givenOf}
-use Rattle.sending.specs.Calls.{Call, OPEN, READY}
+use Rattle.sending.specs.Calls.{Call, OPEN, READY, DATA}
 use Rattle.machine.specs.Programs.{Program}
 use Rattle.machine.proofs.Computing.{computing}
 use Rattle.session.specs.World.{End, Client, Server, Makings, Going, World, Event, sends, receives, AllFit, afterReceive, step, run, begun}
-use Rattle.session.specs.Demand.{DemandOf, asRecords, AtRest, Holds, turn}
+use Rattle.session.specs.Demand.{DemandOf, asRecords, AtRest, Holds, pipeA, turn}
 
 -- what a run computes with
 unfoldable pub running : Unit {0}
@@ -35,12 +36,16 @@ calls end call = sends end call room
 
 -- the pipe `a` is on offer
 abbrev pub hears : End → Event ℕ
-hears end = receives end (97 ∷ []) [] room
+hears end = receives end pipeA room
+
+-- a DATA with this body, with an ask or without
+abbrev pub report : Bool → List ℕ → Call
+report ask body = DATA (record { type-data = 0; ask = ask; body = body })
 
 -- the client opens the pipe, the server makes an offer, and the client agrees to a count; what follows is given
 abbrev pub agreeing : ℕ → ℕ → List (Event ℕ) → List (Event ℕ)
 agreeing offered count rest =
-    calls Client (OPEN (97 ∷ []) [])
+    calls Client (OPEN pipeA)
     ∷ hears Server
     ∷ calls Server (READY offered)
     ∷ hears Client

@@ -6,12 +6,12 @@ use Prim.Native.Nat.{ℕ}
 use native.Mathlib.Omega.{arith}
 use lib.ListN.{getD, length}
 use Rattle.bytes_be.proofs.Tests.{clash}
-use Rattle.sending.specs.Calls.{CLOSE, DATA}
+use Rattle.sending.specs.Calls.{CLOSE}
 use Rattle.session.specs.World.{Client, Server, Going, WroteClose}
 use Rattle.slips.specs.Slips.{countingConfirmations, CountingConfirmationsFails, readingLowByteFirst, ReadingLowByteFirstFails}
 use Rattle.slips.specs.Slips.{losingData, LosingDataFails, agreeingAboveOffer, AgreeingAboveOfferFails, runningPastCount, RunningPastCountFails}
 use Rattle.slips.specs.Slips.{passingOverClose, PassingOverCloseFails, hearingReadyAsClose, HearingReadyAsCloseFails}
-use Rattle.slips.proofs.Runs.{agreeing, at-rest, at-the-end, calls, hears, room, running}
+use Rattle.slips.proofs.Runs.{agreeing, at-rest, at-the-end, calls, hears, report, room, running}
 
 -- an offer of 1 is heard as one of 256
 pub reading-low-byte-first-fails : ReadingLowByteFirstFails
@@ -31,14 +31,14 @@ agreeing-above-offer-fails demand =
 pub losing-data-fails : LosingDataFails
 unfolding running
 losing-data-fails demand =
-    let holds = at-the-end losingData demand (agreeing 1 1 (calls Client (DATA 0 false []) ∷ hears Server ∷ [])) (λ w. omega arith) in
+    let holds = at-the-end losingData demand (agreeing 1 1 (calls Client (report false []) ∷ hears Server ∷ [])) (λ w. omega arith) in
     clash (ap length (holds .nothing-lost Server (λ closed. clash cc) refl .0))
 
 -- in a batch of 1 two DATA are accepted
 pub running-past-count-fails : RunningPastCountFails
 unfolding running
 running-past-count-fails demand =
-    let twice = calls Client (DATA 0 false []) ∷ hears Server ∷ calls Client (DATA 0 false []) ∷ hears Server ∷ [] in
+    let twice = calls Client (report false []) ∷ hears Server ∷ calls Client (report false []) ∷ hears Server ∷ [] in
     let holds = at-the-end runningPastCount demand (agreeing 1 1 twice) (λ w. omega arith) in
     absurd (omega (arith, holds .within))
 
@@ -46,7 +46,7 @@ running-past-count-fails demand =
 pub counting-confirmations-fails : CountingConfirmationsFails
 unfolding running
 counting-confirmations-fails demand =
-    let once = calls Client (DATA 0 true []) ∷ hears Server ∷ hears Client ∷ [] in
+    let once = calls Client (report true []) ∷ hears Server ∷ hears Client ∷ [] in
     let holds = at-the-end countingConfirmations demand (agreeing 2 2 once) (λ w. omega arith) in
     absurd (omega (arith, holds .may-send (at-rest _ refl refl refl refl) .accepted room (omega arith) .0))
 

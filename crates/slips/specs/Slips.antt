@@ -13,6 +13,7 @@ use Rattle.bytes_be.specs.Part.{part, putAt}
 use Rattle.bundle.specs.Reading.{startOf}
 use Rattle.control.specs.declared.MessageType.the-variants.{Close, Data, Ready}
 use Rattle.control.specs.Frame.{ackReply, typeOf}
+use Rattle.open.specs.Offer.{Offer}
 use Rattle.endpoint.specs.declared.Endpoint.{Endpoint}
 use Rattle.endpoint.specs.Record.{batch, producer, atPhase, closed}
 use Rattle.table.specs.declared.Row.the-variants.{AboveOffer}
@@ -30,7 +31,7 @@ Fails p = DemandOf p asRecords → ⊥
 
 -- it sends and receives so
 abbrev pub slipping :
-    (Endpoint → Call → ℕ → SendOutcome Endpoint) → (Endpoint → Queued → List ℕ → List ℕ → ℕ → ReceiveOutcome Endpoint) → Program Endpoint ℕ
+    (Endpoint → Call → ℕ → SendOutcome Endpoint) → (Endpoint → Queued → Offer → ℕ → ReceiveOutcome Endpoint) → Program Endpoint ℕ
 slipping send receive = record { room = tables .room; make = tables .make; send = send; receive = receive }
 
 -- it makes this of what the tables give an endpoint
