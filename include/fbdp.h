@@ -31,9 +31,9 @@ extern "C" {
     ROW(FBDP_BAD_CONTROL, 11, "a control frame that does not have 8 bytes, or a wrong signature")                      \
     ROW(FBDP_OTHER_VERSION, 12, "a version other than 1")                                                              \
     ROW(FBDP_UNKNOWN_TYPE, 13, "a message type other than OPEN, READY, NOOP, DATA and CLOSE")                          \
-    ROW(FBDP_BAD_FLAGS, 14, "unknown flags, both flags, or a confirmation of OPEN or READY")                           \
-    ROW(FBDP_BAD_FRAMES, 15, "too many data frames for the message, or too few")                                       \
-    ROW(FBDP_TOO_LARGE, 16, "a message above the limit, or an OPEN frame above 4,096 bytes")                           \
+    ROW(FBDP_BAD_FLAGS, 14, "unknown flags or both, on any message but CLOSE, or a confirmation of OPEN or READY")     \
+    ROW(FBDP_BAD_FRAMES, 15, "too many data frames, or too few, for any message but CLOSE")                            \
+    ROW(FBDP_TOO_LARGE, 16, "any message but CLOSE above the limit, or an OPEN frame above 4,096 bytes")               \
     ROW(FBDP_NOT_ALLOWED, 17, "a message that role, flow or phase does not allow")                                     \
     ROW(FBDP_UNREADABLE, 18, "an OPEN frame, parameters or a Value that cannot be read")                               \
     ROW(FBDP_OUT_OF_RANGE, 19, "an OPEN whose name, format, socket or limit is out of range")                          \
@@ -127,14 +127,16 @@ enum { FBDP_LEAST_LIMIT = 1000000, FBDP_MOST_LIMIT = 50000000 };
 /* The term by which a client announces its limit, a number; it is left out where that is FBDP_MOST_LIMIT. */
 #define FBDP_LIMIT_KEY "max_message_bytes"
 
-/* Sizes that always suffice. */
+/* Sizes that suffice for a block and for what is written. */
 enum {
-    FBDP_BLOCK_BYTES = 64,                    /* an endpoint: exactly this many */
-    FBDP_REPLY_BYTES = 14,                    /* what a receive wants for its reply */
-    FBDP_CONTROL_BYTES = 14,                  /* READY, NOOP, CLOSE */
-    FBDP_OPEN_BYTES = 570,                    /* OPEN with the longest name and format, and a limit */
-    FBDP_DATA_OVERHEAD = 18,                  /* DATA: so many more than its body */
-    FBDP_MESSAGE_BYTES = 10 + FBDP_MOST_LIMIT /* every message that is accepted, but for a CLOSE that has data frames */
+    FBDP_BLOCK_BYTES = 64,   /* an endpoint: exactly this many */
+    FBDP_REPLY_BYTES = 14,   /* what a receive wants for its reply */
+    FBDP_CONTROL_BYTES = 14, /* READY, NOOP, CLOSE */
+    FBDP_OPEN_BYTES = 570,   /* OPEN with the longest name and format, and a limit */
+    FBDP_DATA_OVERHEAD = 18, /* DATA: so many more than its body */
+    /* all that is written, and all that is accepted but for a CLOSE with data frames, to which no limit applies; a
+     * longer message that arrives is such a CLOSE, or is refused */
+    FBDP_MESSAGE_BYTES = 10 + FBDP_MOST_LIMIT
 };
 
 /* What a made block says; the functions below are to write it, and nobody else. */

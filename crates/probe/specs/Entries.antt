@@ -78,8 +78,9 @@ bodies false body = []
 
 -- a message of a known type is written, and nothing of another
 abbrev pub Wrote : KnownType → ℕ → ℕ → List (List ℕ) → List ℕ → ℕ → List ℕ → Type 0
-Wrote (Known message) flags type-data bodies before count after = Written (bytesOf message flags type-data ∷ bodies) before count after
-Wrote Unknown flags type-data bodies before count after = (count ≡ 0) × (after ≡ before)
+Wrote (Known message) flags type-data data-frames before count after =
+    Written (bytesOf message flags type-data ∷ data-frames) before count after
+Wrote Unknown flags type-data data-frames before count after = (count ≡ 0) × (after ≡ before)
 
 -- the kinds of faults in their order
 abbrev pub kindNumber : Kind → ℕ
@@ -171,10 +172,11 @@ pub record OpenAnswer (said : Open) (number : ℕ) (slots : List ℕ) : Type 0 w
 
 -- how long the frame is, also where it has no room
 abbrev pub givenLength : Given → ℕ
-givenLength (Given·Good length) = length
+givenLength (Given·Good frame-length) = frame-length
 givenLength Given·Bad = 0
 
-pub record OpenFrameAnswer (flow : ℕ) (name format : List ℕ) (limit at : ℕ) (before : List ℕ) (number length : ℕ) (after : List ℕ) : Type 0 where
+pub record OpenFrameAnswer (flow : ℕ) (name format : List ℕ) (limit at : ℕ) (before : List ℕ) (number frame-length : ℕ)
+    (after : List ℕ) : Type 0 where
   pub numbered : number ≡ givenNumber (givenOf flow name format limit)
-  pub told : length ≡ givenLength (givenOf flow name format limit)
+  pub told : frame-length ≡ givenLength (givenOf flow name format limit)
   pub left : after ≡ written flow name format limit at before

@@ -434,13 +434,13 @@ pub extern "C" fn probe_open_frame(
     name: &[u8],
     format: &[u8],
     limit: u32,
-    length: &mut u64,
+    frame_length: &mut u64,
 ) -> u32
-    ensures { λ r. ⌜ OpenFrameAnswer (flowOf producer) (now (name .entry)) (now (format .entry)) limit at (now (out .entry)) r (now (length .exit)) (now (out .exit)) ⌝ }
+    ensures { λ r. ⌜ OpenFrameAnswer (flowOf producer) (now (name .entry)) (now (format .entry)) limit at (now (out .entry)) r (now («frame_length» .exit)) (now (out .exit)) ⌝ }
 {
     let flow = flow_of(producer);
     let given = open_write::given_of(flow, name, format, limit);
-    *length = given_length(given);
+    *frame_length = given_length(given);
     open_write::write(out, at, flow, name, format, limit);
     open_write::given_number(given) as u32
 }
