@@ -2,7 +2,7 @@
 use Prim.Native.Nat.{ℕ, zero, suc, _+_, _-_, _*_}
 use mathlib.Core.List.{List, [], _∷_, _++_}
 use mathlib.Core.Bool.{Bool, true, cond, _&&_, _||_}
-use lib.ListN.{drop, replicate}
+use lib.ListN.{drop, replicate, take}
 use lib.Dec.{ltb, leb, eqb}
 use Rattle.bytes_be.specs.Part.{tabulate, putAt}
 use Rattle.bytes_be.specs.Number.{numberAt, toBytes}
@@ -148,16 +148,28 @@ asked e entry =
     (record { role = e .role; flow = e .flow; phase = e .phase; w = e .w + 1; n = e .n; limit = e .limit; entries = putAt (e .entries) (3 * e .w) (entryBytes entry) })
     e
 
--- "the oldest entry"; "it removes it"
+-- entry i of the record, of three zeros where i is 16 or more
+abbrev pub entryOf : Endpoint → ℕ → Entry
+entryOf e i = entryAt (e .entries) i
+
+-- "the oldest entry"
 abbrev pub oldest : Endpoint → Entry
-oldest e = entryAt (e .entries) 0
+oldest e = entryOf e 0
 
-abbrev pub withoutOldest : List ℕ → List ℕ
-withoutOldest entries = drop 3 entries ++ (0 ∷ 0 ∷ 0 ∷ [])
+-- the 48 bytes without entry i: those behind it move up, and the last three are zero
+abbrev pub withoutEntry : List ℕ → ℕ → List ℕ
+withoutEntry entries i = take (3 * i) entries ++ drop (3 * i + 3) entries ++ (0 ∷ 0 ∷ 0 ∷ [])
 
+-- "it removes it": the same endpoint without entry i, where it is one of the sixteen
+abbrev pub without : Endpoint → ℕ → Endpoint
+without e i =
+    cond (ltb i capacity)
+    (record { role = e .role; flow = e .flow; phase = e .phase; w = e .w - 1; n = e .n; limit = e .limit; entries = withoutEntry (e .entries) i })
+    e
+
+-- "ACK-REPLY must equal the oldest entry in type and type-data; it removes it."
 unfoldable pub confirmed : Endpoint → Endpoint
-confirmed e =
-    record { role = e .role; flow = e .flow; phase = e .phase; w = e .w - 1; n = e .n; limit = e .limit; entries = withoutOldest (e .entries) }
+confirmed e = without e 0
 
 -- the same endpoint with another limit
 unfoldable pub limited : Endpoint → ℕ → Endpoint
