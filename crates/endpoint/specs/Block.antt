@@ -14,7 +14,7 @@ use Rattle.endpoint.specs.Record.{good, freshOf}
 unfoldable pub headBytes : Endpoint → List ℕ
 headBytes e =
     (e .role ∷ e .flow ∷ e .phase ∷ e .w ∷ [])
-    ++ toBytes 2 (e .n) ++ toBytes 2 0
+    ++ toBytes 2 (e .n) ++ (0 ∷ 0 ∷ [])
     ++ toBytes 4 (e .limit) ++ toBytes 4 0
 
 -- the block of a record
@@ -36,7 +36,7 @@ recordIn block =
 
 -- "6-7 zero", "12-15 zero"
 unfoldable pub spareIsZero : List ℕ → Bool
-spareIsZero block = eqb (numberAt 2 block 6) 0 && eqb (numberAt 4 block 12) 0
+spareIsZero block = eqb (numberAt 1 block 6) 0 && eqb (numberAt 1 block 7) 0 && eqb (numberAt 4 block 12) 0
 
 -- whether a block holds an endpoint, good or not: "64 bytes", and zeros where they must be
 abbrev pub holdsEndpoint : List ℕ → Bool

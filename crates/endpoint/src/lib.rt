@@ -372,7 +372,9 @@ fn record_in(block: &[u8]) -> Endpoint
 fn spare_is_zero(block: &[u8]) -> bool
     ensures { λ r. ⌜ r ≡ spareIsZero (now (block .entry)) ⌝ }
 {
-    (bytes_be::read16(block, 6) == 0) & (bytes_be::read32(block, 12) == 0)
+    (bytes_be::read8(block, 6) == 0)
+        & (bytes_be::read8(block, 7) == 0)
+        & (bytes_be::read32(block, 12) == 0)
 }
 
 // The record that a block holds, which is good where the block is.
@@ -398,7 +400,7 @@ fn store_head(e: Endpoint, block: &mut [u8])
     if room {
         bytes_be::copy_at(block, 0, &[e.role, e.flow, e.phase, e.w]);
         bytes_be::store16(block, 4, e.n);
-        bytes_be::store16(block, 6, 0);
+        bytes_be::copy_at(block, 6, &[0, 0]);
         bytes_be::store32(block, 8, e.limit);
         bytes_be::store32(block, 12, 0);
     }
