@@ -15,8 +15,8 @@ use Rattle.bytes_be.proofs.Parts.{length-part, part-behind, part-inside, part-t
 use Rattle.bytes_be.proofs.Tests.{both-true}
 use Rattle.double.specs.Limit.{leastLimit, mostLimit}
 use Rattle.endpoint.specs.declared.Endpoint.{Endpoint}
-use Rattle.endpoint.specs.Block.{bytesOf, headBytes, holdsEndpoint, isGood, loadOf, noEndpoint, recordIn, spareIsZero}
-use Rattle.endpoint.specs.Record.{freshOf, good, inRanges, producer, batch, client, consumer, countFits, offer, server}
+use Rattle.endpoint.specs.Block.{bytesOf, headBytes, holdsEndpoint, isGood, loadOf, recordIn, spareIsZero}
+use Rattle.endpoint.specs.Record.{freshOf, good, inRanges, producer, batch, client, consumer, countFits, offer, server, noEndpoint}
 use Rattle.endpoint.specs.Round.{Sized, LoadedGood, LoadedStores, StoredLoads}
 use Rattle.endpoint.proofs.Stored.{length-block, length-head}
 use Rattle.endpoint.proofs.StaysGood.{fresh-sized}

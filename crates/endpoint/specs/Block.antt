@@ -8,7 +8,7 @@ use lib.Dec.{eqb}
 use Rattle.bytes_be.specs.Part.{part}
 use Rattle.bytes_be.specs.Number.{numberAt, toBytes}
 use Rattle.endpoint.specs.declared.Endpoint.{Endpoint}
-use Rattle.endpoint.specs.Record.{good, freshOf}
+use Rattle.endpoint.specs.Record.{good, noEndpoint}
 
 -- the first 16 bytes
 unfoldable pub headBytes : Endpoint → List ℕ
@@ -46,10 +46,6 @@ holdsEndpoint block = eqb (length block) 64 && spareIsZero block
 unfoldable pub isGood : List ℕ → Bool
 isGood block = holdsEndpoint block && good (recordIn block)
 
--- what any other block is loaded as: no role is 0, so it is not good
-abbrev pub noEndpoint : Endpoint
-noEndpoint = freshOf 0 0 0
-
--- the record that a call on a block works with
+-- the record that a call on a block works with: on any other block it is none
 unfoldable pub loadOf : List ℕ → Endpoint
 loadOf block = cond (holdsEndpoint block) (recordIn block) noEndpoint

@@ -11,6 +11,7 @@ use Rattle.endpoint.specs.declared.Entry.{Entry}
 use Rattle.endpoint.specs.declared.Endpoint.{Endpoint}
 use Rattle.endpoint.specs.declared.Given.{Given}
 use Rattle.endpoint.specs.declared.Given.the-variants.{Good, Bad}
+use Rattle.endpoint.specs.declared.Made.{Made}
 
 -- "role (1 client, 2 server)"
 abbrev pub client : ℕ
@@ -130,6 +131,18 @@ freshClient flow limit = freshOf client flow limit
 
 abbrev pub freshServer : ℕ → Endpoint
 freshServer flow = freshOf server flow mostLimit
+
+-- what stands for no endpoint: no role is 0, so it is not good
+abbrev pub noEndpoint : Endpoint
+noEndpoint = freshOf 0 0 0
+
+-- "Making tests .. 34."; "All others change no byte.": the record that is made, or what was there before
+unfoldable pub makingOf : Endpoint → Endpoint → Made
+makingOf before made =
+    record {
+      number = givenNumber (givenOf (made .flow) (made .limit));
+      next = cond (eqb (givenNumber (givenOf (made .flow) (made .limit))) 0) made before;
+    }
 
 -- "Phase becomes 5; n, W and entries zero."
 unfoldable pub closed : Endpoint → Endpoint

@@ -6,7 +6,7 @@ ghost use lib.ListN.{length};
 ghost use lib.Dec.{leb};
 ghost use Rattle.bytes_be.specs.Part.{part, putAt};
 ghost use Rattle.double.specs.Limit.{inLimits};
-ghost use Rattle.endpoint.specs.Record.{entryBytes, entryAt, noEntries, inRanges, countFits, waitFits, isNone, awaitable, fits, every, entriesFit, good as Record·good, givenOf, givenNumber, freshOf, closed as Record·closed, atPhase, asked as Record·asked, entryOf, withoutEntry, without as Record·without, confirmed as Record·confirmed, limited as Record·limited, oldest as Record·oldest};
+ghost use Rattle.endpoint.specs.Record.{entryBytes, entryAt, noEntries, inRanges, countFits, waitFits, isNone, awaitable, fits, every, entriesFit, good as Record·good, givenOf, givenNumber, freshOf, freshClient, freshServer, noEndpoint, makingOf, closed as Record·closed, atPhase, asked as Record·asked, entryOf, withoutEntry, without as Record·without, confirmed as Record·confirmed, limited as Record·limited, oldest as Record·oldest};
 ghost use Rattle.endpoint.specs.Block.{headBytes, bytesOf, recordIn, spareIsZero, loadOf};
 
 // A confirmation that is awaited.
@@ -37,6 +37,14 @@ pub enum Given {
     Good,
     // 34.
     Bad,
+}
+
+// What making an endpoint answers.
+pub struct Made {
+    // 0, or 34.
+    pub number: u8,
+    // The fresh endpoint, or a record that is not good, so that every call on it answers 1.
+    pub next: Endpoint,
 }
 
 fn in_ranges(e: Endpoint) -> bool
@@ -164,7 +172,7 @@ fn no_entries() -> [u8; 48]
 }
 
 // Whether flow and limit are ones that an endpoint can be made with.
-pub fn given_of(flow: u8, limit: u32) -> Given
+fn given_of(flow: u8, limit: u32) -> Given
     ensures { λ r. ⌜ r ≡ givenOf flow limit ⌝ }
 {
     let fits = ((1 <= flow) & (flow <= 2)) & in_limits(limit);
@@ -175,7 +183,7 @@ pub fn given_of(flow: u8, limit: u32) -> Given
 }
 
 // The number of 01 for what is given: 0, or 34.
-pub fn given_number(given: Given) -> u8
+fn given_number(given: Given) -> u8
     ensures { λ r. ⌜ r ≡ givenNumber given ⌝ }
 {
     match given {
@@ -185,7 +193,7 @@ pub fn given_number(given: Given) -> u8
 }
 
 // A fresh endpoint.
-pub fn fresh(role: u8, flow: u8, limit: u32) -> Endpoint
+fn fresh(role: u8, flow: u8, limit: u32) -> Endpoint
     ensures { λ r. ⌜ r ≡ freshOf role flow limit ⌝ }
 {
     Endpoint {
@@ -197,6 +205,45 @@ pub fn fresh(role: u8, flow: u8, limit: u32) -> Endpoint
         limit: limit,
         entries: no_entries(),
     }
+}
+
+// What stands for no endpoint.
+fn no_endpoint() -> Endpoint
+    ensures { λ r. ⌜ r ≡ noEndpoint ⌝ }
+{
+    fresh(0, 0, 0)
+}
+
+// Makes an endpoint of this role.
+fn make(role: u8, flow: u8, limit: u32) -> Made
+    ensures { λ r. ⌜ r ≡ makingOf noEndpoint (freshOf role flow limit) ⌝ }
+{
+    let given = given_of(flow, limit);
+    let number = given_number(given);
+    let Given::Good = given else {
+        return Made {
+            number: number,
+            next: no_endpoint(),
+        };
+    };
+    Made {
+        number: number,
+        next: fresh(role, flow, limit),
+    }
+}
+
+// Makes a client of this flow and limit.
+pub fn make_client(flow: u8, limit: u32) -> Made
+    ensures { λ r. ⌜ r ≡ makingOf noEndpoint (freshClient flow limit) ⌝ }
+{
+    make(1, flow, limit)
+}
+
+// Makes a server of this flow.
+pub fn make_server(flow: u8) -> Made
+    ensures { λ r. ⌜ r ≡ makingOf noEndpoint (freshServer flow) ⌝ }
+{
+    make(2, flow, 50000000)
 }
 
 // The endpoint after a close.
@@ -381,7 +428,7 @@ fn spare_is_zero(block: &[u8]) -> bool
 pub fn load(block: &[u8]) -> Endpoint
     ensures { λ r. ⌜ r ≡ loadOf (now (block .entry)) ⌝ }
 {
-    let none = fresh(0, 0, 0);
+    let none = no_endpoint();
     if block.len() != 64 {
         return none;
     }
