@@ -9,20 +9,20 @@ use Rattle.bytes_be.specs.Part.{putAt, tabulate}
 use Rattle.bytes_be.proofs.Parts.{tabulate-more, tabulate-same}
 use Rattle.endpoint.specs.declared.Endpoint.{Endpoint}
 use Rattle.endpoint.specs.declared.Entry.{Entry}
-use Rattle.endpoint.specs.Record.{asked, atPhase, awaited, capacity, closed, confirmed, entryAt, entryBytes, freshOf, limited, oldest, withoutOldest}
+use Rattle.endpoint.specs.Record.{asked, atPhase, awaited, capacity, closed, confirmed, entryAt, entryBytes, freshOf, limited, oldest, withoutEntry}
 use Rattle.endpoint.proofs.Entries.{entry-put, kept-before, moved-up}
 
 -- without the oldest, the first W - 1 are all but the first of the first W
 without-first : (w : ℕ) (entries : List ℕ) → length entries ≡ 48 →
-    tabulate 0 (w - 1) (entryAt (withoutOldest entries)) ≡ drop 1 (tabulate 0 w (entryAt entries))
+    tabulate 0 (w - 1) (entryAt (withoutEntry entries 0)) ≡ drop 1 (tabulate 0 w (entryAt entries))
 without-first zero entries full = refl
 without-first (suc k) entries full =
     let one-less : suc k - 1 ≡ k = omega arith in
-    ap (λ (w : ℕ). tabulate 0 w (entryAt (withoutOldest entries))) one-less
-    ∙ tabulate-same (entryAt (withoutOldest entries)) (entryAt entries) 0 1 k
+    ap (λ (w : ℕ). tabulate 0 w (entryAt (withoutEntry entries 0))) one-less
+    ∙ tabulate-same (entryAt (withoutEntry entries 0)) (entryAt entries) 0 1 k
     (λ i h. let here : 0 + i ≡ i = omega arith in
     let next : suc i ≡ 1 + i = omega arith in
-    ap (entryAt (withoutOldest entries)) here ∙ moved-up entries full i ∙ ap (entryAt entries) next)
+    ap (entryAt (withoutEntry entries 0)) here ∙ moved-up entries 0 full (omega arith) i (omega arith) ∙ ap (entryAt entries) next)
 
 first-awaited : (w : ℕ) (entries : List ℕ) → 0 < w → tabulate 0 w (entryAt entries) ≡ entryAt entries 0 ∷ drop 1 (tabulate 0 w (entryAt entries))
 first-awaited zero entries any = absurd (omega arith)

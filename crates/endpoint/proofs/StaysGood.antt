@@ -5,7 +5,7 @@ use mathlib.Core.Bool.{Bool, _&&_, false, true, _||_, cond}
 use native.Mathlib.Omega.{arith}
 use lib.Dec.{leb, ltb, eqb}
 use lib.ListN.{getD, length}
-use borrow.Author.Tests.{ltb-false, ltb-true, eq-eqb, eqb-true, ne-eqb}
+use borrow.Author.Tests.{lt-ltb, ltb-false, ltb-true, eq-eqb, eqb-true, ne-eqb}
 use Rattle.bytes_be.specs.Number.{fromBytes, fromBytesBehind, numberAt}
 use Rattle.bytes_be.specs.Part.{putAt}
 use Rattle.bytes_be.proofs.Numbers.{bytes-put}
@@ -14,15 +14,20 @@ use Rattle.bytes_be.proofs.Tests.{both-true}
 use Rattle.double.specs.Limit.{inLimits}
 use Rattle.endpoint.specs.declared.Endpoint.{Endpoint}
 use Rattle.endpoint.specs.declared.Entry.{Entry}
-use Rattle.endpoint.specs.Record.{atPhase, awaitable, capacity, client, closed, confirmed, countFits, entriesFit, entryFits, freshOf, good, goodFlow, isNone, limited, producer, server, shut, waitFits, asked, batch, entryAt, entryBytes, fresh, idle, noEntries, opening}
+use Rattle.endpoint.specs.Record.{atPhase, awaitable, capacity, client, closed, confirmed, countFits, entriesFit, entryFits, freshOf, good, goodFlow, isNone, limited, producer, server, shut, waitFits, asked, batch, entryAt, entryBytes, fresh, idle, noEntries, opening, without, withoutEntry}
 use Rattle.endpoint.specs.Round.{Sized}
-use Rattle.endpoint.proofs.Entries.{bytes-entry, bytes-without, kept-before, kept-behind, length-without, moved-up, type-put, zero-everywhere}
+use Rattle.endpoint.proofs.Entries.{bytes-entry, bytes-without, kept-before, kept-behind, kept-without, length-without, moved-up, type-put, zero-everywhere}
 use Rattle.endpoint.proofs.Told.{awaitable-small, every-from, fits-at, fits-before, fits-behind, good-told, told-good}
 
 -- where W must be 0, one less is 0 too
 fewer-wait : (zero-wanted : Bool) (w : ℕ) → cond zero-wanted (eqb w 0) true ≡ true → cond zero-wanted (eqb (w - 1) 0) true ≡ true
 fewer-wait true w e = eq-eqb (w - 1) 0 (omega (arith, eqb-true w 0 e))
 fewer-wait false w e = refl
+
+-- the record without entry i, which is one of the sixteen
+abbrev fewer : Endpoint → ℕ → Endpoint
+fewer e i =
+    record { role = e .role; flow = e .flow; phase = e .phase; w = e .w - 1; n = e .n; limit = e .limit; entries = withoutEntry (e .entries) i }
 
 -- the record with an entry more behind the first W
 abbrev more : Endpoint → Entry → Endpoint
@@ -101,40 +106,56 @@ module _ (e : Endpoint) (g : good e ≡ true) where
       })
 
 module _ (e : Endpoint) (full : length (e .entries) ≡ 48) (g : good e ≡ true) where
-  confirmed-fits : (i : ℕ) → entryFits (confirmed e) i ≡ true
-  unfolding confirmed
-  confirmed-fits i = go (ltb (suc i) (e .w)) refl
-    where
-      go : (t : Bool) → ltb (suc i) (e .w) ≡ t → entryFits (confirmed e) i ≡ true
-      go true below =
-          let h : suc i < e .w = ltb-true (suc i) (e .w) below in
-          fits-before (confirmed e) i (omega arith)
-          ∙ ap (awaitable (e .flow)) (moved-up (e .entries) full i)
-          ∙ sym (fits-before e (suc i) h)
-          ∙ fits-at e full g (suc i)
-      go false above =
-          let h : e .w ≤ suc i = ltb-false (suc i) (e .w) above in
-          fits-behind (confirmed e) i (omega arith)
-          ∙ ap isNone (moved-up (e .entries) full i)
-          ∙ sym (fits-behind e (suc i) h)
-          ∙ fits-at e full g (suc i)
+  module _ (i : ℕ) (waits : i ≤ e .w - 1) where
+    inside : i < 16
+    inside = omega (arith, good-told e g .waits)
 
-  -- a good endpoint is good without its oldest confirmation awaited, also where it awaits none
+    fewer-fits : (k : ℕ) → entryFits (fewer e i) k ≡ true
+    fewer-fits k = go (ltb k i) refl (ltb (suc k) (e .w)) refl
+      where
+        go : (t : Bool) → ltb k i ≡ t → (u : Bool) → ltb (suc k) (e .w) ≡ u → entryFits (fewer e i) k ≡ true
+        go true before u _ =
+            let h : k < i = ltb-true k i before in
+            fits-before (fewer e i) k (omega arith)
+            ∙ ap (awaitable (e .flow)) (kept-without (e .entries) i full inside k h)
+            ∙ sym (fits-before e k (omega arith))
+            ∙ fits-at e full g k
+        go false behind true below =
+            let h : suc k < e .w = ltb-true (suc k) (e .w) below in
+            fits-before (fewer e i) k (omega arith)
+            ∙ ap (awaitable (e .flow)) (moved-up (e .entries) i full inside k (ltb-false k i behind))
+            ∙ sym (fits-before e (suc k) h)
+            ∙ fits-at e full g (suc k)
+        go false behind false above =
+            let h : e .w ≤ suc k = ltb-false (suc k) (e .w) above in
+            fits-behind (fewer e i) k (omega arith)
+            ∙ ap isNone (moved-up (e .entries) i full inside k (ltb-false k i behind))
+            ∙ sym (fits-behind e (suc k) h)
+            ∙ fits-at e full g (suc k)
+
+    fewer-good : good (fewer e i) ≡ true
+    unfolding countFits waitFits entriesFit
+    fewer-good =
+        let told = good-told e g in
+        told-good (fewer e i)
+        (record {
+          roles = told .roles;
+          flows = told .flows;
+          phases = told .phases;
+          waits = omega arith;
+          counted = told .counted;
+          waiting = fewer-wait (eqb (e .phase) fresh || eqb (e .phase) opening || eqb (e .phase) shut) (e .w) (told .waiting);
+          fitting = every-from capacity (entryFits (fewer e i)) (λ k h. fewer-fits k);
+          bounded = told .bounded;
+        })
+
+    -- a good endpoint is good without any one of the confirmations awaited; where it awaits none, also without entry 0
+    pub without-good : good (without e i) ≡ true
+    without-good = simp (lt-ltb i capacity inside) fewer-good
+
   pub confirmed-good : good (confirmed e) ≡ true
-  unfolding confirmed countFits waitFits entriesFit
-  confirmed-good =
-      let told = good-told e g in
-      told-good (confirmed e)
-      (record {
-        roles = told .roles;
-        flows = told .flows;
-        phases = told .phases;
-        waits = omega arith;
-        counted = told .counted;
-        waiting = fewer-wait (eqb (e .phase) fresh || eqb (e .phase) opening || eqb (e .phase) shut) (e .w) (told .waiting);
-        fitting = every-from capacity (entryFits (confirmed e)) (λ i h. confirmed-fits i);
-        bounded = told .bounded;
-      })
+  unfolding confirmed
+  confirmed-good = without-good 0 (omega arith)
 
   module _ (entry : Entry) (early : idle ≤ e .phase) (late : e .phase ≤ batch) (awaits : awaitable (e .flow) entry ≡ true) where
     more-fits : e .w < 16 → (i : ℕ) → entryFits (more e entry) i ≡ true
@@ -213,9 +234,20 @@ module _ (e : Endpoint) (sized : Sized e) where
   unfolding limited
   limited-sized limit = record { full = sized .full; bytes = sized .bytes }
 
+  pub without-sized : (i : ℕ) → Sized (without e i)
+  without-sized i = go (ltb i capacity) refl
+    where
+      go : (t : Bool) → ltb i capacity ≡ t → Sized (cond t (fewer e i) e)
+      go true inside =
+          record {
+            full = length-without (e .entries) i (sized .full) (ltb-true i capacity inside);
+            bytes = bytes-without (e .entries) i (sized .bytes);
+          }
+      go false outside = sized
+
   pub confirmed-sized : Sized (confirmed e)
   unfolding confirmed
-  confirmed-sized = record { full = length-without (e .entries) (sized .full); bytes = bytes-without (e .entries) (sized .bytes) }
+  confirmed-sized = without-sized 0
 
   more-sized : (entry : Entry) → entry .message < 256 → Sized (more e entry)
   more-sized entry small =

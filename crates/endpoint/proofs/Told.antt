@@ -1,18 +1,18 @@
 -- What a good record says, test by test, and of each of its entries. Assumes nothing.
-use mathlib.Core.Path.{_∙_, _≡_, refl}
-use Prim.Native.Nat.{_*_, _+_, _<_, _≤_, suc, zero, ℕ}
+use mathlib.Core.Path.{_∙_, _≡_, ap, refl}
+use Prim.Native.Nat.{_<_, _≤_, suc, zero, ℕ}
 use mathlib.Core.Bool.{Bool, _&&_, _||_, false, true}
 use native.Mathlib.Omega.{arith}
 use lib.Dec.{eqb, leb, ltb}
 use lib.ListN.{length}
 use borrow.Author.Count.{below-more}
 use borrow.Author.Tests.{eqb-true, le-leb, le-ltb, leb-true, lt-ltb, ltb-false, ltb-true}
-use Rattle.bytes_be.proofs.Numbers.{number-past}
 use Rattle.bytes_be.proofs.Tests.{both-true}
 use Rattle.double.specs.Limit.{inLimits}
 use Rattle.endpoint.specs.declared.Endpoint.{Endpoint}
 use Rattle.endpoint.specs.declared.Entry.{Entry}
 use Rattle.endpoint.specs.Record.{awaitable, capacity, client, countFits, entriesFit, entryAt, entryFits, every, good, goodFlow, inRanges, isNone, producer, server, shut, waitFits}
+use Rattle.endpoint.proofs.Entries.{entry-past}
 
 -- the tests of a good record
 pub record Told (e : Endpoint) : Type 0 where
@@ -87,7 +87,7 @@ module _ (e : Endpoint) (i : ℕ) where
 
 -- each of a good record's sixteen entries fits, and so does every one behind them, where there are no bytes
 pub fits-at : (e : Endpoint) → length (e .entries) ≡ 48 → good e ≡ true → (i : ℕ) → entryFits e i ≡ true
-unfolding entriesFit isNone entryAt
+unfolding entriesFit isNone
 fits-at e full g i = go (ltb i capacity) refl
   where
     told : Told e
@@ -97,5 +97,4 @@ fits-at e full g i = go (ltb i capacity) refl
     go true inside = every-at capacity (entryFits e) (told .fitting) i (ltb-true i capacity inside)
     go false outside =
         let past : 16 ≤ i = ltb-false i capacity outside in
-        fits-behind e i (omega (arith, told .waits))
-        ∙ simp (number-past 1 (e .entries) (3 * i) (omega arith), number-past 2 (e .entries) (3 * i + 1) (omega arith))
+        fits-behind e i (omega (arith, told .waits)) ∙ ap isNone (entry-past (e .entries) full i past)

@@ -8,13 +8,13 @@ use lib.Dec.{eqb}
 use Rattle.bytes_be.specs.Part.{part}
 use Rattle.bytes_be.specs.Number.{numberAt, toBytes}
 use Rattle.endpoint.specs.declared.Endpoint.{Endpoint}
-use Rattle.endpoint.specs.Record.{good, freshOf}
+use Rattle.endpoint.specs.Record.{good, noEndpoint}
 
 -- the first 16 bytes
 unfoldable pub headBytes : Endpoint → List ℕ
 headBytes e =
     (e .role ∷ e .flow ∷ e .phase ∷ e .w ∷ [])
-    ++ toBytes 2 (e .n) ++ toBytes 2 0
+    ++ toBytes 2 (e .n) ++ (0 ∷ 0 ∷ [])
     ++ toBytes 4 (e .limit) ++ toBytes 4 0
 
 -- the block of a record
@@ -36,7 +36,7 @@ recordIn block =
 
 -- "6-7 zero", "12-15 zero"
 unfoldable pub spareIsZero : List ℕ → Bool
-spareIsZero block = eqb (numberAt 2 block 6) 0 && eqb (numberAt 4 block 12) 0
+spareIsZero block = eqb (numberAt 1 block 6) 0 && eqb (numberAt 1 block 7) 0 && eqb (numberAt 4 block 12) 0
 
 -- whether a block holds an endpoint, good or not: "64 bytes", and zeros where they must be
 abbrev pub holdsEndpoint : List ℕ → Bool
@@ -46,10 +46,6 @@ holdsEndpoint block = eqb (length block) 64 && spareIsZero block
 unfoldable pub isGood : List ℕ → Bool
 isGood block = holdsEndpoint block && good (recordIn block)
 
--- what any other block is loaded as: no role is 0, so it is not good
-abbrev pub noEndpoint : Endpoint
-noEndpoint = freshOf 0 0 0
-
--- the record that a call on a block works with
+-- the record that a call on a block works with: on any other block it is none
 unfoldable pub loadOf : List ℕ → Endpoint
 loadOf block = cond (holdsEndpoint block) (recordIn block) noEndpoint

@@ -2,7 +2,7 @@
 use Prim.Native.Nat.{ℕ, zero, suc, _+_, _-_, _*_}
 use mathlib.Core.List.{List, [], _∷_, _++_}
 use mathlib.Core.Bool.{Bool, true, cond, _&&_, _||_}
-use lib.ListN.{drop, replicate}
+use lib.ListN.{drop, replicate, take}
 use lib.Dec.{ltb, leb, eqb}
 use Rattle.bytes_be.specs.Part.{tabulate, putAt}
 use Rattle.bytes_be.specs.Number.{numberAt, toBytes}
@@ -11,6 +11,7 @@ use Rattle.endpoint.specs.declared.Entry.{Entry}
 use Rattle.endpoint.specs.declared.Endpoint.{Endpoint}
 use Rattle.endpoint.specs.declared.Given.{Given}
 use Rattle.endpoint.specs.declared.Given.the-variants.{Good, Bad}
+use Rattle.endpoint.specs.declared.Made.{Made}
 
 -- "role (1 client, 2 server)"
 abbrev pub client : ℕ
@@ -131,6 +132,18 @@ freshClient flow limit = freshOf client flow limit
 abbrev pub freshServer : ℕ → Endpoint
 freshServer flow = freshOf server flow mostLimit
 
+-- what stands for no endpoint: no role is 0, so it is not good
+abbrev pub noEndpoint : Endpoint
+noEndpoint = freshOf 0 0 0
+
+-- "Making tests .. 34."; "All others change no byte.": the record that is made, or what was there before
+unfoldable pub makingOf : Endpoint → Endpoint → Made
+makingOf before made =
+    record {
+      number = givenNumber (givenOf (made .flow) (made .limit));
+      next = cond (eqb (givenNumber (givenOf (made .flow) (made .limit))) 0) made before;
+    }
+
 -- "Phase becomes 5; n, W and entries zero."
 unfoldable pub closed : Endpoint → Endpoint
 closed e =
@@ -148,16 +161,28 @@ asked e entry =
     (record { role = e .role; flow = e .flow; phase = e .phase; w = e .w + 1; n = e .n; limit = e .limit; entries = putAt (e .entries) (3 * e .w) (entryBytes entry) })
     e
 
--- "the oldest entry"; "it removes it"
+-- entry i of the record, of three zeros where i is 16 or more
+abbrev pub entryOf : Endpoint → ℕ → Entry
+entryOf e i = entryAt (e .entries) i
+
+-- "the oldest entry"
 abbrev pub oldest : Endpoint → Entry
-oldest e = entryAt (e .entries) 0
+oldest e = entryOf e 0
 
-abbrev pub withoutOldest : List ℕ → List ℕ
-withoutOldest entries = drop 3 entries ++ (0 ∷ 0 ∷ 0 ∷ [])
+-- the 48 bytes without entry i: those behind it move up, and the last three are zero
+abbrev pub withoutEntry : List ℕ → ℕ → List ℕ
+withoutEntry entries i = take (3 * i) entries ++ drop (3 * i + 3) entries ++ (0 ∷ 0 ∷ 0 ∷ [])
 
+-- "it removes it": the same endpoint without entry i, where it is one of the sixteen
+abbrev pub without : Endpoint → ℕ → Endpoint
+without e i =
+    cond (ltb i capacity)
+    (record { role = e .role; flow = e .flow; phase = e .phase; w = e .w - 1; n = e .n; limit = e .limit; entries = withoutEntry (e .entries) i })
+    e
+
+-- "ACK-REPLY must equal the oldest entry in type and type-data; it removes it."
 unfoldable pub confirmed : Endpoint → Endpoint
-confirmed e =
-    record { role = e .role; flow = e .flow; phase = e .phase; w = e .w - 1; n = e .n; limit = e .limit; entries = withoutOldest (e .entries) }
+confirmed e = without e 0
 
 -- the same endpoint with another limit
 unfoldable pub limited : Endpoint → ℕ → Endpoint

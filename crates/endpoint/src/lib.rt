@@ -6,7 +6,7 @@ ghost use lib.ListN.{length};
 ghost use lib.Dec.{leb};
 ghost use Rattle.bytes_be.specs.Part.{part, putAt};
 ghost use Rattle.double.specs.Limit.{inLimits};
-ghost use Rattle.endpoint.specs.Record.{entryBytes, entryAt, noEntries, inRanges, countFits, waitFits, isNone, awaitable, fits, every, entriesFit, good as Record·good, givenOf, givenNumber, freshOf, closed as Record·closed, atPhase, asked as Record·asked, withoutOldest, confirmed as Record·confirmed, limited as Record·limited, oldest as Record·oldest};
+ghost use Rattle.endpoint.specs.Record.{entryBytes, entryAt, noEntries, inRanges, countFits, waitFits, isNone, awaitable, fits, every, entriesFit, good as Record·good, givenOf, givenNumber, freshOf, freshClient, freshServer, noEndpoint, makingOf, closed as Record·closed, atPhase, asked as Record·asked, entryOf, withoutEntry, without as Record·without, confirmed as Record·confirmed, limited as Record·limited, oldest as Record·oldest};
 ghost use Rattle.endpoint.specs.Block.{headBytes, bytesOf, recordIn, spareIsZero, loadOf};
 
 // A confirmation that is awaited.
@@ -37,6 +37,14 @@ pub enum Given {
     Good,
     // 34.
     Bad,
+}
+
+// What making an endpoint answers.
+pub struct Made {
+    // 0, or 34.
+    pub number: u8,
+    // The fresh endpoint, or a record that is not good, so that every call on it answers 1.
+    pub next: Endpoint,
 }
 
 fn in_ranges(e: Endpoint) -> bool
@@ -76,13 +84,24 @@ fn is_none(entry: Entry) -> bool
 }
 
 // The entry of three bytes.
-fn entry_of(message: u8, high: u8, low: u8) -> Entry
+fn entry_from(message: u8, high: u8, low: u8) -> Entry
     ensures { λ r. ⌜ r ≡ record { message = message; «type_data» = high * 256 + low } ⌝ }
 {
     Entry {
         message: message,
         type_data: (high as u16) * 256 + (low as u16),
     }
+}
+
+// Entry i, of three zeros where i is 16 or more.
+fn entry_at(entries: [u8; 48], i: usize) -> Entry
+    ensures { λ r. ⌜ r ≡ entryAt entries i ⌝ }
+{
+    if i < 16 {
+        let at = 3 * i;
+        return entry_from(entries[at], entries[at + 1], entries[at + 2]);
+    }
+    entry_from(0, 0, 0)
 }
 
 // Whether entry i is among the first W and may be awaited, or behind them and zero.
@@ -104,9 +123,7 @@ fn each_fits(e: Endpoint) -> bool
     let mut fit = true;
     let mut i = 0;
     while i < 16 {
-        let at = 3 * i;
-        let entry = entry_of(entries[at], entries[at + 1], entries[at + 2]);
-        fit = fit & entry_fits(flow, w, entry, i);
+        fit = fit & entry_fits(flow, w, entry_at(entries, i), i);
         i += 1;
     }
     fit
@@ -155,7 +172,7 @@ fn no_entries() -> [u8; 48]
 }
 
 // Whether flow and limit are ones that an endpoint can be made with.
-pub fn given_of(flow: u8, limit: u32) -> Given
+fn given_of(flow: u8, limit: u32) -> Given
     ensures { λ r. ⌜ r ≡ givenOf flow limit ⌝ }
 {
     let fits = ((1 <= flow) & (flow <= 2)) & in_limits(limit);
@@ -166,7 +183,7 @@ pub fn given_of(flow: u8, limit: u32) -> Given
 }
 
 // The number of 01 for what is given: 0, or 34.
-pub fn given_number(given: Given) -> u8
+fn given_number(given: Given) -> u8
     ensures { λ r. ⌜ r ≡ givenNumber given ⌝ }
 {
     match given {
@@ -176,7 +193,7 @@ pub fn given_number(given: Given) -> u8
 }
 
 // A fresh endpoint.
-pub fn fresh(role: u8, flow: u8, limit: u32) -> Endpoint
+fn fresh(role: u8, flow: u8, limit: u32) -> Endpoint
     ensures { λ r. ⌜ r ≡ freshOf role flow limit ⌝ }
 {
     Endpoint {
@@ -188,6 +205,45 @@ pub fn fresh(role: u8, flow: u8, limit: u32) -> Endpoint
         limit: limit,
         entries: no_entries(),
     }
+}
+
+// What stands for no endpoint.
+fn no_endpoint() -> Endpoint
+    ensures { λ r. ⌜ r ≡ noEndpoint ⌝ }
+{
+    fresh(0, 0, 0)
+}
+
+// Makes an endpoint of this role.
+fn make(role: u8, flow: u8, limit: u32) -> Made
+    ensures { λ r. ⌜ r ≡ makingOf noEndpoint (freshOf role flow limit) ⌝ }
+{
+    let given = given_of(flow, limit);
+    let number = given_number(given);
+    let Given::Good = given else {
+        return Made {
+            number: number,
+            next: no_endpoint(),
+        };
+    };
+    Made {
+        number: number,
+        next: fresh(role, flow, limit),
+    }
+}
+
+// Makes a client of this flow and limit.
+pub fn make_client(flow: u8, limit: u32) -> Made
+    ensures { λ r. ⌜ r ≡ makingOf noEndpoint (freshClient flow limit) ⌝ }
+{
+    make(1, flow, limit)
+}
+
+// Makes a server of this flow.
+pub fn make_server(flow: u8) -> Made
+    ensures { λ r. ⌜ r ≡ makingOf noEndpoint (freshServer flow) ⌝ }
+{
+    make(2, flow, 50000000)
 }
 
 // The endpoint after a close.
@@ -255,41 +311,62 @@ pub fn asked(e: Endpoint, entry: Entry) -> Endpoint
     e
 }
 
+// Entry i of the record, of three zeros where i is 16 or more.
+pub fn entry_of(e: Endpoint, i: usize) -> Entry
+    ensures { λ r. ⌜ r ≡ entryOf e i ⌝ }
+{
+    let entries = e.entries;
+    entry_at(entries, i)
+}
+
 // The oldest confirmation awaited; of a good record that awaits none, zero.
 pub fn oldest(e: Endpoint) -> Entry
     ensures { λ r. ⌜ r ≡ Record·oldest e ⌝ }
 {
-    let entries = e.entries;
-    entry_of(entries[0], entries[1], entries[2])
+    entry_of(e, 0)
 }
 
-// The entries without the oldest.
-fn without_oldest(entries: [u8; 48]) -> [u8; 48]
-    ensures { λ r. ⌜ r ≡ withoutOldest entries ⌝ }
+// The entries without entry i: those behind it move up.
+fn without_entry(entries: [u8; 48], i: usize) -> [u8; 48]
+    requires { ⌜ i < 16 ⌝ }
+    ensures { λ r. ⌜ r ≡ withoutEntry entries i ⌝ }
 {
-    let mut rest = no_entries();
-    let mut i = 0;
-    while i < 45 {
-        rest[i] = entries[3 + i];
-        i += 1;
+    let mut rest = entries;
+    let mut at = 3 * i;
+    while at < 45 {
+        rest[at] = entries[at + 3];
+        at += 1;
     }
+    rest[45] = 0;
+    rest[46] = 0;
+    rest[47] = 0;
     rest
+}
+
+// The endpoint without entry i, where it is one of the sixteen.
+pub fn without(e: Endpoint, i: usize) -> Endpoint
+    ensures { λ r. ⌜ r ≡ Record·without e i ⌝ }
+{
+    if i < 16 {
+        let entries = e.entries;
+        return Endpoint {
+            role: e.role,
+            flow: e.flow,
+            phase: e.phase,
+            w: less_one(e.w),
+            n: e.n,
+            limit: e.limit,
+            entries: without_entry(entries, i),
+        };
+    }
+    e
 }
 
 // The endpoint without the oldest confirmation awaited.
 pub fn confirmed(e: Endpoint) -> Endpoint
     ensures { λ r. ⌜ r ≡ Record·confirmed e ⌝ }
 {
-    let entries = e.entries;
-    Endpoint {
-        role: e.role,
-        flow: e.flow,
-        phase: e.phase,
-        w: less_one(e.w),
-        n: e.n,
-        limit: e.limit,
-        entries: without_oldest(entries),
-    }
+    without(e, 0)
 }
 
 // The endpoint with another limit.
@@ -342,14 +419,16 @@ fn record_in(block: &[u8]) -> Endpoint
 fn spare_is_zero(block: &[u8]) -> bool
     ensures { λ r. ⌜ r ≡ spareIsZero (now (block .entry)) ⌝ }
 {
-    (bytes_be::read16(block, 6) == 0) & (bytes_be::read32(block, 12) == 0)
+    (bytes_be::read8(block, 6) == 0)
+        & (bytes_be::read8(block, 7) == 0)
+        & (bytes_be::read32(block, 12) == 0)
 }
 
 // The record that a block holds, which is good where the block is.
 pub fn load(block: &[u8]) -> Endpoint
     ensures { λ r. ⌜ r ≡ loadOf (now (block .entry)) ⌝ }
 {
-    let none = fresh(0, 0, 0);
+    let none = no_endpoint();
     if block.len() != 64 {
         return none;
     }
@@ -368,7 +447,7 @@ fn store_head(e: Endpoint, block: &mut [u8])
     if room {
         bytes_be::copy_at(block, 0, &[e.role, e.flow, e.phase, e.w]);
         bytes_be::store16(block, 4, e.n);
-        bytes_be::store16(block, 6, 0);
+        bytes_be::copy_at(block, 6, &[0, 0]);
         bytes_be::store32(block, 8, e.limit);
         bytes_be::store32(block, 12, 0);
     }

@@ -9,6 +9,7 @@ use lib.Dec.{eqb}
 use Rattle.bytes_be.specs.Part.{putAt}
 use Rattle.open.specs.Offer.{Offer}
 use Rattle.endpoint.specs.declared.Endpoint.{Endpoint}
+use Rattle.endpoint.specs.declared.Made.{Made}
 use Rattle.endpoint.specs.Record.{givenOf, givenNumber}
 use Rattle.endpoint.specs.Block.{bytesOf, isGood, loadOf}
 use Rattle.receiving.specs.declared.Answer.{Answer}
@@ -34,6 +35,11 @@ makeNumber flow limit block = cond (eqb (length block) 64) (givenNumber (givenOf
 pub record MakeAnswer (made : Endpoint) (before : List ℕ) (number : ℕ) (after : List ℕ) : Type 0 where
   pub numbered : number ≡ makeNumber (made .flow) (made .limit) before
   pub kept : after ≡ cond (eqb (makeNumber (made .flow) (made .limit) before) 0) (stored made before) before
+
+-- what was made, and the block afterwards: "Making tests 1 (length only), 34."
+pub record Kept (made : Made) (before : List ℕ) (number : ℕ) (after : List ℕ) : Type 0 where
+  pub numbered : number ≡ cond (eqb (length before) 64) (made .number) 1
+  pub kept : after ≡ cond (eqb number 0) (stored (made .next) before) before
 
 -- what comes of a call on a block
 abbrev pub sentOn : List ℕ → Call → ℕ → Sent

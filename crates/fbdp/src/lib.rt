@@ -1,14 +1,14 @@
 // The C interface: numbers and byte slices in, a number out.
 ghost use mathlib.Core.Path.{_≡_};
 ghost use Rattle.open.specs.Offer.{offerOf};
-ghost use Rattle.endpoint.specs.Record.{freshOf, freshClient, freshServer};
+ghost use Rattle.endpoint.specs.Record.{freshClient, freshServer};
 ghost use Rattle.receiving.specs.Receiving.{answerNumber};
 ghost use Rattle.sending.specs.Calls.{datumOf, OPEN, READY, DATA, NOOP, CLOSE};
-ghost use Rattle.fbdp.specs.Blocks.{MakeAnswer, Finished, asksFor, reportOf, SendOnBlock, replyLength, stays, ReceiveOnBlock};
+ghost use Rattle.fbdp.specs.Blocks.{MakeAnswer, Kept, Finished, asksFor, reportOf, SendOnBlock, replyLength, stays, ReceiveOnBlock};
 ghost use Rattle.fbdp.specs.Slots.{carriedInOrder, inOrder, carriesOf, heardSlots, refusedSlots, answerSlots};
 ghost use Rattle.fbdp.specs.Entries.{frameSlots, FrameAnswer, valueSlots, ValueAnswer, termSlots, LookupAnswer};
 use bundle::Frame;
-use endpoint::Given;
+use endpoint::Made;
 use receiving::Answer;
 use receiving::Content;
 use receiving::Heard;
@@ -105,17 +105,18 @@ pub extern "C" fn fbdp_lookup(
     terms::term_number(term) as u32
 }
 
-// Makes a fresh endpoint of this role in a block of 64 bytes.
-fn make(block: &mut [u8], role: u8, flow: u8, limit: u32) -> u32
-    ensures { λ r. ⌜ MakeAnswer (freshOf role flow limit) (now (block .entry)) r (now (block .exit)) ⌝ }
+// Keeps what was made in a block of 64 bytes.
+fn keep(made: Made, block: &mut [u8]) -> u32
+    ensures { λ r. ⌜ Kept made (now (block .entry)) r (now (block .exit)) ⌝ }
 {
+    let next = made.next;
     if block.len() != 64 {
         return 1;
     }
-    let Given::Good = endpoint::given_of(flow, limit) else {
-        return 34;
-    };
-    endpoint::store(endpoint::fresh(role, flow, limit), block);
+    if made.number != 0 {
+        return made.number as u32;
+    }
+    endpoint::store(next, block);
     0
 }
 
@@ -124,7 +125,7 @@ fn make(block: &mut [u8], role: u8, flow: u8, limit: u32) -> u32
 pub extern "C" fn fbdp_make_client(block: &mut [u8], flow: u8, limit: u32) -> u32
     ensures { λ r. ⌜ MakeAnswer (freshClient flow limit) (now (block .entry)) r (now (block .exit)) ⌝ }
 {
-    make(block, 1, flow, limit)
+    keep(endpoint::make_client(flow, limit), block)
 }
 
 // Makes a fresh server of this flow.
@@ -132,7 +133,7 @@ pub extern "C" fn fbdp_make_client(block: &mut [u8], flow: u8, limit: u32) -> u3
 pub extern "C" fn fbdp_make_server(block: &mut [u8], flow: u8) -> u32
     ensures { λ r. ⌜ MakeAnswer (freshServer flow) (now (block .entry)) r (now (block .exit)) ⌝ }
 {
-    make(block, 2, flow, 50000000)
+    keep(endpoint::make_server(flow), block)
 }
 
 // Tells what came of a send, and stores the endpoint unless the send was refused.

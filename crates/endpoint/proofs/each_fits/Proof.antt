@@ -1,15 +1,13 @@
 -- `endpoint::each_fits` meets its contract: the loop keeps the test of every entry below i.
 -- Assumes nothing.
-use mathlib.Core.Path.{_∙_, _≡_, ap, ap₂, refl, sym}
+use mathlib.Core.Path.{_∙_, _≡_, ap, ap₂, refl}
 use Prim.Native.Nat.{_-_, _≤_, ℕ}
 use mathlib.Core.Bool.{_&&_}
 use native.Mathlib.Numerals.{add-one}
 use native.Mathlib.Omega.{arith}
-use lib.ListN.{length}
 use borrow.Author.Needs.{needs}
 use Rattle.endpoint.specs.declared.Entry.{Entry}
 use Rattle.endpoint.specs.Record.{entriesFit, entryAt, entryFits, every, fits}
-use Rattle.endpoint.proofs.Entries.{entry-read}
 use Rattle.endpoint.proofs.each_fits.Statement.{statement}
 use Rattle.endpoint.proofs.each_fits.Tie as tie
 
@@ -22,26 +20,8 @@ abbrev μ-loop : tie.MeasureT-loop
 loop-holds : tie.Need-loop-holds Inv-loop μ-loop
 loop-holds c = (search needs, refl)
 
-mul-at : tie.Need-mul-at Inv-loop μ-loop
-mul-at c = search needs
-
-array-read-entry-of : tie.Need-array-read-entry-of Inv-loop μ-loop
-array-read-entry-of c = search needs
-
-add-entry-of : tie.Need-add-entry-of Inv-loop μ-loop
-add-entry-of c = search needs
-
-array-read-entry-of-2 : tie.Need-array-read-entry-of-2 Inv-loop μ-loop
-array-read-entry-of-2 c = search needs
-
-add-entry-of-2 : tie.Need-add-entry-of-2 Inv-loop μ-loop
-add-entry-of-2 c = search needs
-
-array-read-entry-of-3 : tie.Need-array-read-entry-of-3 Inv-loop μ-loop
-array-read-entry-of-3 c = search needs
-
-entry-of-requires : tie.Need-entry-of-requires Inv-loop μ-loop
-entry-of-requires c κs = search needs
+entry-at-requires : tie.Need-entry-at-requires Inv-loop μ-loop
+entry-at-requires c κs = search needs
 
 entry-fits-requires : tie.Need-entry-fits-requires Inv-loop μ-loop
 entry-fits-requires c κs = search needs
@@ -56,9 +36,7 @@ loop-again : tie.Need-loop-again Inv-loop μ-loop
 loop-again c =
     let loop = c .before .before .before .loop in
     let e = c .before .before .before .before .before .args .e in
-    let full : length (e .entries) ≡ 48 = search needs in
-    let read = c .before .entry-of .ensures ∙ sym (entry-read (e .entries) full (loop .i)) in
-    let this = c .entry-fits .ensures ∙ ap (λ (entry : Entry). fits (e .flow) (e .w) entry (loop .i)) read in
+    let this = c .entry-fits .ensures ∙ ap (λ (entry : Entry). fits (e .flow) (e .w) entry (loop .i)) (c .before .entry-at .ensures) in
     (search needs, rw add-one (ap₂ _&&_ (loop .inv .1) this))
 
 returns : tie.Need-returns Inv-loop μ-loop
@@ -75,13 +53,7 @@ each-fits-spec =
     Inv-loop
     μ-loop
     loop-holds
-    mul-at
-    array-read-entry-of
-    add-entry-of
-    array-read-entry-of-2
-    add-entry-of-2
-    array-read-entry-of-3
-    entry-of-requires
+    entry-at-requires
     entry-fits-requires
     add-i
     loop-less

@@ -6,10 +6,9 @@ use mathlib.Core.List.{List}
 use mathlib.Core.Bool.{Bool, cond}
 use borrow.Author.Needs.{needs}
 use borrow.Author.Tests.{leb-true}
-use Rattle.bytes_be.specs.Number.{toBytes}
 use Rattle.bytes_be.specs.Part.{putAt}
 use Rattle.endpoint.specs.Block.{headBytes}
-use Rattle.endpoint.proofs.Stored.{stored-head}
+use Rattle.endpoint.proofs.Stored.{stored-head, with-last, with-limit, with-n, with-zeros}
 use Rattle.endpoint.proofs.store_head.Statement.{statement}
 use Rattle.endpoint.proofs.store_head.Tie as tie
 
@@ -22,8 +21,11 @@ copy-at-requires c κs = search needs
 store16-requires : tie.Need-store16-requires
 store16-requires c κs = search needs
 
-store16-requires-2 : tie.Need-store16-requires-2
-store16-requires-2 c κs = search needs
+slice-aggregate-copy-at-2 : tie.Need-slice-aggregate-copy-at-2
+slice-aggregate-copy-at-2 c = search needs
+
+copy-at-requires-2 : tie.Need-copy-at-requires-2
+copy-at-requires-2 c κs = search needs
 
 store32-requires : tie.Need-store32-requires
 store32-requires c κs = search needs
@@ -36,15 +38,20 @@ same-length c = search needs
 
 returns : tie.Need-returns
 returns c =
-    let a = c .before .before .before .before .before .before .before .before .before .before .before .before .before .before .before .before .before .before .before .before .before .before .before .args in
-    let e = a .e in
-    c .before .before .store322 .ensures
-    ∙ ap (λ (l : List ℕ). putAt l 12 (toBytes 4 0)) (c .before .before .before .before .before .before .store32 .ensures)
-    ∙ ap (λ (l : List ℕ). putAt (putAt l 8 (toBytes 4 (e .limit))) 12 (toBytes 4 0)) (c .before .before .before .before .before .before .before .before .before .before .store162 .ensures)
-    ∙ ap (λ (l : List ℕ). putAt (putAt (putAt l 6 (toBytes 2 0)) 8 (toBytes 4 (e .limit))) 12 (toBytes 4 0)) (c .before .before .before .before .before .before .before .before .before .before .before .before .before .before .store16 .ensures)
-    ∙ ap (λ (l : List ℕ). putAt (putAt (putAt (putAt l 4 (toBytes 2 (e .n))) 6 (toBytes 2 0)) 8 (toBytes 4 (e .limit))) 12 (toBytes 4 0)) (c .before .before .before .before .before .before .before .before .before .before .before .before .before .before .before .before .before .before .copy-at .ensures)
-    ∙ stored-head (a .block .now) e (leb-true 64 _ (c .before .before .before .before .before .before .before .before .before .before .before .before .before .before .before .before .before .before .before .before .before .if1 .taken))
-    ∙ sym (ap (λ (t : Bool). cond t (putAt (a .block .now) 0 (headBytes e)) (a .block .now)) (c .before .before .before .before .before .before .before .before .before .before .before .before .before .before .before .before .before .before .before .before .before .if1 .taken))
+    let last = c .before .before in
+    let limit = last .before .before .before .before in
+    let spare = limit .before .before .before .before in
+    let count = spare .before .before .before .before .before in
+    let first = count .before .before .before .before in
+    let room = first .before .before .before .if1 .taken in
+    let a = first .before .before .before .before .before .args in
+    last .store322 .ensures
+    ∙ ap with-last (limit .store32 .ensures)
+    ∙ ap (λ (l : List ℕ). with-last (with-limit (a .e) l)) (spare .copy-at2 .ensures)
+    ∙ ap (λ (l : List ℕ). with-last (with-limit (a .e) (with-zeros l))) (count .store16 .ensures)
+    ∙ ap (λ (l : List ℕ). with-last (with-limit (a .e) (with-zeros (with-n (a .e) l)))) (first .copy-at .ensures)
+    ∙ stored-head (a .block .now) (a .e) (leb-true 64 _ room)
+    ∙ sym (ap (λ (t : Bool). cond t (putAt (a .block .now) 0 (headBytes (a .e))) (a .block .now)) room)
 
 returns-2 : tie.Need-returns-2
 returns-2 c =
@@ -58,7 +65,8 @@ store-head-spec =
     slice-aggregate-copy-at
     copy-at-requires
     store16-requires
-    store16-requires-2
+    slice-aggregate-copy-at-2
+    copy-at-requires-2
     store32-requires
     store32-requires-2
     same-length
