@@ -38,7 +38,6 @@ pub record Passed (e : Endpoint) (s : List ℕ) (pipe : Offer) (m : Message) (co
   pub below : aboveOffer (hearRow e m) ≡ false
   pub matched : unmatched e m ≡ false
 
-
 -- each number of 10 to 24 has a CLOSE code
 
 above : {low number : ℕ} → low ≤ number → (number ≡ low → ⊥) → 1 + low ≤ number

@@ -3,12 +3,12 @@
 use Prim.Native.Nat.{ℕ}
 use mathlib.Core.List.{List, [], _∷_}
 use mathlib.Core.Bool.{cond}
-use lib.Dec.{eqb}
 use Rattle.bytes_be.specs.Part.{partAt}
 use Rattle.control.specs.Frame.{ackRequest, typeOf}
 use Rattle.open.specs.Offer.{Offer}
 use Rattle.endpoint.specs.declared.Endpoint.{Endpoint}
-use Rattle.endpoint.specs.Record.{freshClient, freshServer, givenOf, givenNumber}
+use Rattle.endpoint.specs.Record.{freshClient, freshServer, makingOf}
+use Rattle.endpoint.specs.declared.Made.{Made}
 use Rattle.receiving.specs.declared.Content.{Content}
 use Rattle.receiving.specs.declared.Content.the-variants.{Nothing, Opening, Body}
 use Rattle.receiving.specs.declared.Answer.{Answer}
@@ -111,20 +111,16 @@ outcomeOf s received =
       next = received .next;
     }
 
--- "Making tests .. 34."; "All others change no byte."
-abbrev pub madeOf : Endpoint → Endpoint → MakeOutcome Endpoint
-madeOf before made =
-    record {
-      number = givenNumber (givenOf (made .flow) (made .limit));
-      next = cond (eqb (givenNumber (givenOf (made .flow) (made .limit))) 0) made before;
-    }
+-- what came of a making
+abbrev pub madeAs : Made → MakeOutcome Endpoint
+madeAs made = record { number = made .number; next = made .next }
 
 -- outputs are told by their lengths
 abbrev pub tables : Program Endpoint ℕ
 tables =
     record {
       room = λ out. out;
-      make = λ e making. madeOf e (freshBy making);
+      make = λ e making. madeAs (makingOf e (freshBy making));
       send = λ e call out. record { number = sendOf e call out .number; bytes = written e call; next = sendOf e call out .next };
       receive = λ e m pipe out. outcomeOf (m .bytes) (receivedOf e (m .bytes) pipe out);
     }

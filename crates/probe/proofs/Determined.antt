@@ -7,6 +7,7 @@ use Rattle.bytes_be.proofs.Determined.{coincide}
 use Rattle.bundle.proofs.Determined.{written-determined}
 use Rattle.control.specs.declared.KnownType.{KnownType}
 use Rattle.control.specs.declared.KnownType.the-variants.{Known, Unknown}
+use Rattle.open.specs.Offer.{Offer}
 use Rattle.open.specs.declared.Open.{Open}
 use Rattle.probe.specs.Entries.{ContentsAnswer, HandOutAnswer, ControlAnswer, Wrote, FieldAnswer, Stored}
 use Rattle.probe.specs.Entries.{CheckAnswer, LimitAnswer, OpenAnswer, OpenFrameAnswer}
@@ -49,9 +50,9 @@ pub open-determined : {said : Open} {number number′ : ℕ} {slots slots′ : L
     (number ≡ number′) × (slots ≡ slots′)
 open-determined one other = (coincide (one .numbered) (other .numbered), coincide (one .told) (other .told))
 
-pub open-frame-determined : {flow : ℕ} {name format : List ℕ} {limit at : ℕ} {before : List ℕ} {number number′ frame-length frame-length′ : ℕ}
-    {after after′ : List ℕ} → OpenFrameAnswer flow name format limit at before number frame-length after →
-    OpenFrameAnswer flow name format limit at before number′ frame-length′ after′ →
+pub open-frame-determined : {flow : ℕ} {asked : Offer} {limit at : ℕ} {before : List ℕ} {number number′ frame-length frame-length′ : ℕ}
+    {after after′ : List ℕ} → OpenFrameAnswer flow asked limit at before number frame-length after →
+    OpenFrameAnswer flow asked limit at before number′ frame-length′ after′ →
     (number ≡ number′) × (frame-length ≡ frame-length′) × (after ≡ after′)
 open-frame-determined one other =
     (coincide (one .numbered) (other .numbered), coincide (one .told) (other .told), coincide (one .left) (other .left))

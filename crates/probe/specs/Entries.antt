@@ -31,6 +31,7 @@ use Rattle.params.specs.Rules.{structCheck, aloneCheck}
 use Rattle.terms.specs.declared.Announced.{Announced}
 use Rattle.terms.specs.declared.Announced.the-variants.{Nothing, Limit, Bad}
 use Rattle.terms.specs.Announced.{limitIn, announcedLimit}
+use Rattle.open.specs.Offer.{Offer}
 use Rattle.open.specs.declared.Opening.{Opening}
 use Rattle.open.specs.declared.Refusal.{Refusal}
 use Rattle.open.specs.declared.Refusal.the-variants.{Unreadable, OutOfRange, UnknownSocket, OtherPipe, OtherFormat}
@@ -175,8 +176,8 @@ abbrev pub givenLength : Given → ℕ
 givenLength (Given·Good frame-length) = frame-length
 givenLength Given·Bad = 0
 
-pub record OpenFrameAnswer (flow : ℕ) (name format : List ℕ) (limit at : ℕ) (before : List ℕ) (number frame-length : ℕ)
+pub record OpenFrameAnswer (flow : ℕ) (asked : Offer) (limit at : ℕ) (before : List ℕ) (number frame-length : ℕ)
     (after : List ℕ) : Type 0 where
-  pub numbered : number ≡ givenNumber (givenOf flow name format limit)
-  pub told : frame-length ≡ givenLength (givenOf flow name format limit)
-  pub left : after ≡ written flow name format limit at before
+  pub numbered : number ≡ givenNumber (givenOf flow asked limit)
+  pub told : frame-length ≡ givenLength (givenOf flow asked limit)
+  pub left : after ≡ written flow asked limit at before

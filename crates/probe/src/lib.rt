@@ -9,6 +9,7 @@ ghost use Rattle.control.specs.Frame.{knownTypeOf};
 ghost use Rattle.double.specs.Double.{bytesOf};
 ghost use Rattle.line.specs.Report.{reportOf, lineOf, Put};
 ghost use Rattle.open.specs.declared.Refusal.the-variants.{Unreadable};
+ghost use Rattle.open.specs.Offer.{offerOf};
 ghost use Rattle.open.specs.Open.{heardBy};
 ghost use Rattle.utf8.specs.Text.{wellFormed};
 ghost use Rattle.probe.specs.Entries.{contentsSlots, ContentsAnswer, handedSlots, HandOutAnswer, controlSlots, ControlAnswer, bodies, Wrote, kindNumber, readingNumber, readingSlots, FieldAnswer, Stored, checkOf, checkSlots, CheckAnswer, announcedSlots, ifReadable, LimitAnswer, flowOf, openingSlots, refusalSlots, openSlots, OpenAnswer, givenLength, OpenFrameAnswer};
@@ -410,7 +411,7 @@ pub extern "C" fn probe_open(
     format: &[u8],
     slots: &mut [u64; 10],
 ) -> u32
-    ensures { λ r. ⌜ OpenAnswer (heardBy (now (message .entry)) at end (flowOf producer) (now (name .entry)) (now (format .entry))) r (now (slots .exit)) ⌝ }
+    ensures { λ r. ⌜ OpenAnswer (heardBy (now (message .entry)) at end (flowOf producer) (offerOf (now (name .entry)) (now (format .entry)))) r (now (slots .exit)) ⌝ }
 {
     let said = open::hear(message, at, end, flow_of(producer), name, format);
     *slots = open_slots(said);
@@ -436,7 +437,7 @@ pub extern "C" fn probe_open_frame(
     limit: u32,
     frame_length: &mut u64,
 ) -> u32
-    ensures { λ r. ⌜ OpenFrameAnswer (flowOf producer) (now (name .entry)) (now (format .entry)) limit at (now (out .entry)) r (now («frame_length» .exit)) (now (out .exit)) ⌝ }
+    ensures { λ r. ⌜ OpenFrameAnswer (flowOf producer) (offerOf (now (name .entry)) (now (format .entry))) limit at (now (out .entry)) r (now («frame_length» .exit)) (now (out .exit)) ⌝ }
 {
     let flow = flow_of(producer);
     let given = open_write::given_of(flow, name, format, limit);

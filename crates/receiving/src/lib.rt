@@ -335,14 +335,7 @@ fn accept(e: Endpoint, m: Message, row: Row, content: Content) -> Received
 }
 
 // 18 to 22 by what the message carries, 23, 24, and else it is heard; `row` is what the table says of it.
-fn hear_content(
-    e: Endpoint,
-    s: &[u8],
-    name: &[u8],
-    format: &[u8],
-    m: Message,
-    row: Row,
-) -> Received
+fn hear_content(e: Endpoint, s: &[u8], name: &[u8], format: &[u8], m: Message, row: Row) -> Received
     requires inside { ⌜ bodyPlace (m .body) .at + bodyPlace (m .body) .length ≤ length (now s) ⌝ }
     requires rowed { ⌜ row ≡ hearRow e m ⌝ }
     ensures { λ r. ⌜ r ≡ hearContent e (now (s .entry)) (offerOf (now (name .entry)) (now (format .entry))) m ⌝ }
