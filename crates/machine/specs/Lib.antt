@@ -1,7 +1,9 @@
--- The endpoint as a whole: what a refusal does, that good stays good, and that what is sent is heard as it was sent; and what a program is and a run of
--- one end.
+-- The endpoint as a whole: what a refusal does, that good stays good, that what is sent is heard as it was sent, what becomes of a CLOSE, and the call
+-- that a message is of; and what a program is and a run of one end.
 pub mod Refusals
 pub mod Good
 pub mod Round
+pub mod Close
+pub mod CallIn
 pub mod Programs
 pub mod Runs

@@ -262,6 +262,7 @@ module _ (flow : ℕ) (name format : List ℕ) (limit : ℕ) (good : isGood (off
   back =
       record {
         opening = opening;
+        opened = opened;
         socket = refl;
         named = frame .bytes;
         formatted = frame .behind .bytes;

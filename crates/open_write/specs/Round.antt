@@ -11,8 +11,9 @@ use Rattle.terms.specs.Announced.{announcedLimit}
 use Rattle.open.specs.declared.Opening.{Opening}
 use Rattle.open.specs.declared.Refusal.the-variants.{OtherPipe, OtherFormat}
 use Rattle.open.specs.declared.Open.{Open}
+use Rattle.open.specs.declared.Open.the-variants.{Heard}
 use Rattle.open.specs.Offer.{Offer}
-use Rattle.open.specs.Open.{refusedIf, offeredSocket, _then_, heardBy}
+use Rattle.open.specs.Open.{refusedIf, offeredSocket, _then_, openOf, heardBy}
 use Rattle.open_write.specs.Frame.{isGood, socketOf, limitStruct, frameFor, written}
 
 -- refused only where name, socket or format is not the offered one
@@ -24,6 +25,8 @@ answerTo flow asked opening serverFlow offer =
 -- the same socket, name, format and limit, of the frame from `from` to `to`
 pub record ReadBack (flow : ℕ) (asked : Offer) (limit : ℕ) (s : List ℕ) (from to : ℕ) : Type 0 where
   pub opening : Opening
+  -- 18, 19 and 20 do not refuse it
+  pub opened : openOf s from to ≡ Heard opening
   pub socket : opening .socket ≡ socketOf flow
   pub named : partAt s (opening .name) ≡ asked .name
   pub formatted : partAt s (opening .format) ≡ asked .format
