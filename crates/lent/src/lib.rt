@@ -1,8 +1,15 @@
-// The endpoint record that is lent and changed in place: the five sends and receive. A refused send leaves record and output as they were.
+// The endpoint record that is lent and changed in place: the two makings, the five sends and receive. A refused making leaves the record as it
+// was, and a refused send record and output.
+ghost use mathlib.Core.Path.{_≡_};
+ghost use mathlib.Core.Bool.{cond};
+ghost use lib.Dec.{eqb};
 ghost use Rattle.open.specs.Offer.{offerOf};
+ghost use Rattle.endpoint.specs.Record.{freshClient, freshServer, makingOf};
 ghost use Rattle.sending.specs.Calls.{datumOf, OPEN, READY, DATA, NOOP, CLOSE};
+ghost use Rattle.lent.specs.Making.{MakeOnLent};
 ghost use Rattle.lent.specs.Lent.{SendOnLent, ReceiveOnLent};
 use endpoint::Endpoint;
+use endpoint::Made;
 use receiving::Answer;
 use receiving::Reply;
 use sending::Report;
@@ -19,6 +26,49 @@ pub struct Told {
 pub struct Outcome {
     pub answer: Answer,
     pub reply: Reply,
+}
+
+// What was made, or the record as it was where nothing was.
+fn remade(e: Endpoint, made: Made) -> Made
+    ensures { λ r. ⌜ r ≡ cond (eqb (made .number) 0) made (record { number = made .number; next = e }) ⌝ }
+{
+    if made.number != 0 {
+        return Made {
+            number: made.number,
+            next: e,
+        };
+    }
+    made
+}
+
+fn remade_client(e: Endpoint, flow: u8, limit: u32) -> Made
+    ensures { λ r. ⌜ r ≡ makingOf e (freshClient flow limit) ⌝ }
+{
+    remade(e, endpoint::make_client(flow, limit))
+}
+
+fn remade_server(e: Endpoint, flow: u8) -> Made
+    ensures { λ r. ⌜ r ≡ makingOf e (freshServer flow) ⌝ }
+{
+    remade(e, endpoint::make_server(flow))
+}
+
+// Makes a client of this flow and limit.
+pub fn make_client(e: &mut Endpoint, flow: u8, limit: u32) -> u8
+    ensures { λ r. ⌜ MakeOnLent (now (e .entry)) (freshClient flow limit) r (now (e .exit)) ⌝ }
+{
+    let made = remade_client(*e, flow, limit);
+    *e = made.next;
+    made.number
+}
+
+// Makes a server of this flow.
+pub fn make_server(e: &mut Endpoint, flow: u8) -> u8
+    ensures { λ r. ⌜ MakeOnLent (now (e .entry)) (freshServer flow) r (now (e .exit)) ⌝ }
+{
+    let made = remade_server(*e, flow);
+    *e = made.next;
+    made.number
 }
 
 // Sends OPEN for this pipe name and this format.
