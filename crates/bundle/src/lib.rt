@@ -140,13 +140,13 @@ pub fn write_one(out: &mut [u8], frame: [u8; 8]) -> usize
 
 // Writes what stands in front of the second of two frames, the contents and the first frame of 8 bytes, or nothing where there is no room for
 // it.
-pub fn write_head(out: &mut [u8], first: [u8; 8], length: u32)
-    ensures { λ _. ⌜ now (out .exit) ≡ putAt (now (out .entry)) 0 (headOf first length) ⌝ }
+pub fn write_head(out: &mut [u8], first: [u8; 8], size: u32)
+    ensures { λ _. ⌜ now (out .exit) ≡ putAt (now (out .entry)) 0 (headOf first size) ⌝ }
 {
     let room = 18 <= out.len();
     if room {
         bytes_be::copy_at(out, 0, &[0, 2, 0, 0, 0, 8]);
-        bytes_be::store32(out, 6, length);
+        bytes_be::store32(out, 6, size);
         bytes_be::copy_at(out, 10, &first);
     }
 }

@@ -35,7 +35,7 @@ returns c =
     let start = c .before .before .before .before .before .before .before .before .before .before .before .before .before .before .before .before in
     let a = start .args in
     rw (c .before .before .copy-at2 .ensures, c .before .before .before .before .before .before .before .store32 .ensures, c .before .before .before .before .before .before .before .before .before .before .before .copy-at .ensures)
-    (put-head (a .t2) (omega (arith, start .good)) (a .out .now) (a .length) (leb-true 18 (length (a .out .now)) (c .before .before .before .before .before .before .before .before .before .before .before .before .before .before .if1 .taken)))
+    (put-head (a .t2) (omega (arith, start .good)) (a .out .now) (a .size) (leb-true 18 (length (a .out .now)) (c .before .before .before .before .before .before .before .before .before .before .before .before .before .before .if1 .taken)))
 
 returns-2 : tie.Need-returns-2
 returns-2 c =
@@ -43,7 +43,7 @@ returns-2 c =
     let a = start .args in
     let eight : length (a .t2) ≡ 8 = omega (arith, start .good) in
     let short : length (a .out .now) < 18 = leb-false 18 (length (a .out .now)) (c .if1 .left) in
-    sym (put-none (a .out .now) 0 (headOf (a .t2) (a .length)) (omega (arith, length-front (a .t2) eight (a .out .now) (a .length))))
+    sym (put-none (a .out .now) 0 (headOf (a .t2) (a .size)) (omega (arith, length-front (a .t2) eight (a .out .now) (a .size))))
 
 pub write-head-spec : {M : Type 1} → statement M
 write-head-spec =
