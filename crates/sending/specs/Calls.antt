@@ -68,7 +68,7 @@ pub record Sends : Type 0 where
 abbrev pub sends : MessageType → ℕ → Bool → (Endpoint → List (List ℕ)) → (Endpoint → ℕ) → Sends
 sends message type-data ask frames own = record { message = message; type-data = type-data; ask = ask; frames = frames; own = own }
 
--- a row for each call: "OPEN has type-data 0."; "CLOSE has no data frame."
+-- a row for each call: type, type-data, ask, data frames, own test. "OPEN has type-data 0."; "CLOSE has no data frame."
 abbrev pub sendsOf : Call → Sends
 sendsOf (OPEN pipe) = sends Open 0 false (λ e. frameFor (e .flow) pipe (e .limit) ∷ []) (λ e. numberIf (misgiven pipe) 34)
 sendsOf (READY count) = sends Ready count false (λ e. []) (λ e. 0)

@@ -1,5 +1,5 @@
--- The table of sends, which is the table of what is heard too: what an end may hear, and what it then becomes, is the row of a sender of the
--- other role and the other flow, in the hearer's phase and with the hearer's n.
+-- "Sending": the table, row by row. It is the table of what is heard too: what an end may hear, and what it then becomes, is the row of a sender of
+-- the other role and the other flow, in the hearer's phase and with the hearer's n; `receiving/specs/Rows` has that in the words of "Receiving".
 use Prim.Native.Nat.{ℕ, _-_}
 use mathlib.Core.Bool.{Bool, true, false, cond, _&&_, _||_}
 use lib.Dec.{leb, eqb}
@@ -22,27 +22,27 @@ upTo test row = cond test row AboveOffer
 unfoldable pub begun : ℕ → ℕ → Row
 begun phase count = cond (eqb count 0) (To idle 0) (To phase count)
 
--- OPEN: "client, phase 0"; "1". Received: "server in phase 0; becomes 1".
+-- | OPEN | client, phase 0 | 1 |
 unfoldable pub openRow : ℕ → ℕ → Row
 openRow role phase = allowed (eqb role client && eqb phase fresh) (To opening 0)
 
--- READY(k), client: "phase 3, k at most n"; "k=0: 2; else 4, n=k". Received: "At a server: phase 3; k at most n; k=0 gives 2, else 4 with n=k."
--- READY(k), server: "phase 1 or 2"; "k=0: 2; else 3, n=k". Received: "at a client: phase 1 or 2; k=0 gives 2, else 3 with n=k."
+-- | READY(k), client | phase 3, k at most n | k=0: 2; else 4, n=k |
+-- | READY(k), server | phase 1 or 2 | k=0: 2; else 3, n=k |
 unfoldable pub readyRow : ℕ → ℕ → ℕ → ℕ → Row
 readyRow role phase n count =
     cond (eqb role client)
     (allowed (eqb phase offer) (upTo (leb count n) (begun batch count)))
     (allowed (eqb phase opening || eqb phase idle) (begun offer count))
 
--- DATA: "producer, phase 4"; "n less 1; at 0, phase 2". Received: "consumer in phase 4; n less 1, at 0 phase 2."
+-- | DATA | producer, phase 4 | n less 1; at 0, phase 2 |
 unfoldable pub dataRow : ℕ → ℕ → ℕ → Row
 dataRow flow phase n = allowed (eqb flow producer && eqb phase batch) (begun batch (n - 1))
 
--- NOOP: "phase 2, 3, 4"; "same". Received: "NOOP, and any message with ACK-REPLY: phase 2, 3 or 4."
+-- | NOOP | phase 2, 3, 4 | same |
 unfoldable pub noopRow : ℕ → ℕ → Row
 noopRow phase n = allowed (leb idle phase && leb phase batch) (To phase n)
 
--- CLOSE: "phase 1 to 4"; "5, n and W and entries zero". Received: "heard in phases 1 to 4".
+-- | CLOSE(code) | phase 1 to 4 | 5, n and W and entries zero |
 unfoldable pub closeRow : ℕ → Row
 closeRow phase = allowed (leb opening phase && leb phase batch) (To shut 0)
 
