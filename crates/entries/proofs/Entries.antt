@@ -162,11 +162,11 @@ module _ (s : List ℕ) (pipe : Offer) (block out : List ℕ) (number : ℕ) (sl
 
 made-back : (block : List ℕ) (made : Endpoint) (number : ℕ) (block′ : List ℕ) → MakeAnswer made block number block′ → number ≡ 0
     → (givenNumber (givenOf (made .flow) (made .limit)) ≡ 0) × (Sound made → loadOf block′ ≡ made)
-unfolding makeNumber
+unfolding makeNumber makingOf
 made-back block made number block′ answer accepts =
     let accepted = sym (answer .numbered) ∙ accepts in
     let passed = took-first (eqb (length block) 64) (λ one. omega arith) accepted in
-    let kept : block′ ≡ stored made block = rw accepted at (answer .kept) in
+    let kept : block′ ≡ stored made block = rw (accepted, passed .1) at (answer .kept) in
     (passed .1, λ sound. ap loadOf kept ∙ stored-back made sound block (eqb-true (length block) 64 (passed .0)))
 
 pub made-are-fresh : MadeAreFresh

@@ -7,7 +7,8 @@ use lib.ListN.{length, take}
 use lib.Dec.{eqb}
 use Rattle.bytes_be.specs.Part.{partAt}
 use Rattle.open.specs.Offer.{Offer}
-use Rattle.endpoint.specs.declared.Endpoint.{Endpoint}
+use Rattle.endpoint.specs.declared.Made.{Made}
+use Rattle.endpoint.specs.Record.{makingOf, noEndpoint}
 use Rattle.endpoint.specs.Block.{loadOf}
 use Rattle.receiving.specs.declared.Received.{Received}
 use Rattle.receiving.specs.Receiving.{answerNumber, replied}
@@ -56,11 +57,11 @@ pub record Meets (entries : Entries) : Type 0 where
       (entries .receives s pipe block out .out)
 
 -- what the tables make of a making, a call and a message
-abbrev pub makeResult : Endpoint → List ℕ → MakeOutcome (List ℕ)
+abbrev pub makeResult : Made → List ℕ → MakeOutcome (List ℕ)
 makeResult made block =
     record {
-      number = makeNumber (made .flow) (made .limit) block;
-      next = cond (eqb (makeNumber (made .flow) (made .limit) block) 0) (stored made block) block;
+      number = makeNumber made block;
+      next = cond (eqb (makeNumber made block) 0) (stored (made .next) block) block;
     }
 
 abbrev pub sendResult : Sent → Call → List ℕ → List ℕ → SendResult
@@ -85,7 +86,7 @@ receiveResult received block out =
 unfoldable pub byTables : Entries
 byTables =
     record {
-      makes = λ making block. makeResult (freshBy making) block;
+      makes = λ making block. makeResult (makingOf noEndpoint (freshBy making)) block;
       sends = λ call block out. sendResult (sentOn block call (length out)) call block out;
       receives = λ s pipe block out. receiveResult (receivedOn block s pipe (length out)) block out;
     }

@@ -21,9 +21,9 @@ pub lookup-determined : {client defaults key : List ℕ} {number number′ : ℕ
     LookupAnswer client defaults key number′ slots′ → (number ≡ number′) × (slots ≡ slots′)
 lookup-determined one other = (coincide (one .numbered) (other .numbered), coincide (one .told) (other .told))
 
-pub make-determined : {made : Endpoint} {before : List ℕ} {number number′ : ℕ} {after after′ : List ℕ} →
-    MakeAnswer made before number after → MakeAnswer made before number′ after′ → (number ≡ number′) × (after ≡ after′)
-make-determined one other = (coincide (one .numbered) (other .numbered), coincide (one .kept) (other .kept))
+pub make-determined : (fresh : Endpoint) {before : List ℕ} {number number′ : ℕ} {after after′ : List ℕ} →
+    MakeAnswer fresh before number after → MakeAnswer fresh before number′ after′ → (number ≡ number′) × (after ≡ after′)
+make-determined fresh one other = (coincide (one .numbered) (other .numbered), coincide (one .kept) (other .kept))
 
 pub send-determined : {call : Call} {block out : List ℕ} {number number′ count count′ : ℕ} {block₁ block₂ out₁ out₂ : List ℕ} →
     SendOnBlock call block out number count block₁ out₁ → SendOnBlock call block out number′ count′ block₂ out₂ →

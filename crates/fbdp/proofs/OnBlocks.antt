@@ -3,17 +3,12 @@
 use mathlib.Core.Path.{_∙_, _≡_, ap}
 use Prim.Native.Nat.{ℕ}
 use mathlib.Core.List.{List}
-use mathlib.Core.Bool.{Bool, cond, false, true}
-use lib.Dec.{eqb}
-use lib.ListN.{length}
+use mathlib.Core.Bool.{false}
 use Rattle.bytes_be.proofs.Parts.{put-nothing}
 use Rattle.open.specs.Offer.{Offer}
 use Rattle.endpoint.specs.declared.Endpoint.{Endpoint}
 use Rattle.endpoint.specs.Block.{isGood, loadOf}
-use Rattle.endpoint.specs.declared.Given.{Given}
-use Rattle.endpoint.specs.declared.Given.the-variants.{Good, Bad}
-use Rattle.endpoint.specs.declared.Made.{Made}
-use Rattle.endpoint.specs.Record.{givenNumber, givenOf, good, makingOf, noEndpoint}
+use Rattle.endpoint.specs.Record.{good}
 use Rattle.endpoint.proofs.Round.{loaded-good}
 use Rattle.receiving.specs.declared.Received.{Received}
 use Rattle.receiving.specs.Receiving.{ReceiveAnswer as Heard-by-record, answerNumber, receivedOf, replied}
@@ -22,7 +17,7 @@ use Rattle.sending.specs.declared.Sent.{Sent}
 use Rattle.sending.specs.Calls.{Call, written}
 use Rattle.sending.specs.Sending.{SendAnswer as Sent-by-record, leftBy, numberFor, sendOf, sentBy, unsent}
 use Rattle.fbdp.specs.Slots.{answerSlots, inOrder}
-use Rattle.fbdp.specs.Blocks.{Kept, MakeAnswer, makeNumber, stored, SendOnBlock, ReceiveOnBlock, Finished, BadBlockSends, BadBlockReceives, replyLength, keptAfter, keptBy}
+use Rattle.fbdp.specs.Blocks.{SendOnBlock, ReceiveOnBlock, Finished, BadBlockSends, BadBlockReceives, replyLength, keptAfter, keptBy}
 
 module _ (block : List ℕ) (e : Endpoint) (loaded : e ≡ loadOf block) where
   -- the answer is that of the record that was loaded
@@ -46,24 +41,6 @@ module _ (block : List ℕ) (e : Endpoint) (loaded : e ≡ loadOf block) where
         kept = its-block ∙ ap (λ (r : Received). keptBy r block) on-block;
         left = by-loaded .left;
       }
-
--- a fresh endpoint is stored in a block of 64 bytes where flow and limit are good
-pub make-finished : (fresh : Endpoint) (made : Made) (before : List ℕ) (number : ℕ) (after : List ℕ) → made ≡ makingOf noEndpoint fresh →
-    Kept made before number after → MakeAnswer fresh before number after
-unfolding makeNumber makingOf
-make-finished fresh made before number after by-record kept =
-    let made-so : Kept (makingOf noEndpoint fresh) before number after = rw by-record at kept in
-    record {
-      numbered = made-so .numbered;
-      kept = made-so .kept ∙ go (eqb (length before) 64) (givenOf (fresh .flow) (fresh .limit)) (made-so .numbered);
-    }
-  where
-    go : (sized : Bool) (given : Given) → number ≡ cond sized (givenNumber given) 1 →
-        cond (eqb number 0) (stored (cond (eqb (givenNumber given) 0) fresh noEndpoint) before) before
-        ≡ cond (eqb (cond sized (givenNumber given) 1) 0) (stored fresh before) before
-    go true Good numbered = simp numbered
-    go true Bad numbered = simp numbered
-    go false given numbered = simp numbered
 
 -- a block that is not good is left as it was
 

@@ -10,7 +10,7 @@ use Rattle.bytes_be.specs.Part.{putAt}
 use Rattle.open.specs.Offer.{Offer}
 use Rattle.endpoint.specs.declared.Endpoint.{Endpoint}
 use Rattle.endpoint.specs.declared.Made.{Made}
-use Rattle.endpoint.specs.Record.{givenOf, givenNumber}
+use Rattle.endpoint.specs.Record.{makingOf, noEndpoint}
 use Rattle.endpoint.specs.Block.{bytesOf, isGood, loadOf}
 use Rattle.receiving.specs.declared.Answer.{Answer}
 use Rattle.receiving.specs.declared.Answer.the-variants.{Heard, Stays, Closes}
@@ -27,19 +27,17 @@ use Rattle.fbdp.specs.Slots.{answerSlots, inOrder}
 unfoldable pub stored : Endpoint → List ℕ → List ℕ
 stored e block = putAt block 0 (bytesOf e)
 
--- "Making tests 1 (length only), 34."
-unfoldable pub makeNumber : ℕ → ℕ → List ℕ → ℕ
-makeNumber flow limit block = cond (eqb (length block) 64) (givenNumber (givenOf flow limit)) 1
+-- "Making tests 1 (length only), 34.": what was made is stored in a block of 64 bytes, and else the block is as it was
+unfoldable pub makeNumber : Made → List ℕ → ℕ
+makeNumber made block = cond (eqb (length block) 64) (made .number) 1
 
--- `fbdp_make_client` and `fbdp_make_server`: the block of the fresh endpoint, or the block as it was
-pub record MakeAnswer (made : Endpoint) (before : List ℕ) (number : ℕ) (after : List ℕ) : Type 0 where
-  pub numbered : number ≡ makeNumber (made .flow) (made .limit) before
-  pub kept : after ≡ cond (eqb (makeNumber (made .flow) (made .limit) before) 0) (stored made before) before
-
--- what was made, and the block afterwards: "Making tests 1 (length only), 34."
 pub record Kept (made : Made) (before : List ℕ) (number : ℕ) (after : List ℕ) : Type 0 where
-  pub numbered : number ≡ cond (eqb (length before) 64) (made .number) 1
-  pub kept : after ≡ cond (eqb number 0) (stored (made .next) before) before
+  pub numbered : number ≡ makeNumber made before
+  pub kept : after ≡ cond (eqb (makeNumber made before) 0) (stored (made .next) before) before
+
+-- `fbdp_make_client` and `fbdp_make_server`, of the fresh endpoint that they make
+abbrev pub MakeAnswer : Endpoint → List ℕ → ℕ → List ℕ → Type 0
+MakeAnswer fresh before number after = Kept (makingOf noEndpoint fresh) before number after
 
 -- what comes of a call on a block
 abbrev pub sentOn : List ℕ → Call → ℕ → Sent

@@ -18,7 +18,7 @@ use Rattle.sending.specs.Calls.{Call}
 use Rattle.machine.specs.Good.{Fits}
 use Rattle.fbdp.specs.Slots.{slotsIn}
 use Rattle.entries.specs.Entries.{Entries, SendResult, ReceiveResult, Meets, byTables}
-use Rattle.machine.specs.Programs.{Making}
+use Rattle.machine.specs.Programs.{Making, freshBy}
 use Rattle.fbdp.proofs.Determined.{make-determined, send-determined, receive-determined}
 use Rattle.entries.proofs.Entries.{tables-meet}
 use Rattle.idle.specs.Idle.{OnlyTables, RefusingRejected, HearingNoopRejected, UntouchingRejected, EchoingRejected, WritingBackRejected, MadeUp, by-call}
@@ -29,7 +29,7 @@ use Rattle.idle.proofs.Witnesses.{hearsNoop}
 module _ (p : Entries) (meets : Meets p) where
   makes-as-tables : (making : Making) (block : List ℕ) → p .makes making block ≡ byTables .makes making block
   makes-as-tables making block =
-      let same = make-determined (meets .making making block) (tables-meet .making making block) in
+      let same = make-determined (freshBy making) (meets .making making block) (tables-meet .making making block) in
       λ i. record { number = same .0 i; next = same .1 i }
 
   sends-as-tables : (call : Call) → Fits call → (block out : List ℕ) → p .sends call block out ≡ byTables .sends call block out

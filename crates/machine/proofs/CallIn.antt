@@ -26,4 +26,4 @@ pub calls-read-back : CallsReadBack
 calls-read-back e call fits room accepts =
     let passed = accepted-passed e (outgoing e call) room accepts in
     let back = reads-back e call fits room accepts in
-    ap (callRead (written e call)) (back .read) ∙ call-of-sent e (passed .is-good) call (passed .unrefused) back
+    ap (callRead (written e call)) (back .read) ∙ simp (own-flags call .0) (call-of-sent e (passed .is-good) call (passed .unrefused) back)

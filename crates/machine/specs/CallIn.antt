@@ -2,6 +2,7 @@
 use Prim.Native.Nat.{ℕ, _+_}
 use mathlib.Core.Path.{_≡_}
 use mathlib.Core.List.{List}
+use mathlib.Core.Bool.{cond}
 use lib.Dec.{eqb}
 use Rattle.bytes_be.specs.Part.{partAt}
 use Rattle.control.specs.declared.MessageType.{MessageType}
@@ -16,6 +17,7 @@ use Rattle.message.specs.declared.Reading.{Reading}
 use Rattle.message.specs.declared.Reading.the-variants.{Read, Refused as Reading·Refused}
 use Rattle.message.specs.Reading.{bodyPlace, readingOf}
 use Rattle.endpoint.specs.declared.Endpoint.{Endpoint}
+use Rattle.receiving.specs.Hearing.{confirms}
 use Rattle.sending.specs.Calls.{Call, OPEN, READY, DATA, NOOP, CLOSE, written}
 use Rattle.sending.specs.Sending.{sendOf}
 use Rattle.machine.specs.Good.{Fits}
@@ -38,8 +40,9 @@ callOf Data s m =
     TheCall (DATA (record { type-data = m .«type_data»; ask = eqb (m .flags) ackRequest; body = partAt s (bodyPlace (m .body)) }))
 callOf Close s m = TheCall (CLOSE (m .«type_data»))
 
+-- a confirmation is of no call
 abbrev pub callRead : List ℕ → Reading → CallRead
-callRead s (Read m) = callOf (m .message) s m
+callRead s (Read m) = cond (confirms (m .message) (m .flags)) NoCall (callOf (m .message) s m)
 callRead s (Reading·Refused refusal) = NoCall
 
 abbrev pub callIn : List ℕ → CallRead

@@ -2,11 +2,11 @@
 use Prim.Native.Nat.{ℕ, _+_, _<_, _^_}
 use mathlib.Core.Path.{_≡_}
 use mathlib.Core.List.{List, [], _∷_}
-use mathlib.Core.Bool.{Bool, true, false, cond, _&&_, _||_}
+use mathlib.Core.Bool.{Bool, true, false, cond, _&&_}
 use lib.ListN.{length, getD}
 use lib.Dec.{eqb}
 use Rattle.bytes_be.specs.declared.Place.{Place}
-use Rattle.bytes_be.specs.Part.{partAt, same}
+use Rattle.bytes_be.specs.Part.{partAt}
 use Rattle.control.specs.declared.MessageType.{MessageType}
 use Rattle.control.specs.declared.MessageType.the-variants.{Open, Ready, Noop, Data, Close}
 use Rattle.control.specs.Frame.{ackReply}
@@ -14,8 +14,8 @@ use Rattle.double.specs.Limit.{mostLimit}
 use Rattle.terms.specs.Announced.{announcedLimit}
 use Rattle.open.specs.Offer.{Offer}
 use Rattle.open.specs.declared.Opening.{Opening}
-use Rattle.open.specs.Open.{offeredSocket}
 use Rattle.open_write.specs.Frame.{socketOf, limitStruct}
+use Rattle.open_write.specs.Round.{samePipe, sameFormat}
 use Rattle.message.specs.declared.Body.{Body}
 use Rattle.message.specs.declared.Body.the-variants.{Nothing as Body·Nothing, At}
 use Rattle.message.specs.declared.Message.{Message}
@@ -75,10 +75,7 @@ ReadsBack =
 
 -- whether an OPEN asks for what is offered to it: "pipe name or socket not the offered one", "format not empty and not the offered one"
 abbrev pub isOffered : Endpoint → Call → Endpoint → Offer → Bool
-isOffered e (OPEN asked) r pipe =
-    same (asked .name) (pipe .name)
-    && eqb (socketOf (e .flow)) (offeredSocket (r .flow))
-    && (eqb (length (asked .format)) 0 || same (asked .format) (pipe .format))
+isOffered e (OPEN asked) r pipe = samePipe (e .flow) asked (r .flow) pipe && sameFormat asked pipe
 isOffered e (READY count) r pipe = true
 isOffered e (DATA datum) r pipe = true
 isOffered e (NOOP type-data ask) r pipe = true

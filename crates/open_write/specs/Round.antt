@@ -2,7 +2,7 @@
 use Prim.Native.Nat.{ℕ, _+_}
 use mathlib.Core.Path.{_≡_}
 use mathlib.Core.List.{List, []}
-use mathlib.Core.Bool.{true, cond, not, _&&_, _||_}
+use mathlib.Core.Bool.{Bool, true, cond, not, _&&_, _||_}
 use lib.ListN.{length}
 use lib.Dec.{eqb}
 use Rattle.bytes_be.specs.Part.{holds, part, partAt, same}
@@ -15,6 +15,14 @@ use Rattle.open.specs.declared.Open.the-variants.{Heard}
 use Rattle.open.specs.Offer.{Offer}
 use Rattle.open.specs.Open.{refusedIf, offeredSocket, _then_, openOf, heardBy}
 use Rattle.open_write.specs.Frame.{isGood, socketOf, limitStruct, frameFor, written}
+
+-- what 21 asks: "pipe name or socket not the offered one"
+abbrev pub samePipe : ℕ → Offer → ℕ → Offer → Bool
+samePipe flow asked serverFlow offer = same (asked .name) (offer .name) && eqb (socketOf flow) (offeredSocket serverFlow)
+
+-- and 22: "format not empty and not the offered one"
+abbrev pub sameFormat : Offer → Offer → Bool
+sameFormat asked offer = eqb (length (asked .format)) 0 || same (asked .format) (offer .format)
 
 -- refused only where name, socket or format is not the offered one
 unfoldable pub answerTo : ℕ → Offer → Opening → ℕ → Offer → Open

@@ -17,7 +17,7 @@ use Rattle.endpoint.specs.Record.{asked, atPhase, awaited, capacity, closed, en
 use Rattle.endpoint.proofs.Awaited.{asked-awaited, phase-awaited}
 use Rattle.table.specs.declared.Row.{Row}
 use Rattle.table.specs.declared.Row.the-variants.{NotAllowed, AboveOffer, To}
-use Rattle.table.specs.Table.{aboveOffer, allowed, atRow, moved, notAllowed, rowOf}
+use Rattle.table.specs.Table.{aboveOffer, atRow, moved, notAllowed, rowOf}
 use Rattle.sending.specs.declared.Outgoing.{Outgoing}
 use Rattle.sending.specs.declared.Sent.{Sent}
 use Rattle.sending.specs.Calls.{Call, OPEN, READY, DATA, NOOP, CLOSE, messageOf, typeDataOf, askOf, outgoing}

@@ -9,11 +9,11 @@ use Rattle.bytes_be.proofs.Tests.{clash}
 use Rattle.open.specs.Offer.{Offer}
 use Rattle.endpoint.specs.declared.Endpoint.{Endpoint}
 use Rattle.endpoint.specs.Record.{shut}
-use Rattle.sending.specs.Calls.{Call, OPEN}
+use Rattle.sending.specs.Calls.{Call}
 use Rattle.machine.specs.Good.{Fits}
 use Rattle.machine.specs.Programs.{Program, SendOutcome, ReceiveOutcome}
 use Rattle.machine.specs.Runs.{isKept, Sends, Receives}
-use Rattle.session.specs.World.{End, across, Makings, makingOf, Ending, Side, World, EventFits, side, joined, made, withQueue, acted, afterReceive}
+use Rattle.session.specs.World.{End, across, Makings, makingOf, Ending, Side, World, EventFits, side, joined, withQueue, acted, afterReceive}
 use Rattle.session.specs.World.{step, viewedSide, Client, Server, Going, HeardClose, WroteClose, sends, receives, makes}
 use Rattle.session.specs.Packets.{Packet, queuedIn, bytesIn, rowMessage, Closes}
 use Rattle.session.specs.Turns.{kindOf, Moves, stageOf, Standing, stands, standing, Hears, Converge, At, ClosedByItself, late}

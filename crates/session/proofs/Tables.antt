@@ -20,7 +20,7 @@ use Rattle.open_write.specs.Frame.{socketOf}
 use Rattle.open_write.specs.Round.{answerTo}
 use Rattle.open_write.proofs.Round.{read-back}
 use Rattle.endpoint.specs.declared.Endpoint.{Endpoint}
-use Rattle.endpoint.specs.Record.{server, entryAt, shut, givenNumber, freshOf, makingOf}
+use Rattle.endpoint.specs.Record.{entryAt, shut, givenNumber, freshOf, makingOf}
 use Rattle.endpoint.proofs.Told.{good-told}
 use Rattle.table.specs.Table.{other}
 use Rattle.receiving.specs.Hearing.{carriedBy, forbidden, hearContent, hearMessage, hearOf, openAt}

@@ -1,6 +1,5 @@
 -- A world is two runs: each end comes by its own acts to where it is. Assumes nothing.
 use mathlib.Core.Path.{_≡_, refl, sym, ap, _∙_}
-use Prim.Native.Nat.{ℕ}
 use mathlib.Core.List.{List, [], _∷_, _++_, append-assoc, append-nil}
 use mathlib.Core.Bool.{Bool, true, false, cond}
 use Rattle.open.specs.Offer.{Offer}

@@ -4,13 +4,11 @@
 use Prim.Native.Nat.{ℕ, _+_, _≤_, _<_}
 use mathlib.Core.Path.{_≡_}
 use mathlib.Core.List.{List, [], _∷_, IsPrefix}
-use mathlib.Core.Bool.{Bool, true, false, cond, _&&_, _||_}
+use mathlib.Core.Bool.{Bool, true, false, cond, _||_}
 use lib.ListN.{length}
 use lib.Dec.{eqb}
-use Rattle.bytes_be.specs.Part.{same}
 use Rattle.open.specs.Offer.{Offer, offerOf}
-use Rattle.open.specs.Open.{offeredSocket}
-use Rattle.open_write.specs.Frame.{socketOf}
+use Rattle.open_write.specs.Round.{samePipe, sameFormat}
 use Rattle.endpoint.specs.declared.Endpoint.{Endpoint}
 use Rattle.endpoint.specs.declared.Entry.{Entry}
 use Rattle.endpoint.specs.declared.Given.the-variants.{Good}
@@ -54,9 +52,9 @@ pub record Fresh {A : Type 0} (view : View A) (making : Making) (self : A) : Typ
 pub data MayAnswer (x y : Side Endpoint) (s : List ℕ) (pipe : Offer) : ℕ → Type 0 where
   heard : MayAnswer x y s pipe 0
   other-pipe : (asked : Offer) → s ≡ written (y .self) (OPEN asked)
-      → same (asked .name) (pipe .name) && eqb (socketOf (y .self .flow)) (offeredSocket (x .self .flow)) ≡ false → MayAnswer x y s pipe 21
+      → samePipe (y .self .flow) asked (x .self .flow) pipe ≡ false → MayAnswer x y s pipe 21
   other-format : (asked : Offer) → s ≡ written (y .self) (OPEN asked)
-      → eqb (length (asked .format)) 0 || same (asked .format) (pipe .format) ≡ false → MayAnswer x y s pipe 22
+      → sameFormat asked pipe ≡ false → MayAnswer x y s pipe 22
   after-own-close : x .past .ending ≡ WroteClose → MayAnswer x y s pipe 3
 
 -- "5 closed": an end has closed where its phase is 5, and nowhere else

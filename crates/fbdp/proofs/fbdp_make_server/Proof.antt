@@ -1,7 +1,5 @@
 -- `fbdp::fbdp_make_server` meets its contract: what was made is kept in the block. Assumes nothing.
 use borrow.Author.Needs.{needs}
-use Rattle.endpoint.specs.Record.{freshServer}
-use Rattle.fbdp.proofs.OnBlocks.{make-finished}
 use Rattle.fbdp.proofs.fbdp_make_server.Statement.{statement}
 use Rattle.fbdp.proofs.fbdp_make_server.Tie as tie
 
@@ -15,10 +13,7 @@ same-length : tie.Need-same-length
 same-length c = search needs
 
 returns : tie.Need-returns
-returns c =
-    let making = c .before .before .before .before in
-    let a = making .before .before .args in
-    make-finished (freshServer (a .flow)) _ (a .block .now) _ _ (making .make-server .ensures) (c .before .before .keep .ensures)
+returns c = rw (c .before .before .before .before .make-server .ensures) at (c .before .before .keep .ensures)
 
 pub fbdp-make-server-spec : {M : Type 1} → statement M
 fbdp-make-server-spec = tie.close (tie.spec make-server-requires keep-requires same-length returns)
