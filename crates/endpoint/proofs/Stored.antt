@@ -5,7 +5,7 @@ use mathlib.Core.List.{List, [], _∷_, _++_}
 use mathlib.Core.Bool.{Bool, cond, false, true}
 use native.Mathlib.Omega.{arith}
 use lib.Dec.{leb}
-use lib.ListN.{length, length-append}
+use lib.ListN.{getD, length, length-append}
 use borrow.Author.Tests.{leb-false, leb-true}
 use Rattle.bytes_be.specs.Number.{toBytes}
 use Rattle.bytes_be.specs.Part.{putAt}
@@ -21,13 +21,7 @@ pub length-block : (e : Endpoint) → length (e .entries) ≡ 48 → length (byt
 unfolding bytesOf
 length-block e full = length-append (headBytes e) (e .entries) ∙ omega (arith, length-head e)
 
--- a block after each store behind the first four bytes
-
-abbrev pub with-n : Endpoint → List ℕ → List ℕ
-with-n e block = putAt block 4 (toBytes 2 (e .n))
-
-abbrev pub with-zeros : List ℕ → List ℕ
-with-zeros block = putAt block 6 (0 ∷ 0 ∷ [])
+-- a block after each store behind the first eight bytes
 
 abbrev pub with-limit : Endpoint → List ℕ → List ℕ
 with-limit e block = putAt block 8 (toBytes 4 (e .limit))
@@ -35,19 +29,17 @@ with-limit e block = putAt block 8 (toBytes 4 (e .limit))
 abbrev pub with-last : List ℕ → List ℕ
 with-last block = putAt block 12 (toBytes 4 0)
 
--- the first 16 bytes, field by field
-pub stored-head : (block : List ℕ) (e : Endpoint) → 64 ≤ length block →
-    with-last (with-limit e (with-zeros (with-n e (putAt block 0 (e .role ∷ e .flow ∷ e .phase ∷ e .w ∷ []))))) ≡ putAt block 0 (headBytes e)
+-- the first 16 bytes, where n was told in two
+pub stored-head : (block : List ℕ) (e : Endpoint) (told : List ℕ) → 64 ≤ length block → told ≡ toBytes 2 (e .n) →
+    with-last (with-limit e (putAt block 0 (e .role ∷ e .flow ∷ e .phase ∷ e .w ∷ getD told 0 0 ∷ getD told 1 0 ∷ 0 ∷ 0 ∷ [])))
+    ≡ putAt block 0 (headBytes e)
 unfolding headBytes toBytes
-stored-head block e room =
-    let first : List ℕ = e .role ∷ e .flow ∷ e .phase ∷ e .w ∷ [] in
-    let two : List ℕ = first ++ toBytes 2 (e .n) in
-    let three : List ℕ = two ++ (0 ∷ 0 ∷ []) in
-    let four : List ℕ = three ++ toBytes 4 (e .limit) in
-    ap (λ (l : List ℕ). with-last (with-limit e (with-zeros l))) (put-then block 0 first (toBytes 2 (e .n)) 4 refl (omega arith))
-    ∙ ap (λ (l : List ℕ). with-last (with-limit e l)) (put-then block 0 two (0 ∷ 0 ∷ []) 6 refl (omega arith))
-    ∙ ap with-last (put-then block 0 three (toBytes 4 (e .limit)) 8 refl (omega arith))
-    ∙ put-then block 0 four (toBytes 4 0) 12 refl (omega arith)
+stored-head block e told room same =
+    let first : List ℕ → List ℕ = λ n. e .role ∷ e .flow ∷ e .phase ∷ e .w ∷ getD n 0 0 ∷ getD n 1 0 ∷ 0 ∷ 0 ∷ [] in
+    let front : List ℕ = first (toBytes 2 (e .n)) in
+    ap (λ (n : List ℕ). with-last (with-limit e (putAt block 0 (first n)))) same
+    ∙ ap with-last (put-then block 0 front (toBytes 4 (e .limit)) 8 refl (omega arith))
+    ∙ put-then block 0 (front ++ toBytes 4 (e .limit)) (toBytes 4 0) 12 refl (omega arith)
 
 -- and the entries behind them: the whole block, or nothing of it
 pub stored-whole : (block : List ℕ) (e : Endpoint) → length (e .entries) ≡ 48 →

@@ -93,17 +93,6 @@ fn entry_from(message: u8, high: u8, low: u8) -> Entry
     }
 }
 
-// Entry i, of three zeros where i is 16 or more.
-fn entry_at(entries: [u8; 48], i: usize) -> Entry
-    ensures { λ r. ⌜ r ≡ entryAt entries i ⌝ }
-{
-    if i < 16 {
-        let at = 3 * i;
-        return entry_from(entries[at], entries[at + 1], entries[at + 2]);
-    }
-    entry_from(0, 0, 0)
-}
-
 // Whether entry i is among the first W and may be awaited, or behind them and zero.
 fn entry_fits(flow: u8, w: u8, entry: Entry, i: usize) -> bool
     ensures { λ r. ⌜ r ≡ fits flow w entry i ⌝ }
@@ -123,7 +112,9 @@ fn each_fits(e: Endpoint) -> bool
     let mut fit = true;
     let mut i = 0;
     while i < 16 {
-        fit = fit & entry_fits(flow, w, entry_at(entries, i), i);
+        let at = 3 * i;
+        let entry = entry_from(entries[at], entries[at + 1], entries[at + 2]);
+        fit = fit & entry_fits(flow, w, entry, i);
         i += 1;
     }
     fit
@@ -316,7 +307,11 @@ pub fn entry_of(e: Endpoint, i: usize) -> Entry
     ensures { λ r. ⌜ r ≡ entryOf e i ⌝ }
 {
     let entries = e.entries;
-    entry_at(entries, i)
+    if i < 16 {
+        let first = 3 * i;
+        return entry_from(entries[first], entries[first + 1], entries[first + 2]);
+    }
+    entry_from(0, 0, 0)
 }
 
 // The oldest confirmation awaited; of a good record that awaits none, zero.
@@ -417,11 +412,10 @@ fn record_in(block: &[u8]) -> Endpoint
 }
 
 fn spare_is_zero(block: &[u8]) -> bool
+    requires { ⌜ length (now block) ≡ 64 ⌝ }
     ensures { λ r. ⌜ r ≡ spareIsZero (now (block .entry)) ⌝ }
 {
-    (bytes_be::read8(block, 6) == 0)
-        & (bytes_be::read8(block, 7) == 0)
-        & (bytes_be::read32(block, 12) == 0)
+    (block[6] == 0) & (block[7] == 0) & (bytes_be::read32(block, 12) == 0)
 }
 
 // The record that a block holds, which is good where the block is.
@@ -445,9 +439,8 @@ fn store_head(e: Endpoint, block: &mut [u8])
 {
     let room = 64 <= block.len();
     if room {
-        bytes_be::copy_at(block, 0, &[e.role, e.flow, e.phase, e.w]);
-        bytes_be::store16(block, 4, e.n);
-        bytes_be::copy_at(block, 6, &[0, 0]);
+        let n = bytes_be::bytes16(e.n);
+        bytes_be::copy_at(block, 0, &[e.role, e.flow, e.phase, e.w, n[0], n[1], 0, 0]);
         bytes_be::store32(block, 8, e.limit);
         bytes_be::store32(block, 12, 0);
     }

@@ -1,13 +1,15 @@
 -- `endpoint::each_fits` meets its contract: the loop keeps the test of every entry below i.
 -- Assumes nothing.
-use mathlib.Core.Path.{_∙_, _≡_, ap, ap₂, refl}
+use mathlib.Core.Path.{_∙_, _≡_, ap, ap₂, refl, sym}
 use Prim.Native.Nat.{_-_, _≤_, ℕ}
 use mathlib.Core.Bool.{_&&_}
 use native.Mathlib.Numerals.{add-one}
 use native.Mathlib.Omega.{arith}
+use lib.ListN.{length}
 use borrow.Author.Needs.{needs}
 use Rattle.endpoint.specs.declared.Entry.{Entry}
 use Rattle.endpoint.specs.Record.{entriesFit, entryAt, entryFits, every, fits}
+use Rattle.endpoint.proofs.Entries.{entry-read}
 use Rattle.endpoint.proofs.each_fits.Statement.{statement}
 use Rattle.endpoint.proofs.each_fits.Tie as tie
 
@@ -20,8 +22,26 @@ abbrev μ-loop : tie.MeasureT-loop
 loop-holds : tie.Need-loop-holds Inv-loop μ-loop
 loop-holds c = (search needs, refl)
 
-entry-at-requires : tie.Need-entry-at-requires Inv-loop μ-loop
-entry-at-requires c κs = search needs
+mul-at : tie.Need-mul-at Inv-loop μ-loop
+mul-at c = search needs
+
+array-read-entry-from : tie.Need-array-read-entry-from Inv-loop μ-loop
+array-read-entry-from c = search needs
+
+add-entry-from : tie.Need-add-entry-from Inv-loop μ-loop
+add-entry-from c = search needs
+
+array-read-entry-from-2 : tie.Need-array-read-entry-from-2 Inv-loop μ-loop
+array-read-entry-from-2 c = search needs
+
+add-entry-from-2 : tie.Need-add-entry-from-2 Inv-loop μ-loop
+add-entry-from-2 c = search needs
+
+array-read-entry-from-3 : tie.Need-array-read-entry-from-3 Inv-loop μ-loop
+array-read-entry-from-3 c = search needs
+
+entry-from-requires : tie.Need-entry-from-requires Inv-loop μ-loop
+entry-from-requires c κs = search needs
 
 entry-fits-requires : tie.Need-entry-fits-requires Inv-loop μ-loop
 entry-fits-requires c κs = search needs
@@ -36,7 +56,9 @@ loop-again : tie.Need-loop-again Inv-loop μ-loop
 loop-again c =
     let loop = c .before .before .before .loop in
     let e = c .before .before .before .before .before .args .e in
-    let this = c .entry-fits .ensures ∙ ap (λ (entry : Entry). fits (e .flow) (e .w) entry (loop .i)) (c .before .entry-at .ensures) in
+    let full : length (e .entries) ≡ 48 = search needs in
+    let read = c .before .entry-from .ensures ∙ sym (entry-read (e .entries) full (loop .i)) in
+    let this = c .entry-fits .ensures ∙ ap (λ (entry : Entry). fits (e .flow) (e .w) entry (loop .i)) read in
     (search needs, rw add-one (ap₂ _&&_ (loop .inv .1) this))
 
 returns : tie.Need-returns Inv-loop μ-loop
@@ -53,7 +75,13 @@ each-fits-spec =
     Inv-loop
     μ-loop
     loop-holds
-    entry-at-requires
+    mul-at
+    array-read-entry-from
+    add-entry-from
+    array-read-entry-from-2
+    add-entry-from-2
+    array-read-entry-from-3
+    entry-from-requires
     entry-fits-requires
     add-i
     loop-less

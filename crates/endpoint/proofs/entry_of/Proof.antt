@@ -1,14 +1,14 @@
--- `endpoint::entry_at` meets its contract: the entry is read from its three bytes, and behind the sixteenth it is zero.
+-- `endpoint::entry_of` meets its contract: the entry is read from its three bytes, and behind the sixteenth it is zero.
 -- Assumes nothing.
 use mathlib.Core.Path.{_∙_, _≡_, sym}
 use lib.ListN.{length}
 use borrow.Author.Needs.{needs}
 use Rattle.endpoint.proofs.Entries.{entry-past, entry-read}
-use Rattle.endpoint.proofs.entry_at.Statement.{statement}
-use Rattle.endpoint.proofs.entry_at.Tie as tie
+use Rattle.endpoint.proofs.entry_of.Statement.{statement}
+use Rattle.endpoint.proofs.entry_of.Tie as tie
 
-mul-at : tie.Need-mul-at
-mul-at c = search needs
+mul-first : tie.Need-mul-first
+mul-first c = search needs
 
 array-read-entry-from : tie.Need-array-read-entry-from
 array-read-entry-from c = search needs
@@ -30,24 +30,24 @@ entry-from-requires c κs = search needs
 
 returns : tie.Need-returns
 returns c =
-    let a = c .before .before .args in
-    let full : length (a .t1) ≡ 48 = search needs in
-    c .entry-from .ensures ∙ sym (entry-read (a .t1) full (a .i))
+    let a = c .before .before .before .args in
+    let full : length (a .e .entries) ≡ 48 = search needs in
+    c .entry-from .ensures ∙ sym (entry-read (a .e .entries) full (a .i))
 
 entry-from-requires-2 : tie.Need-entry-from-requires-2
 entry-from-requires-2 c κs = search needs
 
 returns-2 : tie.Need-returns-2
 returns-2 c =
-    let a = c .before .before .args in
-    let full : length (a .t1) ≡ 48 = search needs in
-    c .entry-from2 .ensures ∙ sym (entry-past (a .t1) full (a .i) (c .before .if1 .left))
+    let a = c .before .before .before .args in
+    let full : length (a .e .entries) ≡ 48 = search needs in
+    c .entry-from2 .ensures ∙ sym (entry-past (a .e .entries) full (a .i) (c .before .if1 .left))
 
-pub entry-at-spec : {M : Type 1} → statement M
-entry-at-spec =
+pub entry-of-spec : {M : Type 1} → statement M
+entry-of-spec =
     tie.close
     (tie.spec
-    mul-at
+    mul-first
     array-read-entry-from
     add-entry-from
     array-read-entry-from-2
