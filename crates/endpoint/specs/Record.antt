@@ -180,7 +180,7 @@ without e i =
     (record { role = e .role; flow = e .flow; phase = e .phase; w = e .w - 1; n = e .n; limit = e .limit; entries = withoutEntry (e .entries) i })
     e
 
--- "ACK-REPLY must equal the oldest entry in type and type-data; it removes it."
+-- "it removes it", the oldest
 unfoldable pub confirmed : Endpoint → Endpoint
 confirmed e = without e 0
 

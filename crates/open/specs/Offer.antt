@@ -1,4 +1,4 @@
--- What a server offers, and what an OPEN asks for: "the pipe name (1..255 bytes of UTF-8) and a format (0..255 bytes of UTF-8)".
+-- A pipe name and a format, of any bytes: what an OPEN asks for, which 34 tests, and what a server offers, which is "only compared, never tested".
 use Prim.Native.Nat.{ℕ}
 use mathlib.Core.List.{List, []}
 

@@ -156,7 +156,7 @@ abbrev pub ifRead : Reading → (ℕ → ℕ → Received) → (Message → Rece
 ifRead (Read m) refuse next = next m
 ifRead (Reading·Refused refusal) refuse next = refuse (readingNumber (Reading·Refused refusal)) (saidIn (Reading·Refused refusal))
 
--- 18 to 22, 23, 24, and else the message is heard
+-- 18 to 22; 23, which is the number of the row; 24; and else the message is heard
 unfoldable pub hearContent : Endpoint → List ℕ → Offer → Message → Received
 hearContent e s pipe m =
     ifCarried (carriedBy e s pipe m) (λ number. refused e number (typeOf (m .message))) (λ content.
@@ -164,7 +164,7 @@ hearContent e s pipe m =
     (cond (unmatched e m) (refused e 24 (typeOf (m .message)))
     (accepted e m (hearRow e m) content)))
 
--- 16, 17
+-- 16, and 17, which is the number of the row
 unfoldable pub hearMessage : Endpoint → List ℕ → Offer → Message → Received
 hearMessage e s pipe m =
     cond (tooLarge e m) (refused e 16 (typeOf (m .message)))

@@ -14,7 +14,7 @@ use Rattle.table.specs.declared.Row.the-variants.{To}
 use Rattle.table.specs.Table.{allowed, upTo, begun}
 use Rattle.receiving.specs.Hearing.{confirms, hearRow}
 
--- "OPEN: server in phase 0; becomes 1"
+-- "OPEN: server in phase 0; becomes 1"; its limit by `limitedBy`
 unfoldable pub openHeard : Endpoint → Row
 openHeard e = allowed (eqb (e .role) server && eqb (e .phase) fresh) (To opening 0)
 
@@ -34,7 +34,7 @@ dataHeard e = allowed (eqb (e .flow) consumer && eqb (e .phase) batch) (begun ba
 unfoldable pub noopHeard : Endpoint → Row
 noopHeard e = allowed (leb idle (e .phase) && leb (e .phase) batch) (To (e .phase) (e .n))
 
--- "A CLOSE .. is heard in phases 1 to 4 .. Phase becomes 5; n, W and entries zero."
+-- "A CLOSE .. is heard in phases 1 to 4 .. Phase becomes 5; n, W and entries zero.": W and the entries by `atRow` of the table
 unfoldable pub closeHeard : Endpoint → Row
 closeHeard e = allowed (leb opening (e .phase) && leb (e .phase) batch) (To shut 0)
 

@@ -56,8 +56,8 @@ miscoded e code = not (goodCode e code)
 unfoldable pub numberIf : Bool → ℕ → ℕ
 numberIf applies number = cond applies number 0
 
--- what a call sends: its type, type-data and ask, and from which endpoint which data frames; and its own test there: which of 33, 34 and 35
--- refuses it, or 0. Each of these three numbers is of one call alone.
+-- what a call sends: its type, type-data and ask, the data frames that it has where this endpoint sends it, and which of 33, 34 and 35
+-- refuses it there, or 0. Each of these three numbers is of one call alone.
 pub record Sends : Type 0 where
   pub message : MessageType
   pub type-data : ℕ
@@ -68,7 +68,8 @@ pub record Sends : Type 0 where
 abbrev pub sends : MessageType → ℕ → Bool → (Endpoint → List (List ℕ)) → (Endpoint → ℕ) → Sends
 sends message type-data ask frames own = record { message = message; type-data = type-data; ask = ask; frames = frames; own = own }
 
--- a row for each call: type, type-data, ask, data frames, own test. "OPEN has type-data 0."; "CLOSE has no data frame."
+-- type, type-data, ask, data frames, own test: a row for each call; who may make it and when, and what follows, has its row in `table/specs/Table`.
+-- "OPEN has type-data 0."; "CLOSE has no data frame."
 abbrev pub sendsOf : Call → Sends
 sendsOf (OPEN pipe) = sends Open 0 false (λ e. frameFor (e .flow) pipe (e .limit) ∷ []) (λ e. numberIf (misgiven pipe) 34)
 sendsOf (READY count) = sends Ready count false (λ e. []) (λ e. 0)

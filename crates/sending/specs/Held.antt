@@ -1,4 +1,4 @@
--- What the parts of a send are held to: a message without data frames, and the size of the frame of an OPEN.
+-- What `send_plain` and `frame_size` promise: a message without data frames, and the size of the frame of an OPEN.
 use Prim.Native.Nat.{ℕ}
 use mathlib.Core.List.{[]}
 use mathlib.Core.Bool.{Bool}

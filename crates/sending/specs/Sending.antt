@@ -25,7 +25,8 @@ sendRow e o = rowOf (e .role) (e .flow) (e .phase) (e .n) (o .message) (o .«typ
 unfoldable pub isFull : Endpoint → Outgoing → Bool
 isFull e o = o .ask && leb capacity (e .w)
 
--- "1, 3, 30, 31, 32, 33, 34, 35, 2": the first that applies, or 0; a call has at most one of 33, 34 and 35, its own
+-- "1, 3, 30, 31, 32, 33, 34, 35, 2": the first that applies, or 0. 30 and 31 are the numbers of the row, and of 33, 34 and 35 a call has
+-- at most one, its own
 unfoldable pub numberFor : Endpoint → Outgoing → Row → ℕ → ℕ
 numberFor e o row room =
     cond (not (good e)) 1

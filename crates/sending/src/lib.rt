@@ -113,7 +113,8 @@ fn sent_if(number: u8, e: Endpoint, o: Outgoing, row: Row) -> Sent
     }
 }
 
-// What comes of an own message where the output has so much room, before anything is written.
+// What comes of an own message where the output has so much room, before anything is written. A good record stays good by what is tested of a
+// call; of any other message that is not said.
 pub fn decide(e: Endpoint, o: Outgoing, room: usize) -> Sent
     ensures { λ r. ⌜ r ≡ sentBy e o room ⌝ }
 {

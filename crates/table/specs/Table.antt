@@ -42,7 +42,7 @@ dataRow flow phase n = allowed (eqb flow producer && eqb phase batch) (begun bat
 unfoldable pub noopRow : ℕ → ℕ → Row
 noopRow phase n = allowed (leb idle phase && leb phase batch) (To phase n)
 
--- | CLOSE(code) | phase 1 to 4 | 5, n and W and entries zero |
+-- | CLOSE(code) | phase 1 to 4 | 5, n and W and entries zero |: W and the entries by `atRow`
 unfoldable pub closeRow : ℕ → Row
 closeRow phase = allowed (leb opening phase && leb phase batch) (To shut 0)
 
