@@ -104,14 +104,14 @@ fn bad_frames(message: MessageType, flags: u8, frames: usize) -> bool
 }
 
 // The body of a message whose data frame stands at this place, if it carries one.
-fn body_of(message: MessageType, flags: u8, at: usize, length: usize) -> Body
-    ensures { λ r. ⌜ r ≡ cond (Reading·carries message flags) (Body·At (record { at = at; length = length })) Nothing ⌝ }
+fn body_of(message: MessageType, flags: u8, at: usize, size: usize) -> Body
+    ensures { λ r. ⌜ r ≡ cond (Reading·carries message flags) (Body·At (record { at = at; length = size })) Nothing ⌝ }
 {
     let some = carries(message, flags);
     if some {
         return Body::At(Place {
             at: at,
-            length: length,
+            length: size,
         });
     }
     Body::Nothing
