@@ -46,6 +46,6 @@ holdsEndpoint block = eqb (length block) 64 && spareIsZero block
 unfoldable pub isGood : List ℕ → Bool
 isGood block = holdsEndpoint block && good (recordIn block)
 
--- the record that a call on a block works with: on any other block it is none
+-- the record that a call on a block works with, or none where the block holds no endpoint
 unfoldable pub loadOf : List ℕ → Endpoint
 loadOf block = cond (holdsEndpoint block) (recordIn block) noEndpoint

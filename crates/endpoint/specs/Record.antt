@@ -173,7 +173,7 @@ oldest e = entryOf e 0
 abbrev pub withoutEntry : List ℕ → ℕ → List ℕ
 withoutEntry entries i = take (3 * i) entries ++ drop (3 * i + 3) entries ++ (0 ∷ 0 ∷ 0 ∷ [])
 
--- "it removes it": the same endpoint without entry i, where it is one of the sixteen
+-- "it removes it": the same endpoint without entry i, and W one less, where i is below 16; else the endpoint as it is
 abbrev pub without : Endpoint → ℕ → Endpoint
 without e i =
     cond (ltb i capacity)

@@ -338,7 +338,7 @@ fn without_entry(entries: [u8; 48], i: usize) -> [u8; 48]
     rest
 }
 
-// The endpoint without entry i, where it is one of the sixteen.
+// The endpoint without entry i, and with W one less, where i is below 16.
 pub fn without(e: Endpoint, i: usize) -> Endpoint
     ensures { λ r. ⌜ r ≡ Record·without e i ⌝ }
 {
