@@ -28,7 +28,7 @@ use Rattle.sending.specs.declared.Sent.{Sent}
 use Rattle.sending.specs.Calls.{Call, outgoing, written}
 use Rattle.sending.specs.Sending.{leftBy, sendOf}
 use Rattle.sending.proofs.Decided.{accepted-passed, accepted-sent}
-use Rattle.machine.specs.Good.{Sound}
+use Rattle.machine.specs.Good.{Sound, Fits}
 use Rattle.machine.specs.Refusals.{DoesAs, saidBy}
 use Rattle.machine.proofs.Refusals.{receive-does}
 use Rattle.machine.proofs.Stages.{uncoded}
@@ -185,15 +185,21 @@ module _ (entries : Entries) (meets : Meets entries) where
       let back = made-back block (freshBy making) _ _ (meets .making making block) accepts in
       (back .0, rw (back .0) (back .1))
 
+  entries-write : (block : List ℕ) (call : Call) (out : List ℕ) → Sound (loadOf block) → Fits call
+      → tables .send (loadOf block) call (length out) .number ≡ 0 → Sound (tables .send (loadOf block) call (length out) .next)
+      → (onBlocks entries .send block call out .bytes ≡ tables .send (loadOf block) call (length out) .bytes)
+      × (loadOf (onBlocks entries .send block call out .next) ≡ tables .send (loadOf block) call (length out) .next)
+  entries-write block call out sound fits accepts next-sound =
+      let answer = meets .calls call fits block out in
+      (bytes-out block call out _ _ _ _ answer accepts, sent-back block call out _ _ _ _ answer accepts sound next-sound)
+
   entries-follow : Follows (onBlocks entries) tables loadOf length onRecords
   entries-follow =
       record {
         room = λ out. refl;
         makes = entries-make;
         numbered = λ block call out fits. meets .calls call fits block out .finished .numbered;
-        writes = λ block call out sound fits accepts next-sound.
-            let answer = meets .calls call fits block out in
-            (bytes-out block call out _ _ _ _ answer accepts, sent-back block call out _ _ _ _ answer accepts sound next-sound);
+        writes = entries-write;
         stays = λ block call out sound fits refusal. refused-kept block call out _ _ _ _ (meets .calls call fits block out) refusal;
         receives = λ block m pipe out sound room next-sound.
             received-alike (m .bytes) pipe block out _ _ _ _ (meets .messages (m .bytes) pipe block out) room sound next-sound;
