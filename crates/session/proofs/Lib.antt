@@ -4,8 +4,8 @@
 -- That the tables have the laws: `Packets` has what a send puts on its way, `Taking` what an end makes of it, `Tables` all of them.
 -- The invariant, of every program that has the laws: `Ends` has one end's part of it, `Link` a send between two ends, `Hearing` a receive, `Step`
 -- every call.
--- Demand 3: `Demand` has the theorem. `Follows` has that a program which does what another does has its laws;
--- `Example` has three sessions.
+-- Demand 3: `Speaking` has what may be sent at rest, `Holding` what the invariant gives, `Demand` the theorem. `Follows` has that a program which does
+-- what another does has its laws; `Example` has three sessions.
 pub mod World
 pub mod Table
 pub mod Turns
@@ -18,6 +18,8 @@ pub mod Tables
 pub mod Link
 pub mod Hearing
 pub mod Step
+pub mod Speaking
+pub mod Holding
 pub mod Demand
 pub mod Follows
 pub mod Example
