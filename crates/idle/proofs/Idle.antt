@@ -20,7 +20,7 @@ use Rattle.fbdp.proofs.Determined.{make-determined, send-determined, receive-de
 use Rattle.entries.proofs.Entries.{tables-meet}
 use Rattle.idle.specs.Idle.{OnlyTables, RefusingRejected, HearingNoopRejected, UntouchingRejected}
 use Rattle.idle.specs.Idle.{VicesExist}
-use Rattle.idle.proofs.Witnesses.{tables-give, madeClient, message, opens, hearsOpen}
+use Rattle.idle.proofs.Witnesses.{tables-give, madeClient, opens, hearsOpen}
 
 module _ (p : Entries) (meets : Meets p) where
   makes-as-tables : (making : Making) (block : List ℕ) → p .makes making block ≡ byTables .makes making block

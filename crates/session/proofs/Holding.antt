@@ -20,7 +20,6 @@ use Rattle.session.specs.Invariant.{Model, Delivers, source, Linked, Joi
 use Rattle.session.specs.Packets.{Packet, queuedIn, dataIn, readyIn}
 use Rattle.session.specs.Confirmations.{askedIn, confirmedIn}
 use Rattle.session.proofs.Turns.{rests-converge, shut-across, shut-converge, close-converge}
-use Rattle.session.proofs.Table.{nothing}
 use Rattle.session.proofs.Step.{seen-from}
 use Rattle.session.specs.Demand.{Holds}
 
