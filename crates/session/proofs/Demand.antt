@@ -7,13 +7,12 @@ use mathlib.Core.Bool.{Bool, true, false, cond, _||_}
 use native.Mathlib.Omega.{arith}
 use lib.Dec.{eqb}
 use borrow.Author.Tests.{eqb-true, eqb-false}
-use Rattle.utf8.specs.Text.{rest}
+use Rattle.bytes_be.proofs.Tests.{clash}
 use Rattle.open.specs.Offer.{Offer}
 use Rattle.endpoint.specs.declared.Endpoint.{Endpoint}
 use Rattle.endpoint.specs.Record.{fresh, offer, batch}
 use Rattle.sending.specs.Calls.{Call, OPEN, READY, DATA}
 use Rattle.machine.specs.Programs.{Program, Queued, tables}
-use Rattle.bytes_be.proofs.Tests.{clash}
 use Rattle.session.specs.World.{End, across, Client, Server, Side, World, Event, AllFit, side, joined, withQueue, afterReceive, step}
 use Rattle.session.specs.World.{run, begun, viewedSide, receives}
 use Rattle.session.specs.Demand.{pipeA, emptyDatum, MaySend, producing, MayAnswer, nextEnd, nextCall, AtRest, Demand, turn}

@@ -5,23 +5,21 @@ use Prim.Native.Nat.{ℕ, _≤_, _+_, _<_}
 use mathlib.Core.List.{[], _∷_, List, _++_, append-nil, map, flatMap}
 use native.Mathlib.Omega.{arith}
 use lib.ListN.{length, length-append}
-use Rattle.utf8.specs.Text.{rest}
+use Rattle.bytes_be.proofs.Tests.{clash}
 use Rattle.open.specs.Offer.{Offer}
 use Rattle.endpoint.specs.declared.Endpoint.{Endpoint}
+use Rattle.endpoint.specs.declared.Entry.{Entry}
 use Rattle.endpoint.specs.Record.{batch}
 use Rattle.machine.specs.Programs.{Program, Queued}
-use Rattle.bytes_be.proofs.Tests.{clash}
-use Rattle.endpoint.specs.declared.Entry.{Entry}
 use Rattle.session.specs.World.{End, across, Client, Server, Ending, Side, World, side, step}
 use Rattle.session.specs.World.{viewedSide, Going, HeardClose, WroteClose, receives}
 use Rattle.session.specs.Turns.{Stage, stageOf, Standing, IsOpen, Listens, stands, standing, Converge, ClosedByOther, ClosedByItself}
-use Rattle.session.specs.Demand.{MaySend, MayAnswer, PhaseFits, agreed, sum, nextEnd, nextCall, AtRest}
+use Rattle.session.specs.Demand.{MaySend, MayAnswer, PhaseFits, agreed, sum, nextEnd, nextCall, AtRest, Holds}
 use Rattle.session.specs.Invariant.{Model, Delivers, source, Linked, Joint, Invariant}
 use Rattle.session.specs.Packets.{Packet, queuedIn, dataIn, readyIn}
 use Rattle.session.specs.Confirmations.{askedIn, confirmedIn}
 use Rattle.session.proofs.Turns.{rests-converge, shut-across, shut-converge, close-converge}
 use Rattle.session.proofs.Step.{seen-from}
-use Rattle.session.specs.Demand.{Holds}
 
 -- where nothing is queued, nothing is on its way
 none-queued : (q : List Packet) → map queuedIn q ≡ [] → q ≡ []

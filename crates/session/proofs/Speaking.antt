@@ -11,8 +11,8 @@ use Rattle.endpoint.specs.declared.Endpoint.{Endpoint}
 use Rattle.endpoint.specs.Record.{producer, fresh, opening, idle, offer, batch, shut}
 use Rattle.sending.specs.Calls.{Call, OPEN, READY, DATA, messageOf, typeDataOf, askOf, aboveLimit, misgiven, numberIf, ownNumber}
 use Rattle.machine.specs.Good.{Fits, Sound}
-use Rattle.machine.proofs.Rows.{n-small}
 use Rattle.machine.specs.Programs.{Program}
+use Rattle.machine.proofs.Rows.{n-small}
 use Rattle.session.specs.World.{End, across, Client, Server}
 use Rattle.session.specs.Turns.{roleOf}
 use Rattle.session.specs.Demand.{pipeA, emptyDatum, MaySend, movesOn, producing}
