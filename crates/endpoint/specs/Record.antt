@@ -137,8 +137,8 @@ abbrev pub noEndpoint : Endpoint
 noEndpoint = freshOf 0 0 0
 
 -- "Making tests .. 34."; "All others change no byte.": the record that is made, or what was there before
-unfoldable pub makingOf : Endpoint → Endpoint → Made
-makingOf before made =
+unfoldable pub madeOf : Endpoint → Endpoint → Made
+madeOf before made =
     record {
       number = givenNumber (givenOf (made .flow) (made .limit));
       next = cond (eqb (givenNumber (givenOf (made .flow) (made .limit))) 0) made before;

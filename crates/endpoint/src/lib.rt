@@ -6,7 +6,7 @@ ghost use lib.ListN.{length};
 ghost use lib.Dec.{leb};
 ghost use Rattle.bytes_be.specs.Part.{part, putAt};
 ghost use Rattle.double.specs.Limit.{inLimits};
-ghost use Rattle.endpoint.specs.Record.{entryBytes, entryAt, noEntries, inRanges, countFits, waitFits, isNone, awaitable, fits, every, entriesFit, good as Record·good, givenOf, givenNumber, freshOf, freshClient, freshServer, noEndpoint, makingOf, closed as Record·closed, atPhase, asked as Record·asked, entryOf, withoutEntry, without as Record·without, confirmed as Record·confirmed, limited as Record·limited, oldest as Record·oldest};
+ghost use Rattle.endpoint.specs.Record.{entryBytes, entryAt, noEntries, inRanges, countFits, waitFits, isNone, awaitable, fits, every, entriesFit, good as Record·good, givenOf, givenNumber, freshOf, freshClient, freshServer, noEndpoint, madeOf, closed as Record·closed, atPhase, asked as Record·asked, entryOf, withoutEntry, without as Record·without, confirmed as Record·confirmed, limited as Record·limited, oldest as Record·oldest};
 ghost use Rattle.endpoint.specs.Block.{headBytes, bytesOf, recordIn, spareIsZero, loadOf};
 
 // A confirmation that is awaited.
@@ -207,7 +207,7 @@ fn no_endpoint() -> Endpoint
 
 // Makes an endpoint of this role.
 fn make(role: u8, flow: u8, limit: u32) -> Made
-    ensures { λ r. ⌜ r ≡ makingOf noEndpoint (freshOf role flow limit) ⌝ }
+    ensures { λ r. ⌜ r ≡ madeOf noEndpoint (freshOf role flow limit) ⌝ }
 {
     let given = given_of(flow, limit);
     let number = given_number(given);
@@ -225,14 +225,14 @@ fn make(role: u8, flow: u8, limit: u32) -> Made
 
 // Makes a client of this flow and limit.
 pub fn make_client(flow: u8, limit: u32) -> Made
-    ensures { λ r. ⌜ r ≡ makingOf noEndpoint (freshClient flow limit) ⌝ }
+    ensures { λ r. ⌜ r ≡ madeOf noEndpoint (freshClient flow limit) ⌝ }
 {
     make(1, flow, limit)
 }
 
 // Makes a server of this flow.
 pub fn make_server(flow: u8) -> Made
-    ensures { λ r. ⌜ r ≡ makingOf noEndpoint (freshServer flow) ⌝ }
+    ensures { λ r. ⌜ r ≡ madeOf noEndpoint (freshServer flow) ⌝ }
 {
     make(2, flow, 50000000)
 }

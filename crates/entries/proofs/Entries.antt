@@ -13,7 +13,7 @@ use Rattle.bytes_be.specs.Part.{putAt}
 use Rattle.bytes_be.proofs.Parts.{length-put, part-put}
 use Rattle.open.specs.Offer.{Offer}
 use Rattle.endpoint.specs.declared.Endpoint.{Endpoint}
-use Rattle.endpoint.specs.Record.{givenOf, givenNumber, makingOf}
+use Rattle.endpoint.specs.Record.{givenOf, givenNumber, madeOf}
 use Rattle.endpoint.specs.Block.{bytesOf, loadOf}
 use Rattle.endpoint.proofs.Round.{block-told, loaded-good, stored-loads}
 use Rattle.endpoint.proofs.Stored.{length-block}
@@ -162,7 +162,7 @@ module _ (s : List ℕ) (pipe : Offer) (block out : List ℕ) (number : ℕ) (sl
 
 made-back : (block : List ℕ) (made : Endpoint) (number : ℕ) (block′ : List ℕ) → MakeAnswer made block number block′ → number ≡ 0
     → (givenNumber (givenOf (made .flow) (made .limit)) ≡ 0) × (Sound made → loadOf block′ ≡ made)
-unfolding makeNumber makingOf
+unfolding makeNumber madeOf
 made-back block made number block′ answer accepts =
     let accepted = sym (answer .numbered) ∙ accepts in
     let passed = took-first (eqb (length block) 64) (λ one. omega arith) accepted in
@@ -180,7 +180,7 @@ module _ (entries : Entries) (meets : Meets entries) where
   entries-make : (block : List ℕ) (making : Making) → entries .makes making block .number ≡ 0
       → (tables .make (loadOf block) making .number ≡ 0)
       × (Sound (tables .make (loadOf block) making .next) → loadOf (entries .makes making block .next) ≡ tables .make (loadOf block) making .next)
-  unfolding makingOf
+  unfolding madeOf
   entries-make block making accepts =
       let back = made-back block (freshBy making) _ _ (meets .making making block) accepts in
       (back .0, rw (back .0) (back .1))

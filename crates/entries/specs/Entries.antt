@@ -8,7 +8,7 @@ use lib.Dec.{eqb}
 use Rattle.bytes_be.specs.Part.{partAt}
 use Rattle.open.specs.Offer.{Offer}
 use Rattle.endpoint.specs.declared.Made.{Made}
-use Rattle.endpoint.specs.Record.{makingOf, noEndpoint}
+use Rattle.endpoint.specs.Record.{madeOf, noEndpoint}
 use Rattle.endpoint.specs.Block.{loadOf}
 use Rattle.receiving.specs.declared.Received.{Received}
 use Rattle.receiving.specs.Receiving.{answerNumber, replied}
@@ -86,7 +86,7 @@ receiveResult received block out =
 unfoldable pub byTables : Entries
 byTables =
     record {
-      makes = λ making block. makeResult (makingOf noEndpoint (freshBy making)) block;
+      makes = λ making block. makeResult (madeOf noEndpoint (freshBy making)) block;
       sends = λ call block out. sendResult (sentOn block call (length out)) call block out;
       receives = λ s pipe block out. receiveResult (receivedOn block s pipe (length out)) block out;
     }

@@ -10,7 +10,7 @@ use Rattle.bytes_be.specs.Part.{putAt}
 use Rattle.open.specs.Offer.{Offer}
 use Rattle.endpoint.specs.declared.Endpoint.{Endpoint}
 use Rattle.endpoint.specs.declared.Made.{Made}
-use Rattle.endpoint.specs.Record.{makingOf, noEndpoint}
+use Rattle.endpoint.specs.Record.{madeOf, noEndpoint}
 use Rattle.endpoint.specs.Block.{bytesOf, isGood, loadOf}
 use Rattle.receiving.specs.declared.Answer.{Answer}
 use Rattle.receiving.specs.declared.Answer.the-variants.{Heard, Stays, Closes}
@@ -37,7 +37,7 @@ pub record Kept (made : Made) (before : List ℕ) (number : ℕ) (after : List �
 
 -- `fbdp_make_client` and `fbdp_make_server`, of the fresh endpoint that they make
 abbrev pub MakeAnswer : Endpoint → List ℕ → ℕ → List ℕ → Type 0
-MakeAnswer fresh before number after = Kept (makingOf noEndpoint fresh) before number after
+MakeAnswer fresh before number after = Kept (madeOf noEndpoint fresh) before number after
 
 -- what comes of a call on a block
 abbrev pub sentOn : List ℕ → Call → ℕ → Sent

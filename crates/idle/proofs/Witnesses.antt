@@ -11,7 +11,7 @@ use Rattle.control.specs.declared.MessageType.the-variants.{Open}
 use Rattle.control.specs.Frame.{ackReply, ackRequest, typeOf}
 use Rattle.double.specs.Limit.{mostLimit}
 use Rattle.open.specs.Offer.{noOffer}
-use Rattle.endpoint.specs.Record.{fresh, opening, offer, batch, producer, consumer, freshClient, freshServer, freshOf, givenOf, makingOf}
+use Rattle.endpoint.specs.Record.{fresh, opening, offer, batch, producer, consumer, freshClient, freshServer, freshOf, givenOf, madeOf}
 use Rattle.endpoint.specs.Block.{loadOf}
 use Rattle.sending.specs.Calls.{OPEN, READY, NOOP}
 use Rattle.machine.proofs.Computing.{computing}
@@ -28,11 +28,11 @@ abbrev pub madeServer : List ℕ
 madeServer = stored (freshServer consumer) (replicate 64 0)
 
 pub client-made : MakeAnswer (freshClient producer mostLimit) (replicate 64 0) 0 madeClient
-unfolding freshOf makeNumber makingOf givenOf
+unfolding freshOf makeNumber madeOf givenOf
 client-made = record { numbered = refl; kept = refl }
 
 pub server-made : MakeAnswer (freshServer consumer) (replicate 64 0) 0 madeServer
-unfolding freshOf makeNumber makingOf givenOf
+unfolding freshOf makeNumber madeOf givenOf
 server-made = record { numbered = refl; kept = refl }
 
 -- an output with room for the longest message, which is the OPEN

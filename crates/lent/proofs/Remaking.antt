@@ -19,7 +19,7 @@ use Rattle.endpoint.specs.declared.Endpoint.{Endpoint}
 use Rattle.endpoint.specs.declared.Given.{Given}
 use Rattle.endpoint.specs.declared.Given.the-variants.{Good, Bad}
 use Rattle.endpoint.specs.declared.Made.{Made}
-use Rattle.endpoint.specs.Record.{givenNumber, givenOf, makingOf, noEndpoint}
+use Rattle.endpoint.specs.Record.{givenNumber, givenOf, madeOf, noEndpoint}
 use Rattle.endpoint.proofs.Endpoint as Endpoint-row
 use Rattle.endpoint.proofs.Made as Made-row
 use Rattle.endpoint.proofs.Made.Laws as Made-laws
@@ -31,8 +31,8 @@ abbrev pub made-or : Endpoint → Made → Made
 made-or e made = cond (eqb (made .number) 0) made (record { number = made .number; next = e })
 
 -- where nothing is made, it is the record as it was
-pub made-again : (e fresh : Endpoint) → made-or e (makingOf noEndpoint fresh) ≡ makingOf e fresh
-unfolding makingOf
+pub made-again : (e fresh : Endpoint) → made-or e (madeOf noEndpoint fresh) ≡ madeOf e fresh
+unfolding madeOf
 made-again e fresh = go (givenOf (fresh .flow) (fresh .limit))
   where
     made-by : Given → Endpoint → Made
@@ -43,7 +43,7 @@ made-again e fresh = go (givenOf (fresh .flow) (fresh .limit))
     go Bad = refl
 
 -- what holds of making by value holds of making a record that is lent
-pub make-said : (e fresh : Endpoint) {made : Made} → made ≡ makingOf e fresh → MakeOnLent e fresh (made .number) (made .next)
+pub make-said : (e fresh : Endpoint) {made : Made} → made ≡ madeOf e fresh → MakeOnLent e fresh (made .number) (made .next)
 make-said e fresh said = record { answered = ap (λ (made : Made). made .number) said; changed = ap (λ (made : Made). made .next) said }
 
 -- what is made is well formed, field by field

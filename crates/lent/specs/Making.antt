@@ -3,9 +3,9 @@
 use Prim.Native.Nat.{ℕ}
 use mathlib.Core.Path.{_≡_}
 use Rattle.endpoint.specs.declared.Endpoint.{Endpoint}
-use Rattle.endpoint.specs.Record.{makingOf}
+use Rattle.endpoint.specs.Record.{madeOf}
 
 -- what making this endpoint answers, and the record afterwards: the fresh one, or the one that was lent
 pub record MakeOnLent (e made : Endpoint) (number : ℕ) (next : Endpoint) : Type 0 where
-  pub answered : number ≡ makingOf e made .number
-  pub changed : next ≡ makingOf e made .next
+  pub answered : number ≡ madeOf e made .number
+  pub changed : next ≡ madeOf e made .next

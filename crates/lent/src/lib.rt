@@ -4,7 +4,7 @@ ghost use mathlib.Core.Path.{_≡_};
 ghost use mathlib.Core.Bool.{cond};
 ghost use lib.Dec.{eqb};
 ghost use Rattle.open.specs.Offer.{offerOf};
-ghost use Rattle.endpoint.specs.Record.{freshClient, freshServer, makingOf};
+ghost use Rattle.endpoint.specs.Record.{freshClient, freshServer, madeOf};
 ghost use Rattle.sending.specs.Calls.{datumOf, OPEN, READY, DATA, NOOP, CLOSE};
 ghost use Rattle.lent.specs.Making.{MakeOnLent};
 ghost use Rattle.lent.specs.Lent.{SendOnLent, ReceiveOnLent};
@@ -42,13 +42,13 @@ fn remade(e: Endpoint, made: Made) -> Made
 }
 
 fn remade_client(e: Endpoint, flow: u8, limit: u32) -> Made
-    ensures { λ r. ⌜ r ≡ makingOf e (freshClient flow limit) ⌝ }
+    ensures { λ r. ⌜ r ≡ madeOf e (freshClient flow limit) ⌝ }
 {
     remade(e, endpoint::make_client(flow, limit))
 }
 
 fn remade_server(e: Endpoint, flow: u8) -> Made
-    ensures { λ r. ⌜ r ≡ makingOf e (freshServer flow) ⌝ }
+    ensures { λ r. ⌜ r ≡ madeOf e (freshServer flow) ⌝ }
 {
     remade(e, endpoint::make_server(flow))
 }

@@ -7,7 +7,7 @@ use Rattle.bytes_be.specs.Part.{partAt}
 use Rattle.control.specs.Frame.{ackRequest, typeOf}
 use Rattle.open.specs.Offer.{Offer}
 use Rattle.endpoint.specs.declared.Endpoint.{Endpoint}
-use Rattle.endpoint.specs.Record.{freshClient, freshServer, makingOf}
+use Rattle.endpoint.specs.Record.{freshClient, freshServer, madeOf}
 use Rattle.endpoint.specs.declared.Made.{Made}
 use Rattle.receiving.specs.declared.Content.{Content}
 use Rattle.receiving.specs.declared.Content.the-variants.{Nothing, Opening, Body}
@@ -120,7 +120,7 @@ abbrev pub tables : Program Endpoint ℕ
 tables =
     record {
       room = λ out. out;
-      make = λ e making. madeAs (makingOf e (freshBy making));
+      make = λ e making. madeAs (madeOf e (freshBy making));
       send = λ e call out. record { number = sendOf e call out .number; bytes = written e call; next = sendOf e call out .next };
       receive = λ e m pipe out. outcomeOf (m .bytes) (receivedOf e (m .bytes) pipe out);
     }

@@ -20,7 +20,7 @@ use Rattle.open_write.specs.Frame.{socketOf}
 use Rattle.open_write.specs.Round.{answerTo}
 use Rattle.open_write.proofs.Round.{read-back}
 use Rattle.endpoint.specs.declared.Endpoint.{Endpoint}
-use Rattle.endpoint.specs.Record.{entryAt, shut, givenNumber, freshOf, makingOf}
+use Rattle.endpoint.specs.Record.{entryAt, shut, givenNumber, freshOf, madeOf}
 use Rattle.endpoint.proofs.Told.{good-told}
 use Rattle.table.specs.Table.{other}
 use Rattle.receiving.specs.Hearing.{carriedBy, forbidden, hearContent, hearMessage, hearOf, openAt}
@@ -187,7 +187,7 @@ pub fresh-records : FreshRecords
 fresh-records making given = record { given = given; holds = refl; none-due = fresh-due making }
 
 pub tables-laws : TablesLaws
-unfolding unchanged makingOf
+unfolding unchanged madeOf
 tables-laws =
     record {
       begins = λ e making fresh. subst Sound (sym (fresh .holds)) (fresh-sound making (fresh .given));

@@ -2,7 +2,7 @@
 -- Assumes nothing.
 use mathlib.Core.Path.{_∙_, sym}
 use borrow.Author.Needs.{needs}
-use Rattle.endpoint.specs.Record.{freshOf, makingOf}
+use Rattle.endpoint.specs.Record.{freshOf, madeOf}
 use Rattle.endpoint.proofs.make.Statement.{statement}
 use Rattle.endpoint.proofs.make.Tie as tie
 
@@ -22,7 +22,7 @@ no-endpoint-requires : tie.Need-no-endpoint-requires
 no-endpoint-requires c κs = search needs
 
 returns : tie.Need-returns
-unfolding makingOf freshOf
+unfolding madeOf freshOf
 returns c =
     let bad = sym (c .before .before .before .before .given-of .ensures) ∙ c .before .enum-told2 .given .1 in
     let number = c .before .before .before .given-number .ensures in
@@ -32,7 +32,7 @@ fresh-requires : tie.Need-fresh-requires
 fresh-requires c κs = search needs
 
 returns-2 : tie.Need-returns-2
-unfolding makingOf freshOf
+unfolding madeOf freshOf
 returns-2 c =
     let good = sym (c .before .before .before .before .given-of .ensures) ∙ c .before .enum-told .given .1 in
     let number = c .before .before .before .given-number .ensures in

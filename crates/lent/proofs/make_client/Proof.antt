@@ -37,7 +37,7 @@ use denote.Triple.Walked.{Stays, stay-ref, stay-dropped, walkOf, AllGo, goes-dro
 use denote.Exit.{yes}
 use Rattle.endpoint.specs.declared.Endpoint.{Endpoint}
 use Rattle.endpoint.specs.declared.Made.{Made}
-use Rattle.endpoint.specs.Record.{makingOf, freshClient}
+use Rattle.endpoint.specs.Record.{madeOf, freshClient}
 use Rattle.endpoint.proofs.Endpoint as Endpoint-row
 use Rattle.endpoint.proofs.Endpoint.Laws as Endpoint-laws
 use Rattle.endpoint.proofs.Made as Made-row
@@ -81,7 +81,7 @@ module _ {M : Type 1} (𝓤 : URA M) (H : Heap 𝓤) (A : Atoms 𝓤) (W : Given
   to-callee = ((tt, tt, tt, arguments, (vals h, (vint w8 flow ∷ [], (vint w32 limit ∷ [], tt)))), tt)
 
   abbrev said : Made → Type 0
-  said made = made ≡ makingOf h (freshClient flow limit)
+  said made = made ≡ madeOf h (freshClient flow limit)
 
   -- what the callee ensures: it leaves nothing
   abbrev ensures : Made → SProp 𝓤
