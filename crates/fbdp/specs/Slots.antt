@@ -48,7 +48,7 @@ inOrder slots =
 
 -- the other way: what stands in each slot
 abbrev pub placeIn : List ℕ → ℕ → ℕ → Place
-placeIn numbers at behind = record { at = getD numbers at 0; length = getD numbers behind 0 }
+placeIn numbers at length-at = record { at = getD numbers at 0; length = getD numbers length-at 0 }
 
 abbrev pub slotsIn : List ℕ → Slots
 slotsIn numbers =
