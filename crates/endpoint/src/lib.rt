@@ -43,7 +43,7 @@ pub enum Given {
 pub struct Made {
     // 0, or 34.
     pub number: u8,
-    // The fresh endpoint, or with 34 what was there before: by value a record that is not good, so that every call on it answers 1.
+    // The fresh endpoint, or with 34 what was there before: by value a record that is not good, so that every send and `receive` answers 1.
     pub next: Endpoint,
 }
 

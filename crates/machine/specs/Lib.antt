@@ -1,4 +1,4 @@
--- The endpoint as a whole: what a refusal does, that good stays good, that what is sent is heard as it was sent, what becomes of a CLOSE, and the call
+-- The endpoint as a whole: that an answer says what was done, that good stays good, that what is sent is heard as it was sent, what becomes of a CLOSE, and the call
 -- that a message is of; and what a program is and a run of one end.
 pub mod Refusals
 pub mod Good

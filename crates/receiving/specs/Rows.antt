@@ -49,6 +49,6 @@ heardAs e Close type-data = closeHeard e
 abbrev pub heardRow : Endpoint → Message → Row
 heardRow e m = cond (confirms (m .message) (m .flags)) (noopHeard e) (heardAs e (m .message) (m .«type_data»))
 
--- at every end of a role and a flow the two are one
+-- on every record in its ranges the two are one
 abbrev pub RowsAreMirrored : Type 0
 RowsAreMirrored = (e : Endpoint) → inRanges e ≡ true → (m : Message) → hearRow e m ≡ heardRow e m
