@@ -21,6 +21,18 @@
 extern "C" {
 #endif
 
+/* The number of this interface, which goes up with every change that a host has to follow. An object that was compiled
+ * with the header of another interface does not link with the archive of this one: each refers to the function that has
+ * its number in its name, and answers it. */
+#define FBDP_INTERFACE 2
+uint32_t fbdp_interface_2(void);
+#if defined(__has_attribute)
+#if __has_attribute(retain)
+__attribute__((retain))
+#endif
+#endif
+__attribute__((used)) static uint32_t (*const fbdp_interface_linked)(void) = fbdp_interface_2;
+
 /* The numbers answered: name, number, meaning. */
 #define FBDP_NUMBERS(ROW)                                                                                              \
     ROW(FBDP_ACCEPTED, 0, "accepted")                                                                                  \
@@ -99,6 +111,10 @@ static inline const char *fbdp_type_name(uint64_t type) {
 }
 #undef FBDP_WORDS
 
+/* The options of a send, bits of one number `how`: to ask for a confirmation, and to send DATA without a body, which is
+ * another report than one with an empty body. Bits that a send has no option for are not looked at. */
+enum { FBDP_ASK = 1, FBDP_NO_BODY = 2 };
+
 /* The flags of a message: it asks for confirmation, or it is one. */
 enum { FBDP_ACK_REQUEST = 1, FBDP_ACK_REPLY = 2 };
 
@@ -131,9 +147,9 @@ enum { FBDP_LEAST_LIMIT = 1000000, FBDP_MOST_LIMIT = 50000000 };
 enum {
     FBDP_BLOCK_BYTES = 64,   /* an endpoint: exactly this many */
     FBDP_REPLY_BYTES = 14,   /* what a receive wants for its reply */
-    FBDP_CONTROL_BYTES = 14, /* READY, NOOP, CLOSE */
+    FBDP_CONTROL_BYTES = 14, /* READY, NOOP, CLOSE, and DATA without a body */
     FBDP_OPEN_BYTES = 570,   /* OPEN with the longest name and format, and a limit */
-    FBDP_DATA_OVERHEAD = 18, /* DATA: so many more than its body */
+    FBDP_DATA_OVERHEAD = 18, /* DATA with a body: so many more than the body has */
     /* all that is written, and all that is accepted but for a CLOSE with data frames, to which no limit applies; a
      * longer message that arrives is such a CLOSE, or is refused */
     FBDP_MESSAGE_BYTES = 10 + FBDP_MOST_LIMIT
@@ -166,7 +182,7 @@ uint32_t fbdp_make_server(uint8_t *block, size_t block_length, uint8_t flow);
 /* The sends. Each writes one message from the start of `out` and nothing behind it, and says in `written` how many
  * bytes it has. Each tests FBDP_BAD_BLOCK, FBDP_CLOSED and FBDP_SEND_NOT_ALLOWED first, then what stands beside it, and
  * FBDP_NO_ROOM last; what is allowed when stands beside the phases. A refusal leaves every byte of `block` and `out` as
- * it was, and says that 0 were written. An `ask` is 0, or any other number to ask for a confirmation. */
+ * it was, and says that 0 were written. */
 
 /* Sends OPEN, a client's first message, for the pipe of this name (1 to 255 bytes of UTF-8) and format (at most 255
  * bytes of UTF-8, none for any format), with the client's limit as its one parameter unless that is FBDP_MOST_LIMIT.
@@ -183,17 +199,18 @@ uint32_t fbdp_send_open(uint8_t *block, size_t block_length, const uint8_t *name
 uint32_t fbdp_send_ready(uint8_t *block, size_t block_length, uint16_t count, uint8_t *out, size_t out_length,
                          uint64_t *written);
 
-/* Sends DATA, by a producer in a batch: a number of the host's, a body that may be empty, and an ask.
- * Refuses what every send does, FBDP_TOO_MANY_ASKS and FBDP_SEND_TOO_LARGE.
- * Leaves one message less to send, after the last one FBDP_PHASE_IDLE; with an ask one more awaited; and in `out`
- * body_length + FBDP_DATA_OVERHEAD bytes. */
-uint32_t fbdp_send_data(uint8_t *block, size_t block_length, uint16_t type_data, uint8_t ask, const uint8_t *body,
+/* Sends DATA, by a producer in a batch: a number of the host's, and a body that may be empty. `how` is 0, or FBDP_ASK,
+ * FBDP_NO_BODY or both; with FBDP_NO_BODY the slice of the body is not looked at.
+ * Refuses what every send does, with FBDP_ASK FBDP_TOO_MANY_ASKS, and FBDP_SEND_TOO_LARGE.
+ * Leaves one message less to send, after the last one FBDP_PHASE_IDLE; with FBDP_ASK one more awaited; and in `out`
+ * body_length + FBDP_DATA_OVERHEAD bytes, or with FBDP_NO_BODY FBDP_CONTROL_BYTES. */
+uint32_t fbdp_send_data(uint8_t *block, size_t block_length, uint16_t type_data, uint8_t how, const uint8_t *body,
                         size_t body_length, uint8_t *out, size_t out_length, uint64_t *written);
 
-/* Sends NOOP, to keep a connection alive or to see that it is: a number of the host's, and an ask.
- * Refuses what every send does, and FBDP_TOO_MANY_ASKS.
- * Leaves phase and count as they were, with an ask one more awaited, and FBDP_CONTROL_BYTES in `out`. */
-uint32_t fbdp_send_noop(uint8_t *block, size_t block_length, uint16_t type_data, uint8_t ask, uint8_t *out,
+/* Sends NOOP, to keep a connection alive or to see that it is: a number of the host's. `how` is 0 or FBDP_ASK.
+ * Refuses what every send does, and with FBDP_ASK FBDP_TOO_MANY_ASKS.
+ * Leaves phase and count as they were, with FBDP_ASK one more awaited, and FBDP_CONTROL_BYTES in `out`. */
+uint32_t fbdp_send_noop(uint8_t *block, size_t block_length, uint16_t type_data, uint8_t how, uint8_t *out,
                         size_t out_length, uint64_t *written);
 
 /* Sends CLOSE with a code of 0 to 6, or of 100 to 103 by a server that has heard OPEN and not answered it yet.
@@ -209,12 +226,13 @@ struct fbdp_heard {
     uint64_t flags;                            /* as they came */
     uint64_t type_data;                        /* READY: count; CLOSE: code; NOOP, DATA: a host's number */
     uint64_t reply;                            /* bytes of the reply in `out`, of a refusal too: 0 or 14 */
-    uint64_t frames;                           /* data frames; a CLOSE may have some, which fbdp_frame places */
+    uint64_t frames;                           /* data frames; DATA: 1, or 0 where it has no body; a CLOSE may have
+                                                  some, which fbdp_frame places */
     uint64_t socket;                           /* OPEN: FBDP_INPUT or FBDP_OUTPUT */
     uint64_t name_at, name_length;             /* OPEN: the pipe name */
     uint64_t format_at, format_length;         /* OPEN: the format */
     uint64_t parameters_at, parameters_length; /* OPEN: the parameters, for fbdp_lookup */
-    uint64_t body_at, body_length;             /* DATA that is no confirmation: its body */
+    uint64_t body_at, body_length;             /* DATA: its body, which may be empty where `frames` is 1 */
     uint64_t spare[2];                         /* 0 */
 };
 
