@@ -1,17 +1,16 @@
--- The body of a message that passes 15 is all that stands behind its control frame, and a message that is read has one where it carries one.
--- Assumes nothing.
+-- The body of a message that passes 15, if it has one, is all that stands behind its control frame. Assumes nothing.
 use mathlib.Core.Path.{_≡_, _∙_, ap, refl, subst, sym}
-use Prim.Native.Nat.{_+_, _-_, ℕ}
+use Prim.Native.Nat.{_+_, _-_, _≤_, ℕ}
 use native.Mathlib.Omega.{arith}
 use mathlib.Core.List.{List}
-use mathlib.Core.Bool.{Bool, true, false, cond, not}
-use lib.Dec.{eqb}
-use borrow.Author.Tests.{eqb-true}
+use mathlib.Core.Bool.{Bool, true, false, cond, not, _&&_}
+use lib.Dec.{eqb, leb}
+use borrow.Author.Tests.{eqb-false, eqb-true, leb-false}
 use Rattle.bytes_be.proofs.Tests.{clash}
 use Rattle.bytes_be.specs.declared.Place.{Place}
 use Rattle.bundle.specs.declared.Contents.the-variants.{Frames}
 use Rattle.bundle.specs.Reading.{contentsOf, frameOf}
-use Rattle.bundle.proofs.Sums.{second-of-two}
+use Rattle.bundle.proofs.Sums.{contents-told, frame-behind, second-of-two}
 use Rattle.control.specs.Frame.{ackReply}
 use Rattle.control.specs.declared.MessageType.{MessageType}
 use Rattle.control.specs.declared.MessageType.the-variants.{Open, Ready, Noop, Data, Close}
@@ -20,7 +19,7 @@ use Rattle.message.specs.declared.Body.the-variants.{Nothing, At}
 use Rattle.message.specs.declared.Message.{Message}
 use Rattle.message.specs.declared.Reading.{Reading}
 use Rattle.message.specs.declared.Reading.the-variants.{Read}
-use Rattle.message.specs.Reading.{badFlags, badFrames, bodyIn, bodyOf, carries, readAs, readingOf, refused}
+use Rattle.message.specs.Reading.{badFlags, badFrames, bodyIn, bodyOf, carries, hasBody, readAs, readingOf, refused}
 use Rattle.message.proofs.Stages.{OfMessage, by-stages}
 
 -- a test has one answer
@@ -35,39 +34,42 @@ one frames e = go (eqb frames 1) refl e
     go true is e = eqb-true frames 1 is
     go false is e = other e
 
--- a message that carries a data frame and passes 15 has one
-carried-one : (message : MessageType) (flags frames : ℕ) → badFrames message flags frames ≡ false → carries message flags ≡ true → frames ≡ 1
-carried-one Open flags frames passes some = one frames passes
-carried-one Data flags frames passes some = go (eqb flags ackReply) passes some
+-- a message whose data frame is looked at has at most one, if it passes 15
+at-most-one : (message : MessageType) (flags frames : ℕ) → badFrames message flags frames ≡ false → carries message flags ≡ true → frames ≤ 1
+at-most-one Open flags frames passes some = omega (arith, one frames passes)
+at-most-one Data flags frames passes some = go (eqb flags ackReply) passes some
   where
-    go : (t : Bool) → cond t (not (eqb frames 0)) (not (eqb frames 1)) ≡ false → not t ≡ true → frames ≡ 1
+    go : (t : Bool) → cond t (not (eqb frames 0)) (leb 2 frames) ≡ false → not t ≡ true → frames ≤ 1
     go true passes some = other (sym some)
-    go false passes some = one frames passes
-carried-one Ready flags frames passes some = other (sym some)
-carried-one Noop flags frames passes some = other (sym some)
-carried-one Close flags frames passes some = other (sym some)
+    go false passes some = omega (arith, leb-false 2 frames passes)
+at-most-one Ready flags frames passes some = other (sym some)
+at-most-one Noop flags frames passes some = other (sym some)
+at-most-one Close flags frames passes some = other (sym some)
 
 module _ (s : List ℕ) (count size : ℕ) (control : Place) (contents : contentsOf s ≡ Frames count control size) where
   -- all that stands behind the control frame
   abbrev behind : Body
   behind = At (record { at = control .at + control .length; length = size - control .length })
 
-  second-frame : count - 1 ≡ 1 → bodyIn (frameOf s 1) ≡ behind
-  second-frame e =
-      let two : count ≡ 2 = omega arith in
+  second-frame : (t : Bool) → eqb (count - 1) 0 ≡ t → count - 1 ≤ 1 → bodyIn (frameOf s 1) ≡ cond (not t) behind Nothing
+  second-frame true none few =
+      let whole = contents-told s count size control contents .whole in
+      ap bodyIn (frame-behind s (whole .is-good) 1 (omega (arith, whole .counts, eqb-true (count - 1) 0 none)))
+  second-frame false some few =
+      let two : count ≡ 2 = omega (arith, few, eqb-false (count - 1) 0 some) in
       ap bodyIn (second-of-two s size control (rw two at contents))
 
   body-behind : (message : MessageType) (flags : ℕ) → badFrames message flags (count - 1) ≡ false →
-      bodyOf s message flags ≡ cond (carries message flags) behind Nothing
+      bodyOf s message flags ≡ cond (hasBody message flags (count - 1)) behind Nothing
   unfolding bodyOf
   body-behind message flags passes = go (carries message flags) refl
     where
-      go : (t : Bool) → carries message flags ≡ t → cond t (bodyIn (frameOf s 1)) Nothing ≡ cond t behind Nothing
-      go true some = second-frame (carried-one message flags (count - 1) passes some)
+      go : (t : Bool) → carries message flags ≡ t → cond t (bodyIn (frameOf s 1)) Nothing ≡ cond (t && not (eqb (count - 1) 0)) behind Nothing
+      go true some = second-frame (eqb (count - 1) 0) refl (at-most-one message flags (count - 1) passes some)
       go false none = refl
 
   -- what is read of a message whose type is known, where its body is what stands behind its control frame
-  pub read-behind : (said : ℕ) (message : MessageType) (flags type-data : ℕ) (body : Body) → body ≡ cond (carries message flags) behind Nothing →
+  pub read-behind : (said : ℕ) (message : MessageType) (flags type-data : ℕ) (body : Body) → body ≡ cond (hasBody message flags (count - 1)) behind Nothing →
       readAs s said message flags type-data (count - 1) size ≡
       cond (badFlags message flags) (refused 14 said)
       (cond (badFrames message flags (count - 1)) (refused 15 said)
@@ -84,10 +86,11 @@ module _ (s : List ℕ) (count size : ℕ) (control : Place) (contents : content
       go true bad = refl
       go false passes = ap read-with (body-behind message flags passes ∙ sym is)
 
--- the body of a message: at a place where it carries one
+-- the body of a message: at a place where it has one
 pub record Placed (m : Message) : Type 0 where
   pub place : Place
-  pub there : m .body ≡ cond (carries (m .message) (m .flags)) (At place) Nothing
+  pub there : m .body ≡ cond (hasBody (m .message) (m .flags) (m .frames)) (At place) Nothing
+  pub passes : badFrames (m .message) (m .flags) (m .frames) ≡ false
 
 -- of every message that is read
 pub read-placed : (s : List ℕ) (m : Message) → readingOf s ≡ Read m → Placed m
@@ -95,4 +98,8 @@ read-placed s m is =
     subst (OfMessage Placed) is
     (by-stages Placed s
     (λ count size control byte flags type-data message contents signed framed.
-    record { place = record { at = control .at + control .length; length = size - control .length }; there = body-behind s count size control contents message flags framed }))
+    record {
+      place = record { at = control .at + control .length; length = size - control .length };
+      there = body-behind s count size control contents message flags framed;
+      passes = framed;
+    }))

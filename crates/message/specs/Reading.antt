@@ -2,7 +2,7 @@
 -- flags, frames or size."
 use Prim.Native.Nat.{ℕ, _+_, _-_}
 use mathlib.Core.List.{List}
-use mathlib.Core.Bool.{Bool, true, false, cond, not, _||_}
+use mathlib.Core.Bool.{Bool, true, false, cond, not, _&&_, _||_}
 use lib.Dec.{leb, eqb}
 use Rattle.bytes_be.specs.declared.Place.{Place}
 use Rattle.bytes_be.specs.Part.{partAt}
@@ -40,15 +40,16 @@ badFlags Noop flags = strangeFlags flags
 badFlags Data flags = strangeFlags flags
 badFlags Close flags = false
 
--- 15: "data frames: READY, NOOP, any ACK-REPLY need 0; OPEN and all other DATA exactly 1"
+-- 15: "data frames: READY, NOOP, any ACK-REPLY need 0; OPEN .. exactly 1", and by C-12 "DATA without ACK-REPLY may have no data frame or one":
+-- "15 for such DATA now means two or more"
 abbrev pub badFrames : MessageType → ℕ → ℕ → Bool
 badFrames Open flags frames = not (eqb frames 1)
 badFrames Ready flags frames = not (eqb frames 0)
 badFrames Noop flags frames = not (eqb frames 0)
-badFrames Data flags frames = cond (eqb flags ackReply) (not (eqb frames 0)) (not (eqb frames 1))
+badFrames Data flags frames = cond (eqb flags ackReply) (not (eqb frames 0)) (leb 2 frames)
 badFrames Close flags frames = false
 
--- whether the data frame is looked at: OPEN's, and the body of DATA without ACK-REPLY
+-- whether a data frame is looked at: OPEN's, and the body of DATA without ACK-REPLY
 abbrev pub carries : MessageType → ℕ → Bool
 carries Open flags = true
 carries Ready flags = false
@@ -56,12 +57,17 @@ carries Noop flags = false
 carries Data flags = not (eqb flags ackReply)
 carries Close flags = false
 
+-- whether a message with so many data frames has a body
+abbrev pub hasBody : MessageType → ℕ → ℕ → Bool
+hasBody message flags frames = carries message flags && not (eqb frames 0)
+
 -- where it stands
 abbrev pub bodyIn : Frame → Body
 bodyIn (Frame·At place) = At place
 bodyIn Behind = Nothing
 bodyIn BadBundle = Nothing
 
+-- C-12: "a missing body is heard as such, apart from an empty one"
 unfoldable pub bodyOf : List ℕ → MessageType → ℕ → Body
 bodyOf s message flags = cond (carries message flags) (bodyIn (frameOf s 1)) Nothing
 

@@ -1,7 +1,7 @@
 // A message as a bundle carries it: its control frame and its data frame, or the first of 10 to 15 that refuses it.
 ghost use mathlib.Core.Path.{_≡_};
 ghost use mathlib.Core.Bool.{cond};
-ghost use Rattle.message.specs.Reading.{testOf, strangeFlags, badFlags, badFrames, carries as Reading·carries, bodyPlace, refused as Reading·refused, tested as Reading·tested, readingOf, readingNumber, saidIn};
+ghost use Rattle.message.specs.Reading.{testOf, strangeFlags, badFlags, badFrames, carries as Reading·carries, hasBody, bodyPlace, refused as Reading·refused, tested as Reading·tested, readingOf, readingNumber, saidIn};
 ghost use Rattle.message.specs.declared.Body.the-variants.{Nothing, At as Body·At};
 use bundle::Contents;
 use bytes_be::Place;
@@ -73,7 +73,7 @@ fn bad_flags(message: MessageType, flags: u8) -> bool
     }
 }
 
-// Whether a message of this type and these flags carries a data frame that is looked at.
+// Whether a data frame of a message of this type and these flags is looked at.
 fn carries(message: MessageType, flags: u8) -> bool
     ensures { λ r. ⌜ r ≡ Reading·carries message flags ⌝ }
 {
@@ -97,17 +97,17 @@ fn bad_frames(message: MessageType, flags: u8, frames: usize) -> bool
             if flags == 2 {
                 return frames != 0;
             }
-            frames != 1
+            2 <= frames
         }
         MessageType::Close => false,
     }
 }
 
-// The body of a message whose data frame stands at this place, if it carries one.
-fn body_of(message: MessageType, flags: u8, at: usize, size: usize) -> Body
-    ensures { λ r. ⌜ r ≡ cond (Reading·carries message flags) (Body·At (record { at = at; length = size })) Nothing ⌝ }
+// The body of a message with so many data frames, the first of which, if there is one, stands at this place.
+fn body_of(message: MessageType, flags: u8, frames: usize, at: usize, size: usize) -> Body
+    ensures { λ r. ⌜ r ≡ cond (hasBody message flags frames) (Body·At (record { at = at; length = size })) Nothing ⌝ }
 {
-    let some = carries(message, flags);
+    let some = carries(message, flags) & (frames != 0);
     if some {
         return Body::At(Place {
             at: at,
@@ -181,13 +181,14 @@ pub fn read(s: &[u8]) -> Reading
     };
     // Where there is one data frame, it is all that stands behind the control frame.
     let rest = size as usize - control.length;
+    let frames = count - 1;
     let whole = Message {
         message: message,
         flags: flags,
         type_data: type_data,
-        frames: count - 1,
+        frames: frames,
         size: size,
-        body: body_of(message, flags, end, rest),
+        body: body_of(message, flags, frames, end, rest),
     };
     tested(said, whole)
 }

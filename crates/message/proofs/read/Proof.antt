@@ -116,8 +116,8 @@ returns-4 c = simp (contents (c .before .before .before .before .before .before 
 sub-rest : tie.Need-sub-rest
 sub-rest c = omega (arith, is-told (c .before .before .before .before .before .before .before .before .before .before .before .before .before .before .before .before) .within)
 
-sub-t17 : tie.Need-sub-t17
-sub-t17 c = omega (arith, is-told (c .before .before .before .before .before .before .before .before .before .before .before .before .before .before .before .before) .whole .some)
+sub-frames : tie.Need-sub-frames
+sub-frames c = omega (arith, is-told (c .before .before .before .before .before .before .before .before .before .before .before .before .before .before .before .before) .whole .some)
 
 body-of-requires : tie.Need-body-of-requires
 body-of-requires c κs = search needs
@@ -158,7 +158,7 @@ read-spec =
     refused-requires-4
     returns-4
     sub-rest
-    sub-t17
+    sub-frames
     body-of-requires
     tested-requires
     returns-5)
