@@ -16,15 +16,35 @@ use Rattle.endpoint.specs.Record.{server, opening}
 use Rattle.sending.specs.declared.Report.{Report}
 use Rattle.sending.specs.declared.Outgoing.{Outgoing}
 
+-- C-12: "DATA without ACK-REPLY may have no data frame or one, and a missing body is heard as such, apart from an empty one. Sending gets the
+-- same choice."
+pub data Body : Type 0 where
+  Missing : Body
+  Given : List ℕ → Body
+
+-- the data frames that it makes
+abbrev pub asFrames : Body → List (List ℕ)
+asFrames Missing = []
+asFrames (Given bytes) = bytes ∷ []
+
+-- how many bytes they have
+abbrev pub bodySize : Body → ℕ
+bodySize Missing = 0
+bodySize (Given bytes) = length bytes
+
 -- "DATA takes type-data, one body (may be empty) and an ask for confirmation"
 pub record Datum : Type 0 where
   pub type-data : ℕ
   pub ask : Bool
-  pub body : List ℕ
+  pub body : Body
 
--- of what is told beside the body, and of the body that is lent
+-- of what is told beside the body
+abbrev pub datumWith : Report → Body → Datum
+datumWith report body = record { type-data = report .«type_data»; ask = report .ask; body = body }
+
+-- and of the bytes that are lent for a body, which are not looked at where there is to be none
 abbrev pub datumOf : Report → List ℕ → Datum
-datumOf report body = record { type-data = report .«type_data»; ask = report .ask; body = body }
+datumOf report lent = datumWith report (cond (report .«no_body») Missing (Given lent))
 
 pub data Call : Type 0 where
   OPEN : Offer → Call
@@ -36,9 +56,9 @@ pub data Call : Type 0 where
   -- the code
   CLOSE : ℕ → Call
 
--- 33: "own DATA message above limit"; its size is 8 more than its body's
+-- 33: "own DATA message above limit"; its size is 8 more than its body's, and 8 where that is missing
 unfoldable pub aboveLimit : Endpoint → Datum → Bool
-aboveLimit e datum = ltb (e .limit) (8 + length (datum .body))
+aboveLimit e datum = ltb (e .limit) (8 + bodySize (datum .body))
 
 -- 34: "bad name, format, .. given"
 unfoldable pub misgiven : Offer → Bool
@@ -73,7 +93,7 @@ sends message type-data ask frames own = record { message = message; type-data =
 abbrev pub sendsOf : Call → Sends
 sendsOf (OPEN pipe) = sends Open 0 false (λ e. frameFor (e .flow) pipe (e .limit) ∷ []) (λ e. numberIf (misgiven pipe) 34)
 sendsOf (READY count) = sends Ready count false (λ e. []) (λ e. 0)
-sendsOf (DATA datum) = sends Data (datum .type-data) (datum .ask) (λ e. datum .body ∷ []) (λ e. numberIf (aboveLimit e datum) 33)
+sendsOf (DATA datum) = sends Data (datum .type-data) (datum .ask) (λ e. asFrames (datum .body)) (λ e. numberIf (aboveLimit e datum) 33)
 sendsOf (NOOP type-data ask) = sends Noop type-data ask (λ e. []) (λ e. 0)
 sendsOf (CLOSE code) = sends Close code false (λ e. []) (λ e. numberIf (miscoded e code) 35)
 

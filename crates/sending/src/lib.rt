@@ -3,7 +3,7 @@ ghost use mathlib.Core.Path.{_≡_};
 ghost use mathlib.Core.List.{[]};
 ghost use Rattle.control.specs.Frame.{bytesOf};
 ghost use Rattle.open.specs.Offer.{offerOf};
-ghost use Rattle.sending.specs.Calls.{datumOf, OPEN, READY, DATA, NOOP, CLOSE, miscoded, numberIf, flagsFor, bundleWith};
+ghost use Rattle.sending.specs.Calls.{Given as Body·Given, datumWith, datumOf, OPEN, READY, DATA, NOOP, CLOSE, miscoded, numberIf, flagsFor, bundleWith};
 ghost use Rattle.sending.specs.Held.{plain, frameSize};
 ghost use Rattle.sending.specs.Sending.{sendRow, isFull, numberFor, askedBy, sentIf, sentBy, Answered, SendAnswer};
 use control::MessageType;
@@ -17,6 +17,8 @@ pub struct Report {
     pub type_data: u16,
     // Whether it asks for a confirmation.
     pub ask: bool,
+    // Whether it is sent without a body, whatever is lent for one.
+    pub no_body: bool,
 }
 
 // What is to be tested of an own message.
@@ -201,8 +203,8 @@ pub fn send_close(e: Endpoint, code: u16, out: &mut [u8]) -> Sent
 }
 
 // Sends DATA with this body, which is copied once.
-pub fn send_data(e: Endpoint, report: Report, body: &[u8], out: &mut [u8]) -> Sent
-    ensures { λ r. ⌜ SendAnswer e (DATA (datumOf report (now (body .entry)))) (now (out .entry)) r (now (out .exit)) ⌝ }
+fn send_body(e: Endpoint, report: Report, body: &[u8], out: &mut [u8]) -> Sent
+    ensures { λ r. ⌜ SendAnswer e (DATA (datumWith report (Body·Given (now (body .entry))))) (now (out .entry)) r (now (out .exit)) ⌝ }
 {
     let large = (e.limit as usize) < 8 + body.len();
     let o = Outgoing {
@@ -218,6 +220,17 @@ pub fn send_data(e: Endpoint, report: Report, body: &[u8], out: &mut [u8]) -> Se
         bundle::write_two(out, frame, body);
     }
     sent
+}
+
+// Sends DATA with this body, or without one.
+pub fn send_data(e: Endpoint, report: Report, body: &[u8], out: &mut [u8]) -> Sent
+    ensures { λ r. ⌜ SendAnswer e (DATA (datumOf report (now (body .entry)))) (now (out .entry)) r (now (out .exit)) ⌝ }
+{
+    if report.no_body {
+        let own = number_if(e.limit < 8, 33);
+        return send_plain(e, MessageType::Data, report.type_data, report.ask, own, out);
+    }
+    send_body(e, report, body, out)
 }
 
 // How many bytes the frame of an OPEN has; 0 where 34 refuses it.

@@ -1,91 +1,57 @@
--- `sending::send_data` meets its contract: an accepted body is below 2^32 bytes, and so makes a bundle.
--- Assumes nothing.
-use mathlib.Core.Path.{_∙_, _≡_, ap, ap₂, sym}
-use Prim.Native.Nat.{_<_, ℕ, _+_}
-use mathlib.Core.List.{List, [], _∷_}
-use native.Mathlib.Omega.{arith}
-use lib.Dec.{lit<}
-use lib.ListN.{length}
+-- `sending::send_data` meets its contract: a message without a body is its control frame alone. Assumes nothing.
+use mathlib.Core.Path.{_≡_, subst, sym}
+use mathlib.Core.List.{List}
+use mathlib.Core.Bool.{Bool, cond}
+use Prim.Native.Nat.{ℕ}
 use borrow.Author.Needs.{needs}
-use borrow.Author.Tests.{ltb-false}
-use Rattle.bytes_be.specs.Part.{putAt}
-use Rattle.bundle.specs.Writing.{bundleOf}
-use Rattle.bundle.proofs.Outputs.{left-put, two-made}
-use Rattle.control.specs.declared.MessageType.the-variants.{Data}
-use Rattle.control.proofs.Round.{length-control}
+use Rattle.endpoint.specs.declared.Endpoint.{Endpoint}
+use Rattle.sending.specs.declared.Report.{Report}
 use Rattle.sending.specs.declared.Sent.{Sent}
-use Rattle.sending.specs.Calls.{datumOf, DATA, aboveLimit, written, flagsFor, outgoing, bundleWith}
-use Rattle.sending.specs.Sending.{sendOf, sentBy}
-use Rattle.sending.proofs.Decided.{accepted-passed, framed-long, not-applies, wrote-bytes, wrote-nothing}
+use Rattle.sending.specs.Calls.{Missing, Given, datumWith, datumOf, DATA, aboveLimit}
+use Rattle.sending.specs.Sending.{SendAnswer}
 use Rattle.sending.proofs.send_data.Statement.{statement}
 use Rattle.sending.proofs.send_data.Tie as tie
 
--- what was decided is of the call
-is-decided : (c : tie.After-decide) → c .decide .result ≡ sendOf (c .before .before .before .before .before .args .e) (DATA (datumOf (c .before .before .before .before .before .args .report) (c .before .before .before .before .before .args .body .now))) (length (c .before .before .before .before .before .args .out .now))
-unfolding aboveLimit
-is-decided c =
-    let a = c .before .before .before .before .before .args in
-    let report = a .report in
-    c .decide .ensures
-    ∙ ap₂ (λ (own size : ℕ). sentBy (a .e) (record { message = Data; «type_data» = report .«type_data»; ask = report .ask; own = own; length = size }) (length (a .out .now))) (c .before .number-if .ensures) (sym (framed-long Data (report .ask) (report .«type_data») (a .body .now)))
-
-cast-large : tie.Need-cast-large
-cast-large c = search needs
-
-add-large : tie.Need-add-large
-add-large c = search needs
+-- a report is sent with the body that it chooses
+chosen : (e : Endpoint) (report : Report) (lent before after : List ℕ) (sent : Sent) (none : Bool) → report .«no_body» ≡ none →
+    SendAnswer e (DATA (datumWith report (cond none Missing (Given lent)))) before sent after → SendAnswer e (DATA (datumOf report lent)) before sent after
+chosen e report lent before after sent none is answered =
+    subst (λ (t : Bool). SendAnswer e (DATA (datumWith report (cond t Missing (Given lent)))) before sent after) (sym is) answered
 
 number-if-requires : tie.Need-number-if-requires
 number-if-requires c κs = search needs
 
-add-t11 : tie.Need-add-t11
-add-t11 c = search needs
-
-decide-requires : tie.Need-decide-requires
-decide-requires c κs = search needs
-
-control-frame-requires : tie.Need-control-frame-requires
-control-frame-requires c κs = search needs
-
-write-two-requires : tie.Need-write-two-requires
-write-two-requires c κs = search needs
+send-plain-requires : tie.Need-send-plain-requires
+send-plain-requires c κs = search needs
 
 same-length : tie.Need-same-length
 same-length c = search needs
 
 returns : tie.Need-returns
-unfolding bundleWith aboveLimit
+unfolding aboveLimit
 returns c =
-    let a = c .before .before .before .before .before .before .before .before .before .before .before .before .args in
-    let report = a .report in
-    let datum = datumOf report (a .body .now) in
-    let frame = c .before .before .before .before .control-frame .result in
-    let number : sendOf (a .e) (DATA datum) (length (a .out .now)) .number ≡ 0 = ap (λ (s : Sent). s .number) (sym (is-decided (c .before .before .before .before .before .before .before))) ∙ c .before .before .before .before .before .if1 .taken in
-    let tests = accepted-passed (a .e) (outgoing (a .e) (DATA datum)) (length (a .out .now)) number in
-    let within = ltb-false (a .e .limit) (8 + length (a .body .now)) (not-applies (aboveLimit (a .e) datum) 33 (lit< tt) (tests .unrefused)) in
-    let small : length (a .body .now) < 4294967296 = omega (arith, within, c .before .before .before .before .before .before .before .before .before .struct-known .given) in
-    let eight : length frame ≡ 8 = ap length (c .before .before .before .before .control-frame .ensures) ∙ length-control Data (flagsFor (report .ask)) (report .«type_data») in
-    let put = left-put (frame ∷ a .body .now ∷ []) (a .out .now) (two-made frame eight (a .out .now) (a .body .now) small) (c .before .before .write-two .ensures) in
-    let said = ap (λ (f : List ℕ). putAt (a .out .now) 0 (bundleOf (f ∷ a .body .now ∷ []))) (c .before .before .before .before .control-frame .ensures) in
-    wrote-bytes (a .e) (outgoing (a .e) (DATA datum)) (written (a .e) (DATA datum)) (a .out .now) (c .before .before .before .before .before .before .before .decide .result) (is-decided (c .before .before .before .before .before .before .before)) _ (c .before .before .before .before .before .if1 .taken) (put ∙ said)
+    let a = c .before .before .before .before .before .before .before .before .before .args in
+    chosen (a .e) (a .report) (a .body .now) (a .out .now) _ _ _ (c .before .before .before .before .before .before .if1 .taken) (rw (c .before .before .before .before .number-if .ensures) at (c .before .before .send-plain .ensures))
+
+send-body-requires : tie.Need-send-body-requires
+send-body-requires c κs = search needs
+
+same-length-2 : tie.Need-same-length-2
+same-length-2 c = search needs
 
 returns-2 : tie.Need-returns-2
 returns-2 c =
     let a = c .before .before .before .before .before .before .before .args in
-    let call = DATA (datumOf (a .report) (a .body .now)) in
-    wrote-nothing (a .e) (outgoing (a .e) call) (written (a .e) call) (a .out .now) (c .before .before .decide .result) (is-decided (c .before .before)) (c .if1 .left)
+    chosen (a .e) (a .report) (a .body .now) (a .out .now) _ _ _ (c .before .before .before .before .if1 .left) (c .before .before .send-body .ensures)
 
 pub send-data-spec : {M : Type 1} → statement M
 send-data-spec =
     tie.close
     (tie.spec
-    cast-large
-    add-large
     number-if-requires
-    add-t11
-    decide-requires
-    control-frame-requires
-    write-two-requires
+    send-plain-requires
     same-length
     returns
+    send-body-requires
+    same-length-2
     returns-2)
