@@ -37,9 +37,9 @@ pub replies-read-back : RepliesReadBack
 unfolding strangeFlags
 replies-read-back Open flags type-data reply few = clash cc
 replies-read-back Ready flags type-data reply few = clash cc
-replies-read-back Noop flags type-data reply few = rw (eqb-true flags ackReply reply) (plain-read Noop ackReply type-data few refl refl refl)
-replies-read-back Data flags type-data reply few = rw (eqb-true flags ackReply reply) (plain-read Data ackReply type-data few refl refl refl)
-replies-read-back Close flags type-data reply few = rw (eqb-true flags 0 reply) (plain-read Close 0 type-data few refl refl refl)
+replies-read-back Noop flags type-data reply few = rw (eqb-true flags ackReply reply) (plain-read Noop ackReply type-data few refl refl)
+replies-read-back Data flags type-data reply few = rw (eqb-true flags ackReply reply) (plain-read Data ackReply type-data few refl refl)
+replies-read-back Close flags type-data reply few = rw (eqb-true flags 0 reply) (plain-read Close 0 type-data few refl refl)
 
 -- and there are no others
 

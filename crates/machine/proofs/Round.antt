@@ -1,7 +1,6 @@
 -- What is sent is read, and heard by an end that may hear it, as it was sent; and so is what is replied. Assumes nothing.
 use mathlib.Core.Path.{_≡_, refl, _∙_, ap}
 use Prim.Native.Nat.{_+_, _<_, _^_, ℕ}
-use mathlib.Core.List.{List}
 use mathlib.Core.Bool.{Bool, false, true}
 use native.Mathlib.Omega.{arith}
 use lib.Dec.{eqb, leb, lit<, ltb}
@@ -27,7 +26,7 @@ use Rattle.receiving.specs.declared.Content.{Content}
 use Rattle.receiving.specs.declared.Content.the-variants.{Nothing, Opening as Content·Opening, Body as Content·Body}
 use Rattle.receiving.specs.declared.Received.{Received}
 use Rattle.receiving.specs.Hearing.{accepted, carriedBy, confirmedBy, hearOf, limitedBy, openAt, openCarried, replyTo, unmatched, asks, confirms}
-use Rattle.sending.specs.Calls.{written, Call, OPEN, READY, DATA, NOOP, CLOSE, Datum, outgoing, bundleWith, aboveLimit, misgiven, numberIf, ownNumber, askOf, flagsFor, messageOf}
+use Rattle.sending.specs.Calls.{Body, Missing, Given, bodySize, written, Call, OPEN, READY, DATA, NOOP, CLOSE, Datum, outgoing, bundleWith, aboveLimit, misgiven, numberIf, ownNumber, askOf, flagsFor, messageOf}
 use Rattle.sending.proofs.Decided.{accepted-passed, not-applies}
 use Rattle.machine.specs.Good.{Fits}
 use Rattle.machine.specs.Round.{ReadBack, ReadsBack, ContentSent, HeardAsSent, afterHearing, confirmation, isOffered, messageSent}
@@ -36,7 +35,7 @@ use Rattle.machine.proofs.Hearing.{message-heard, offered-heard}
 
 -- what 33 and 34 do not refuse
 
-pub not-above : (e : Endpoint) (datum : Datum) → ownNumber e (DATA datum) ≡ 0 → ltb (e .limit) (8 + length (datum .body)) ≡ false
+pub not-above : (e : Endpoint) (datum : Datum) → ownNumber e (DATA datum) ≡ 0 → ltb (e .limit) (8 + bodySize (datum .body)) ≡ false
 unfolding aboveLimit
 not-above e datum own = not-applies (aboveLimit e datum) 33 (lit< tt) own
 
@@ -46,22 +45,24 @@ well-given asked own = not-false (isGood asked) (not-applies (misgiven asked) 34
 
 module _ (e : Endpoint) (is-good : good e ≡ true) where
   -- a body of a message that is not above the limit
-  body-short : (body : List ℕ) → ltb (e .limit) (8 + length body) ≡ false → length body < 256 ^ 4
+  body-short : (body : Body) → ltb (e .limit) (8 + bodySize body) ≡ false → bodySize body < 256 ^ 4
   body-short body within =
       let most = both-true (leb leastLimit (e .limit)) (leb (e .limit) mostLimit) (good-told e is-good .bounded) .1 in
-      omega (arith, ltb-false (e .limit) (8 + length body) within, leb-true (e .limit) mostLimit most)
+      omega (arith, ltb-false (e .limit) (8 + bodySize body) within, leb-true (e .limit) mostLimit most)
 
   -- the frame of an OPEN with a good name and format
   open-short : (pipe : Offer) → isGood pipe ≡ true → length (frameFor (e .flow) pipe (e .limit)) < 256 ^ 4
   open-short pipe given = omega (arith, frame-short (e .flow) pipe (e .limit) given)
 
-  -- a datum, with an ask or without
-  data-read : (type-data : ℕ) (ask : Bool) (body : List ℕ) → type-data < 256 ^ 2 → length body < 256 ^ 4 → ReadBack e (DATA (record { type-data = type-data; ask = ask; body = body }))
+  -- a datum, with an ask or without, and with a body or without
+  data-read : (type-data : ℕ) (ask : Bool) (body : Body) → type-data < 256 ^ 2 → bodySize body < 256 ^ 4 → ReadBack e (DATA (record { type-data = type-data; ask = ask; body = body }))
   unfolding bundleWith strangeFlags
-  data-read type-data true body fits short =
-      record { read = framed-read Data 1 type-data fits body short refl refl refl; framed = frame-read Data 1 type-data fits body short }
-  data-read type-data false body fits short =
-      record { read = framed-read Data 0 type-data fits body short refl refl refl; framed = frame-read Data 0 type-data fits body short }
+  data-read type-data true Missing fits short = record { read = plain-read Data 1 type-data fits refl refl; framed = refl }
+  data-read type-data false Missing fits short = record { read = plain-read Data 0 type-data fits refl refl; framed = refl }
+  data-read type-data true (Given bytes) fits short =
+      record { read = framed-read Data 1 type-data fits bytes short refl refl refl; framed = frame-read Data 1 type-data fits bytes short }
+  data-read type-data false (Given bytes) fits short =
+      record { read = framed-read Data 0 type-data fits bytes short refl refl refl; framed = frame-read Data 0 type-data fits bytes short }
 
   call-read : (call : Call) → Fits call → ownNumber e call ≡ 0 → ReadBack e call
   unfolding bundleWith strangeFlags
@@ -69,11 +70,11 @@ module _ (e : Endpoint) (is-good : good e ≡ true) where
       let frame = frameFor (e .flow) asked (e .limit) in
       let short = open-short asked (well-given asked own) in
       record { read = framed-read Open 0 0 fits frame short refl refl refl; framed = frame-read Open 0 0 fits frame short }
-  call-read (READY count) fits own = record { read = plain-read Ready 0 count fits refl refl refl; framed = refl }
+  call-read (READY count) fits own = record { read = plain-read Ready 0 count fits refl refl; framed = refl }
   call-read (DATA datum) fits own = data-read (datum .type-data) (datum .ask) (datum .body) fits (body-short (datum .body) (not-above e datum own))
-  call-read (NOOP type-data true) fits own = record { read = plain-read Noop 1 type-data fits refl refl refl; framed = refl }
-  call-read (NOOP type-data false) fits own = record { read = plain-read Noop 0 type-data fits refl refl refl; framed = refl }
-  call-read (CLOSE code) fits own = record { read = plain-read Close 0 code fits refl refl refl; framed = refl }
+  call-read (NOOP type-data true) fits own = record { read = plain-read Noop 1 type-data fits refl refl; framed = refl }
+  call-read (NOOP type-data false) fits own = record { read = plain-read Noop 0 type-data fits refl refl; framed = refl }
+  call-read (CLOSE code) fits own = record { read = plain-read Close 0 code fits refl refl; framed = refl }
 
 -- every call that is accepted is read as its message
 pub reads-back : ReadsBack
@@ -138,13 +139,19 @@ module _ (e : Endpoint) (is-good : good e ≡ true) (r : Endpoint) (pipe : Offer
         limits = λ moved. ap (limited moved) (read .limited);
       }
 
+  data-carried : (type-data : ℕ) (ask : Bool) (body : Body) → ReadBack e (DATA (record { type-data = type-data; ask = ask; body = body })) →
+      Carried e (DATA (record { type-data = type-data; ask = ask; body = body })) r pipe
+  unfolding carriedBy
+  data-carried type-data ask Missing back = record { content = Nothing; sent = refl; carried = refl; limits = λ moved. refl }
+  data-carried type-data ask (Given bytes) back =
+      let place : Place = record { at = 18; length = length bytes } in
+      record { content = Content·Body place; sent = record { place = place; is = refl; stands = back .framed }; carried = refl; limits = λ moved. refl }
+
   call-carried : (call : Call) → ownNumber e call ≡ 0 → ReadBack e call → isOffered e call r pipe ≡ true → Carried e call r pipe
   unfolding carriedBy
   call-carried (OPEN asked) own back offers = open-carried asked (well-given asked own) back offers
   call-carried (READY count) own back offers = record { content = Nothing; sent = refl; carried = refl; limits = λ moved. refl }
-  call-carried (DATA datum) own back offers =
-      let place : Place = record { at = 18; length = length (datum .body) } in
-      record { content = Content·Body place; sent = record { place = place; is = refl; bytes = back .framed }; carried = refl; limits = λ moved. refl }
+  call-carried (DATA datum) own back offers = data-carried (datum .type-data) (datum .ask) (datum .body) back
   call-carried (NOOP type-data ask) own back offers = record { content = Nothing; sent = refl; carried = refl; limits = λ moved. refl }
   call-carried (CLOSE code) own back offers = record { content = Nothing; sent = refl; carried = refl; limits = λ moved. refl }
 

@@ -21,6 +21,7 @@ use Rattle.receiving.specs.Hearing.{confirms}
 use Rattle.sending.specs.Calls.{Call, OPEN, READY, DATA, NOOP, CLOSE, written}
 use Rattle.sending.specs.Sending.{sendOf}
 use Rattle.machine.specs.Good.{Fits}
+use Rattle.machine.specs.Bodies.{bodyAt}
 
 pub data CallRead : Type 0 where
   NoCall : CallRead
@@ -37,7 +38,7 @@ callOf Open s m = openRead s (openOf s (bodyPlace (m .body) .at) (bodyPlace (m .
 callOf Ready s m = TheCall (READY (m .«type_data»))
 callOf Noop s m = TheCall (NOOP (m .«type_data») (eqb (m .flags) ackRequest))
 callOf Data s m =
-    TheCall (DATA (record { type-data = m .«type_data»; ask = eqb (m .flags) ackRequest; body = partAt s (bodyPlace (m .body)) }))
+    TheCall (DATA (record { type-data = m .«type_data»; ask = eqb (m .flags) ackRequest; body = bodyAt s (m .body) }))
 callOf Close s m = TheCall (CLOSE (m .«type_data»))
 
 -- a confirmation is of no call

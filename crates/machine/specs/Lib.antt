@@ -2,6 +2,7 @@
 -- that a message is of; and what a program is and a run of one end.
 pub mod Refusals
 pub mod Good
+pub mod Bodies
 pub mod Round
 pub mod Close
 pub mod CallIn

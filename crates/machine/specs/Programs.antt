@@ -2,23 +2,20 @@
 -- contracts of `endpoint`, `sending` and `receiving` describe.
 use Prim.Native.Nat.{ℕ}
 use mathlib.Core.List.{List, [], _∷_}
-use mathlib.Core.Bool.{cond}
-use Rattle.bytes_be.specs.Part.{partAt}
-use Rattle.control.specs.Frame.{ackRequest, typeOf}
+use Rattle.control.specs.Frame.{typeOf}
 use Rattle.open.specs.Offer.{Offer}
 use Rattle.endpoint.specs.declared.Endpoint.{Endpoint}
 use Rattle.endpoint.specs.Record.{freshClient, freshServer, madeOf}
 use Rattle.endpoint.specs.declared.Made.{Made}
-use Rattle.receiving.specs.declared.Content.{Content}
-use Rattle.receiving.specs.declared.Content.the-variants.{Nothing, Opening, Body}
 use Rattle.receiving.specs.declared.Answer.{Answer}
 use Rattle.receiving.specs.declared.Answer.the-variants.{Heard, Stays, Closes}
 use Rattle.receiving.specs.declared.Reply.{Reply}
-use Rattle.receiving.specs.declared.Reply.the-variants.{Nothing as Reply·Nothing, Frame}
+use Rattle.receiving.specs.declared.Reply.the-variants.{Nothing, Frame}
 use Rattle.receiving.specs.declared.Received.{Received}
 use Rattle.receiving.specs.Receiving.{answerNumber, replyBytes, receivedOf}
-use Rattle.sending.specs.Calls.{Call, askOf, written}
+use Rattle.sending.specs.Calls.{Body, Missing, Call, written}
 use Rattle.sending.specs.Sending.{sendOf}
+use Rattle.machine.specs.Bodies.{bodyHeard}
 
 -- "Making a client takes flow and limit; making a server takes flow, with limit 50,000,000."
 pub data Making : Type 0 where
@@ -29,24 +26,20 @@ abbrev pub freshBy : Making → Endpoint
 freshBy (AsClient flow limit) = freshClient flow limit
 freshBy (AsServer flow) = freshServer flow
 
--- the options that a call is given: 1 for an ask
-abbrev pub howOf : Call → ℕ
-howOf call = cond (askOf call) ackRequest 0
-
 -- a message on its way: its bytes, and the options of the call that wrote it, 0 for a reply
 pub record Queued : Type 0 where
   pub bytes : List ℕ
   pub how : ℕ
 
--- "Heard with any message are its type, flags and type-data", and the body of DATA; of a refusal nothing is told
+-- "Heard with any message are its type, flags and type-data", and the body of DATA, missing or given; of a refusal nothing is told
 pub record Told : Type 0 where
   pub message : ℕ
   pub flags : ℕ
   pub type-data : ℕ
-  pub body : List ℕ
+  pub body : Body
 
 abbrev pub nothingTold : Told
-nothingTold = record { message = 0; flags = 0; type-data = 0; body = [] }
+nothingTold = record { message = 0; flags = 0; type-data = 0; body = Missing }
 
 -- what comes of making: its number, and the state afterwards
 pub record MakeOutcome (A : Type 0) : Type 0 where
@@ -79,26 +72,20 @@ pub record Program (A O : Type 0) : Type 0 where
 
 -- ---- the tables
 
--- "Heard too is the place of its body.": the bytes there
-abbrev pub bodyAt : List ℕ → Content → List ℕ
-bodyAt s Nothing = []
-bodyAt s (Opening opening) = []
-bodyAt s (Body place) = partAt s place
-
 abbrev pub toldOf : List ℕ → Answer → Told
 toldOf s (Heard heard) =
     record {
       message = typeOf (heard .message);
       flags = heard .flags;
       type-data = heard .«type_data»;
-      body = bodyAt s (heard .content);
+      body = bodyHeard s (heard .content);
     }
 toldOf s (Stays number) = nothingTold
 toldOf s (Closes number) = nothingTold
 
 -- the bundles of a reply
 abbrev pub replies : Reply → List (List ℕ)
-replies Reply·Nothing = []
+replies Nothing = []
 replies (Frame message flags type-data) = replyBytes (Frame message flags type-data) ∷ []
 
 -- what came of the bundle s

@@ -16,8 +16,8 @@ use Rattle.open.specs.Offer.{Offer}
 use Rattle.open.specs.declared.Opening.{Opening}
 use Rattle.open_write.specs.Frame.{socketOf, limitStruct}
 use Rattle.open_write.specs.Round.{samePipe, sameFormat}
-use Rattle.message.specs.declared.Body.{Body}
-use Rattle.message.specs.declared.Body.the-variants.{Nothing as Body·Nothing, At}
+use Rattle.message.specs.declared.Body.{Body as BodyPlace}
+use Rattle.message.specs.declared.Body.the-variants.{Nothing as BodyPlace·Nothing, At}
 use Rattle.message.specs.declared.Message.{Message}
 use Rattle.message.specs.declared.Reading.the-variants.{Read}
 use Rattle.message.specs.Reading.{bodyPlace, readingOf}
@@ -32,7 +32,7 @@ use Rattle.receiving.specs.declared.Reply.{Reply}
 use Rattle.receiving.specs.declared.Reply.the-variants.{Nothing as Reply·Nothing, Frame}
 use Rattle.receiving.specs.Hearing.{confirms, hearRow, tooLarge, unmatched, hearOf}
 use Rattle.receiving.specs.Receiving.{replyBytes, receivedOf}
-use Rattle.sending.specs.Calls.{Call, OPEN, READY, DATA, NOOP, CLOSE, messageOf, typeDataOf, askOf, flagsFor, dataFrames, written}
+use Rattle.sending.specs.Calls.{Body, Missing, Given, Call, OPEN, READY, DATA, NOOP, CLOSE, messageOf, typeDataOf, askOf, flagsFor, dataFrames, written}
 use Rattle.sending.specs.Sending.{sendOf}
 use Rattle.machine.specs.Good.{Fits}
 
@@ -42,8 +42,8 @@ firstFrame [] = []
 firstFrame (frame ∷ rest) = frame
 
 -- where it stands: behind the frame count, two lengths and the control frame
-abbrev pub placeBehind : List (List ℕ) → Body
-placeBehind [] = Body·Nothing
+abbrev pub placeBehind : List (List ℕ) → BodyPlace
+placeBehind [] = BodyPlace·Nothing
 placeBehind (frame ∷ rest) = At (record { at = 18; length = length frame })
 
 -- a message of these data frames, of which there is at most one
@@ -97,11 +97,15 @@ pub record OpeningSent (e : Endpoint) (asked : Offer) (s : List ℕ) (content : 
   pub parametrized : partAt s (opening .parameters) ≡ cond (eqb (e .limit) mostLimit) [] (limitStruct (e .limit))
   pub announced : announcedLimit (opening .announced) ≡ e .limit
 
--- the place of the body that was sent
-pub record BodySent (body s : List ℕ) (content : Content) : Type 0 where
+-- the place of the body that was sent, or none where none was
+pub record PlaceSent (bytes s : List ℕ) (content : Content) : Type 0 where
   pub place : Place
   pub is : content ≡ Content·Body place
-  pub bytes : partAt s place ≡ body
+  pub stands : partAt s place ≡ bytes
+
+abbrev pub BodySent : Body → List ℕ → Content → Type 0
+BodySent Missing s content = content ≡ Nothing
+BodySent (Given bytes) s content = PlaceSent bytes s content
 
 -- what is heard of a call in its bytes, beside type, flags and type-data
 abbrev pub ContentSent : Endpoint → Call → List ℕ → Content → Type 0

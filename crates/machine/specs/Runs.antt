@@ -5,7 +5,8 @@ use mathlib.Core.Bool.{Bool, cond, _||_}
 use lib.Dec.{eqb}
 use Rattle.open.specs.Offer.{Offer}
 use Rattle.sending.specs.Calls.{Call}
-use Rattle.machine.specs.Programs.{Making, howOf, Queued, Told, nothingTold, Program}
+use Rattle.sending.specs.Options.{howOf}
+use Rattle.machine.specs.Programs.{Making, Queued, Told, nothingTold, Program}
 
 -- an end is made, sends, or receives a message with this offer
 pub data Act (O : Type 0) : Type 0 where

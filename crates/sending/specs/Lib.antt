@@ -1,4 +1,5 @@
 -- Document 01, "Sending" and the numbers 1, 2, 3, 30 to 35.
 pub mod Calls
+pub mod Options
 pub mod Sending
 pub mod Held
