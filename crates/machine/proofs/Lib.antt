@@ -11,6 +11,7 @@ pub mod Stages
 pub mod Good
 pub mod Bundled
 pub mod Hearing
+pub mod Bodies
 pub mod Round
 pub mod Replies
 pub mod CallIn
