@@ -6,8 +6,11 @@ use Rattle.bytes_be.proofs.Determined.{coincide}
 use Rattle.open.specs.Offer.{Offer}
 use Rattle.endpoint.specs.declared.Endpoint.{Endpoint}
 use Rattle.sending.specs.Calls.{Call}
-use Rattle.fbdp.specs.Entries.{FrameAnswer, ValueAnswer, LookupAnswer}
+use Rattle.fbdp.specs.Entries.{InterfaceAnswer, FrameAnswer, ValueAnswer, LookupAnswer}
 use Rattle.fbdp.specs.Blocks.{MakeAnswer, SendOnBlock, ReceiveOnBlock}
+
+pub interface-determined : {number number′ : ℕ} → InterfaceAnswer number → InterfaceAnswer number′ → number ≡ number′
+interface-determined one other = coincide (one .numbered) (other .numbered)
 
 pub frame-determined : {bundle : List ℕ} {index number number′ : ℕ} {slots slots′ : List ℕ} → FrameAnswer bundle index number slots →
     FrameAnswer bundle index number′ slots′ → (number ≡ number′) × (slots ≡ slots′)

@@ -3,7 +3,7 @@
 use Prim.Native.Nat.{ℕ}
 use mathlib.Core.Path.{_≡_}
 use mathlib.Core.List.{List}
-use mathlib.Core.Bool.{Bool, true, false, cond, not}
+use mathlib.Core.Bool.{Bool, true, false, cond}
 use lib.ListN.{length, replicate}
 use lib.Dec.{eqb}
 use Rattle.bytes_be.specs.Part.{putAt}
@@ -20,6 +20,7 @@ use Rattle.receiving.specs.Receiving.{answerNumber, replyBytes, replied, receiv
 use Rattle.sending.specs.declared.Report.{Report}
 use Rattle.sending.specs.declared.Sent.{Sent}
 use Rattle.sending.specs.Calls.{Call, written}
+use Rattle.sending.specs.Options.{asking, withoutBody, isChosen}
 use Rattle.sending.specs.Sending.{sendOf, leftBy}
 use Rattle.fbdp.specs.Slots.{answerSlots, inOrder}
 
@@ -53,13 +54,9 @@ pub record Finished (sent : Sent) (before : List ℕ) (number count : ℕ) (afte
   pub counted : count ≡ sent .written
   pub kept : after ≡ keptAfter sent before
 
--- an ask: 0 is none, and any other number one
-abbrev pub asksFor : ℕ → Bool
-asksFor ask = not (eqb ask 0)
-
 -- what a send of DATA is told
 abbrev pub reportOf : ℕ → ℕ → Report
-reportOf type-data ask = record { «type_data» = type-data; ask = asksFor ask }
+reportOf type-data how = record { «type_data» = type-data; ask = isChosen asking how; «no_body» = isChosen withoutBody how }
 
 -- `fbdp_send_open`, `fbdp_send_ready`, `fbdp_send_data`, `fbdp_send_noop` and `fbdp_send_close`
 pub record SendOnBlock (call : Call) (block out : List ℕ) (number count : ℕ) (block′ out′ : List ℕ) : Type 0 where

@@ -13,6 +13,14 @@ use Rattle.terms.specs.Lookup.{lookUp, termNumber}
 use Rattle.terms.specs.declared.Term.{Term}
 use Rattle.terms.specs.declared.Term.the-variants.{In, Unreadable as Term·Unreadable, Absent}
 
+-- the number of the interface, which the header and the name of a function have too
+abbrev pub interface : ℕ
+interface = 2
+
+-- `fbdp_interface_2`
+pub record InterfaceAnswer (number : ℕ) : Type 0 where
+  pub numbered : number ≡ interface
+
 -- found (0 or 1), at, length
 abbrev pub frameSlots : Frame → List ℕ
 frameSlots (At place) = 1 ∷ place .at ∷ place .length ∷ []

@@ -1,12 +1,14 @@
 // The C interface: numbers and byte slices in, a number out.
 ghost use mathlib.Core.Path.{_≡_};
+ghost use Prim.Native.Nat.{_≤_};
 ghost use Rattle.open.specs.Offer.{offerOf};
 ghost use Rattle.endpoint.specs.Record.{freshClient, freshServer};
 ghost use Rattle.receiving.specs.Receiving.{answerNumber};
 ghost use Rattle.sending.specs.Calls.{datumOf, OPEN, READY, DATA, NOOP, CLOSE};
-ghost use Rattle.fbdp.specs.Blocks.{MakeAnswer, Kept, Finished, asksFor, reportOf, SendOnBlock, replyLength, stays, ReceiveOnBlock};
+ghost use Rattle.sending.specs.Options.{asking, isChosen};
+ghost use Rattle.fbdp.specs.Blocks.{MakeAnswer, Kept, Finished, reportOf, SendOnBlock, replyLength, stays, ReceiveOnBlock};
 ghost use Rattle.fbdp.specs.Slots.{carriedInOrder, inOrder, carriesOf, heardSlots, refusedSlots, answerSlots};
-ghost use Rattle.fbdp.specs.Entries.{frameSlots, FrameAnswer, valueSlots, ValueAnswer, termSlots, LookupAnswer};
+ghost use Rattle.fbdp.specs.Entries.{InterfaceAnswer, frameSlots, FrameAnswer, valueSlots, ValueAnswer, termSlots, LookupAnswer};
 use bundle::Frame;
 use endpoint::Made;
 use receiving::Answer;
@@ -17,6 +19,14 @@ use sending::Report;
 use sending::Sent;
 use terms::Term;
 use terms::Value;
+
+// The number of the interface, which the name of the function has too.
+#[no_mangle]
+pub extern "C" fn fbdp_interface_2() -> u32
+    ensures { λ r. ⌜ InterfaceAnswer r ⌝ }
+{
+    2
+}
 
 fn frame_slots(frame: Frame) -> [u64; 3]
     ensures { λ r. ⌜ r ≡ frameSlots frame ⌝ }
@@ -149,19 +159,21 @@ fn finish(sent: Sent, block: &mut [u8], written: &mut u64) -> u32
     0
 }
 
-// Any ask but 0 is one.
-fn asks_for(ask: u8) -> bool
-    ensures { λ r. ⌜ r ≡ asksFor ask ⌝ }
+// Whether an option, which is a bit, is among those given.
+fn is_chosen(option: u8, how: u8) -> bool
+    requires { ⌜ 1 ≤ option ⌝ }
+    ensures { λ r. ⌜ r ≡ isChosen option how ⌝ }
 {
-    ask != 0
+    how / option % 2 == 1
 }
 
-fn report_of(type_data: u16, ask: u8) -> Report
-    ensures { λ r. ⌜ r ≡ reportOf «type_data» ask ⌝ }
+fn report_of(type_data: u16, how: u8) -> Report
+    ensures { λ r. ⌜ r ≡ reportOf «type_data» how ⌝ }
 {
     Report {
         type_data: type_data,
-        ask: asks_for(ask),
+        ask: is_chosen(1, how),
+        no_body: is_chosen(2, how),
     }
 }
 
@@ -194,20 +206,20 @@ pub extern "C" fn fbdp_send_ready(
     finish(sending::send_ready(e, count, out), block, written)
 }
 
-// Sends DATA with this body.
+// Sends DATA with this body, or without one.
 #[no_mangle]
 pub extern "C" fn fbdp_send_data(
     block: &mut [u8],
     type_data: u16,
-    ask: u8,
+    how: u8,
     body: &[u8],
     out: &mut [u8],
     written: &mut u64,
 ) -> u32
-    ensures { λ r. ⌜ SendOnBlock (DATA (datumOf (reportOf «type_data» ask) (now (body .entry)))) (now (block .entry)) (now (out .entry)) r (now (written .exit)) (now (block .exit)) (now (out .exit)) ⌝ }
+    ensures { λ r. ⌜ SendOnBlock (DATA (datumOf (reportOf «type_data» how) (now (body .entry)))) (now (block .entry)) (now (out .entry)) r (now (written .exit)) (now (block .exit)) (now (out .exit)) ⌝ }
 {
     let e = endpoint::load(block);
-    let report = report_of(type_data, ask);
+    let report = report_of(type_data, how);
     finish(sending::send_data(e, report, body, out), block, written)
 }
 
@@ -216,15 +228,15 @@ pub extern "C" fn fbdp_send_data(
 pub extern "C" fn fbdp_send_noop(
     block: &mut [u8],
     type_data: u16,
-    ask: u8,
+    how: u8,
     out: &mut [u8],
     written: &mut u64,
 ) -> u32
-    ensures { λ r. ⌜ SendOnBlock (NOOP «type_data» (asksFor ask)) (now (block .entry)) (now (out .entry)) r (now (written .exit)) (now (block .exit)) (now (out .exit)) ⌝ }
+    ensures { λ r. ⌜ SendOnBlock (NOOP «type_data» (isChosen asking how)) (now (block .entry)) (now (out .entry)) r (now (written .exit)) (now (block .exit)) (now (out .exit)) ⌝ }
 {
     let e = endpoint::load(block);
-    let asked = asks_for(ask);
-    finish(sending::send_noop(e, type_data, asked, out), block, written)
+    let ask = is_chosen(1, how);
+    finish(sending::send_noop(e, type_data, ask, out), block, written)
 }
 
 // Sends CLOSE with this code.

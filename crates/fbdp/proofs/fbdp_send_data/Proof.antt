@@ -27,7 +27,7 @@ same-length-2 c = search needs
 returns : tie.Need-returns
 returns c =
     let a = c .before .before .before .before .before .before .before .before .before .before .before .before .before .before .before .args in
-    send-finished (a .block .now) (c .before .before .before .before .before .before .before .before .before .before .load .result) (c .before .before .before .before .before .before .before .before .before .before .load .ensures) (DATA (datumOf (reportOf (a .type-data) (a .ask)) (a .body .now))) (a .out .now) _ (c .before .before .before .before .before .before .before .send-data .result) _ _ _ (rw (c .before .before .before .before .before .before .before .before .before .report-of .ensures) at (c .before .before .before .before .before .before .before .send-data .ensures)) (c .before .before .finish .ensures)
+    send-finished (a .block .now) (c .before .before .before .before .before .before .before .before .before .before .load .result) (c .before .before .before .before .before .before .before .before .before .before .load .ensures) (DATA (datumOf (reportOf (a .type-data) (a .how)) (a .body .now))) (a .out .now) _ (c .before .before .before .before .before .before .before .send-data .result) _ _ _ (rw (c .before .before .before .before .before .before .before .before .before .report-of .ensures) at (c .before .before .before .before .before .before .before .send-data .ensures)) (c .before .before .finish .ensures)
 
 pub fbdp-send-data-spec : {M : Type 1} → statement M
 fbdp-send-data-spec =

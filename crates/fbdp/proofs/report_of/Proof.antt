@@ -1,13 +1,16 @@
--- `fbdp::report_of` meets its contract: the number of the ask says whether there is one. Assumes nothing.
+-- `fbdp::report_of` meets its contract: each option is its bit. Assumes nothing.
 use borrow.Author.Needs.{needs}
 use Rattle.fbdp.proofs.report_of.Statement.{statement}
 use Rattle.fbdp.proofs.report_of.Tie as tie
 
-asks-for-requires : tie.Need-asks-for-requires
-asks-for-requires c κs = search needs
+is-chosen-requires : tie.Need-is-chosen-requires
+is-chosen-requires c κs = search needs
+
+is-chosen-requires-2 : tie.Need-is-chosen-requires-2
+is-chosen-requires-2 c κs = search needs
 
 returns : tie.Need-returns
-returns c = simp (c .asks-for .ensures)
+returns c = simp (c .before .is-chosen .ensures, c .is-chosen2 .ensures)
 
 pub report-of-spec : {M : Type 1} → statement M
-report-of-spec = tie.close (tie.spec asks-for-requires returns)
+report-of-spec = tie.close (tie.spec is-chosen-requires is-chosen-requires-2 returns)
