@@ -7,7 +7,7 @@ use lib.ListN.{length}
 use Rattle.open.specs.Offer.{noOffer}
 use Rattle.endpoint.specs.declared.Endpoint.{Endpoint}
 use Rattle.endpoint.specs.Record.{freshClient, freshServer}
-use Rattle.sending.specs.Calls.{Datum, OPEN, READY, DATA, NOOP, CLOSE}
+use Rattle.sending.specs.Calls.{Body, Missing, Given, Datum, OPEN, READY, DATA, NOOP, CLOSE}
 use Rattle.machine.specs.Programs.{tables}
 use Rattle.machine.proofs.Computing.{computing}
 use Rattle.session.specs.World.{Ending, World, Event, begun, afterReceive, step, run, Client, Server, Going, HeardClose, WroteClose}
@@ -28,20 +28,20 @@ summary w =
 abbrev start : ℕ → ℕ → ℕ → World Endpoint
 start flow limit server-flow = begun (freshClient flow limit) (freshServer server-flow)
 
-abbrev datum : ℕ → Bool → List ℕ → Datum
+abbrev datum : ℕ → Bool → Body → Datum
 datum type-data ask body = record { type-data = type-data; ask = ask; body = body }
 
 -- the client opens and the server hears that
 opens : List (Event ℕ)
 opens = sends Client (OPEN pipeA) 4200 ∷ receives Server pipeA 14 ∷ []
 
--- the client produces: of an offer of five it takes two, asks for a confirmation of the second, and is refused a third; one receive has no room
+-- the client produces: of an offer of five it takes two, asks for a confirmation of the second, which has no body, and is refused a third; one receive has no room
 -- for a reply; the server closes, and the client's NOOP comes after that
 client-produces : List (Event ℕ)
 client-produces =
     opens
     ++ (sends Server (READY 5) 14 ∷ receives Client noOffer 14 ∷ sends Client (READY 2) 14 ∷ [])
-    ++ (sends Client (DATA (datum 1 false (10 ∷ []))) 20 ∷ sends Client (DATA (datum 2 true (20 ∷ []))) 20 ∷ sends Client (DATA (datum 3 false [])) 20 ∷ [])
+    ++ (sends Client (DATA (datum 1 false (Given (10 ∷ [])))) 20 ∷ sends Client (DATA (datum 2 true Missing)) 14 ∷ sends Client (DATA (datum 3 false (Given []))) 20 ∷ [])
     ++ (receives Server noOffer 14 ∷ receives Server noOffer 13 ∷ receives Server noOffer 14 ∷ receives Server noOffer 14 ∷ [])
     ++ (sends Client (NOOP 9 true) 14 ∷ sends Server (CLOSE 0) 14 ∷ [])
     ++ (receives Server noOffer 14 ∷ receives Client noOffer 14 ∷ receives Client noOffer 14 ∷ [])
@@ -51,7 +51,7 @@ server-produces : List (Event ℕ)
 server-produces =
     opens
     ++ (sends Server (READY 0) 14 ∷ sends Server (READY 1) 14 ∷ receives Client noOffer 14 ∷ receives Client noOffer 14 ∷ [])
-    ++ (sends Client (READY 1) 14 ∷ receives Server noOffer 14 ∷ sends Server (DATA (datum 7 true [])) 18 ∷ receives Client noOffer 14 ∷ [])
+    ++ (sends Client (READY 1) 14 ∷ receives Server noOffer 14 ∷ sends Server (DATA (datum 7 true (Given []))) 18 ∷ receives Client noOffer 14 ∷ [])
 
 -- both produce, and the OPEN is refused; once its CLOSE is heard, both are made again, and the server sends READY
 both-produce : List (Event ℕ)
@@ -62,10 +62,10 @@ both-produce =
     ++ (sends Server (READY 3) 14 ∷ [])
 
 abbrev pages : List Datum
-pages = datum 1 false (10 ∷ []) ∷ datum 2 true (20 ∷ []) ∷ []
+pages = datum 1 false (Given (10 ∷ [])) ∷ datum 2 true Missing ∷ []
 
 abbrev report : List Datum
-report = datum 7 true [] ∷ []
+report = datum 7 true (Given []) ∷ []
 
 sessions :
     summary (run tables (start 1 1000000 2) client-produces)

@@ -5,7 +5,7 @@ use mathlib.Core.List.{List, [], _∷_, append-nil, flatMap, map}
 use mathlib.Core.Bool.{Bool, true, false, cond}
 use native.Mathlib.Omega.{arith}
 use lib.ListN.{drop, length}
-use lib.Dec.{leb}
+use lib.Dec.{leb, ltb}
 use borrow.Author.Tests.{eq-eqb, le-ltb, leb-true, lt-ltb, ltb-false}
 use Rattle.bytes_be.specs.Part.{tabulate}
 use Rattle.bytes_be.proofs.Tests.{both-true, clash}
@@ -30,13 +30,14 @@ use Rattle.receiving.specs.declared.Received.{Received}
 use Rattle.receiving.specs.declared.Reply.the-variants.{Nothing as Reply·Nothing, Frame}
 use Rattle.receiving.specs.Hearing.{confirmable, confirms, hearOf, hearRow, matchesOldest, movesAs, tooLarge, unmatched}
 use Rattle.receiving.specs.Receiving.{answerNumber}
-use Rattle.sending.specs.Calls.{Call, OPEN, READY, DATA, NOOP, CLOSE, askOf, messageOf, outgoing, ownNumber, typeDataOf, written}
+use Rattle.sending.specs.Calls.{Body, Missing, Given, asFrames, bodySize, Call, OPEN, READY, DATA, NOOP, CLOSE, askOf, messageOf, outgoing, ownNumber, typeDataOf, written}
 use Rattle.sending.proofs.Decided.{accepted-passed}
 use Rattle.machine.specs.Good.{Sound}
-use Rattle.machine.specs.Round.{ContentSent, afterHearing, confirmation, isReply, messageSent, messageWith}
+use Rattle.machine.specs.Round.{BodySent, ContentSent, afterHearing, confirmation, firstFrame, isReply, messageSent, messageWith}
 use Rattle.machine.proofs.Replies.{replies-heard}
 use Rattle.machine.proofs.Round.{heard-as-sent, not-above, own-flags, well-given}
-use Rattle.machine.specs.Programs.{bodyAt, toldOf, replies, outcomeOf}
+use Rattle.machine.specs.Bodies.{bodyHeard}
+use Rattle.machine.specs.Programs.{toldOf, replies, outcomeOf}
 use Rattle.session.specs.World.{End, Makings}
 use Rattle.session.specs.Packets.{Packet, bytesIn, bodySent, toldIn, Called, Confirms, Closes}
 use Rattle.session.specs.Demand.{promptLedger}
@@ -69,18 +70,26 @@ module _ (r : Endpoint) (sound : Sound r) where
       let frame : ℕ = length (frameFor (e .flow) asked (e .limit)) in
       simp (le-ltb (r .limit) (8 + frame) (omega (arith, limit-least)), le-ltb 4096 frame (omega arith))
   call-small e (READY count) own same = le-ltb (r .limit) 8 (omega (arith, limit-least))
-  call-small e (DATA datum) own same =
-      let size = 8 + length (datum .body) in
-      le-ltb (r .limit) size (omega (arith, same refl, ltb-false (e .limit) size (not-above e datum own)))
+  call-small e (DATA datum) own same = data-small (datum .body) (not-above e datum own)
+    where
+      data-small : (body : Body) → ltb (e .limit) (8 + bodySize body) ≡ false → ltb (r .limit) (8 + length (firstFrame (asFrames body))) ≡ false
+      data-small Missing below = le-ltb (r .limit) 8 (omega (arith, limit-least))
+      data-small (Given bytes) below =
+          let size = 8 + length bytes in
+          le-ltb (r .limit) size (omega (arith, same refl, ltb-false (e .limit) size below))
   call-small e (NOOP type-data ask) own same = le-ltb (r .limit) 8 (omega (arith, limit-least))
   call-small e (CLOSE code) own same = refl
 
 -- the body that is heard is the one sent
 call-body : (e : Endpoint) (call : Call) (content : Content) → ContentSent e call (written e call) content
-    → bodyAt (written e call) content ≡ bodySent call
+    → bodyHeard (written e call) content ≡ bodySent call
 call-body e (OPEN asked) content sent = simp (sent .is)
 call-body e (READY count) content sent = simp sent
-call-body e (DATA datum) content sent = simp (sent .is, sent .bytes)
+call-body e (DATA datum) content sent = go (datum .body) sent
+  where
+    go : (body : Body) → BodySent body (written e (DATA datum)) content → bodyHeard (written e (DATA datum)) content ≡ body
+    go Missing sent = simp sent
+    go (Given bytes) sent = simp (sent .is, sent .stands)
 call-body e (NOOP type-data ask) content sent = simp sent
 call-body e (CLOSE code) content sent = simp sent
 

@@ -13,7 +13,7 @@ use Rattle.endpoint.specs.declared.Endpoint.{Endpoint}
 use Rattle.endpoint.specs.declared.Entry.{Entry}
 use Rattle.endpoint.specs.declared.Given.the-variants.{Good}
 use Rattle.endpoint.specs.Record.{awaited, producer, fresh, offer, batch, shut, good, givenOf}
-use Rattle.sending.specs.Calls.{Datum, Call, OPEN, READY, DATA, NOOP, CLOSE, written}
+use Rattle.sending.specs.Calls.{Given, Datum, Call, OPEN, READY, DATA, NOOP, CLOSE, written}
 use Rattle.machine.specs.Good.{Fits}
 use Rattle.machine.specs.Programs.{Making, freshBy, Queued, Program, tables}
 use Rattle.session.specs.World.{End, Client, Server, across, Makings, makingOf, Ending, Going, HeardClose, WroteClose, History, Side, World, side}
@@ -118,7 +118,7 @@ abbrev pub pipeA : Offer
 pipeA = offerOf (97 ∷ []) []
 
 abbrev pub emptyDatum : Datum
-emptyDatum = record { type-data = 0; ask = false; body = [] }
+emptyDatum = record { type-data = 0; ask = false; body = Given [] }
 
 abbrev pub nextCall : Endpoint → Call
 nextCall e =

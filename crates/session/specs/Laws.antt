@@ -14,10 +14,11 @@ use Rattle.endpoint.specs.Record.{capacity, closed, server, shut}
 use Rattle.table.specs.declared.Row.the-variants.{To}
 use Rattle.table.specs.Table.{other, rowOf}
 use Rattle.sending.specs.Calls.{Call, OPEN, READY, DATA, NOOP, CLOSE, messageOf, typeDataOf, askOf, ownNumber, written}
+use Rattle.sending.specs.Options.{howOf}
 use Rattle.sending.specs.Sending.{sendOf}
 use Rattle.machine.specs.Good.{Sound, Fits}
 use Rattle.machine.specs.Round.{isOffered}
-use Rattle.machine.specs.Programs.{Making, howOf, Queued, nothingTold, SendOutcome, ReceiveOutcome, ignored, Program, tables}
+use Rattle.machine.specs.Programs.{Making, Queued, nothingTold, SendOutcome, ReceiveOutcome, ignored, Program, tables}
 use Rattle.session.specs.World.{End, Client, Server, across, Makings, makingOf, dataSent, readyCount, Side, World, Event, EventFits, step, begun}
 use Rattle.session.specs.World.{viewedSide}
 use Rattle.session.specs.Packets.{Packet, Called, Confirms, Closes, queuedIn, bytesIn, toldIn, rowMessage, typeDataIn, dataIn, readyIn}

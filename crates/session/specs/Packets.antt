@@ -8,8 +8,9 @@ use Rattle.control.specs.Frame.{ackReply, typeOf}
 use Rattle.endpoint.specs.declared.Endpoint.{Endpoint}
 use Rattle.receiving.specs.declared.Reply.the-variants.{Frame}
 use Rattle.receiving.specs.Receiving.{replyBytes}
-use Rattle.sending.specs.Calls.{Datum, Call, OPEN, READY, DATA, NOOP, CLOSE, messageOf, typeDataOf, askOf, flagsFor, written}
-use Rattle.machine.specs.Programs.{howOf, Queued, Told}
+use Rattle.sending.specs.Calls.{Body, Missing, Datum, Call, OPEN, READY, DATA, NOOP, CLOSE, messageOf, typeDataOf, askOf, flagsFor, written}
+use Rattle.sending.specs.Options.{howOf}
+use Rattle.machine.specs.Programs.{Queued, Told}
 use Rattle.machine.specs.Runs.{asReply}
 use Rattle.session.specs.World.{dataSent, readyCount}
 
@@ -28,12 +29,12 @@ abbrev pub bytesIn : Packet → List ℕ
 bytesIn m = queuedIn m .bytes
 
 -- what is told of it
-abbrev pub bodySent : Call → List ℕ
-bodySent (OPEN asked) = []
-bodySent (READY count) = []
+abbrev pub bodySent : Call → Body
+bodySent (OPEN asked) = Missing
+bodySent (READY count) = Missing
 bodySent (DATA datum) = datum .body
-bodySent (NOOP type-data ask) = []
-bodySent (CLOSE code) = []
+bodySent (NOOP type-data ask) = Missing
+bodySent (CLOSE code) = Missing
 
 abbrev pub toldIn : Packet → Told
 toldIn (Called e call) =
@@ -43,8 +44,8 @@ toldIn (Called e call) =
       type-data = typeDataOf call;
       body = bodySent call;
     }
-toldIn (Confirms message type-data) = record { message = typeOf message; flags = ackReply; type-data = type-data; body = [] }
-toldIn (Closes code) = record { message = typeOf Close; flags = 0; type-data = code; body = [] }
+toldIn (Confirms message type-data) = record { message = typeOf message; flags = ackReply; type-data = type-data; body = Missing }
+toldIn (Closes code) = record { message = typeOf Close; flags = 0; type-data = code; body = Missing }
 
 -- the message whose row it takes: "NOOP, and any message with ACK-REPLY"
 abbrev pub rowMessage : Packet → MessageType
