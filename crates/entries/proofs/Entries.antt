@@ -134,7 +134,7 @@ module _ (s : List ℕ) (pipe : Offer) (block out : List ℕ) (number : ℕ) (sl
   outcome = receiveTold s (record { number = number; slots = slots; block = block′; out = out′ })
 
   received-told : outcome .told ≡ toldOf s (heard .answer)
-  received-told = ap (λ (numbers : List ℕ). toldBy s (slotsIn numbers)) (answer .told) ∙ answer-told s (heard .answer) (replyLength (heard .reply))
+  received-told = ap (λ (numbers : List ℕ). toldBy s (slotsIn numbers)) (answer .told) ∙ answer-told (loadOf block) s pipe (length out) (replyLength (heard .reply)) (heard .answer) refl
 
   received-alike : 14 ≤ length out → Sound (loadOf block) → Sound (heard .next) → Alike loadOf outcome (outcomeOf s heard)
   unfolding keptBy

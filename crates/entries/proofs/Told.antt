@@ -1,47 +1,48 @@
 -- What `fbdp_receive` tells in its slots and writes to its output is what was heard and replied. Assumes nothing.
-use mathlib.Core.Path.{_≡_, ap, refl}
+use mathlib.Core.Path.{_≡_, _∙_, ap, refl}
 use Prim.Native.Nat.{ℕ, _≤_}
 use mathlib.Core.List.{List, [], _∷_}
 use mathlib.Core.Bool.{cond}
 use native.Mathlib.Omega.{arith}
 use lib.Dec.{eqb}
 use lib.ListN.{length, take}
-use Rattle.bytes_be.specs.Part.{partAt}
 use Rattle.bytes_be.proofs.Parts.{part-put}
 use Rattle.bundle.proofs.Outputs.{one-long}
 use Rattle.control.specs.declared.MessageType.{MessageType}
 use Rattle.control.specs.Frame.{bytesOf, typeOf}
 use Rattle.control.proofs.Round.{length-control}
+use Rattle.open.specs.Offer.{Offer}
+use Rattle.endpoint.specs.declared.Endpoint.{Endpoint}
 use Rattle.receiving.specs.declared.Content.{Content}
 use Rattle.receiving.specs.declared.Content.the-variants.{Nothing as Content·Nothing, Opening, Body}
-use Rattle.receiving.specs.declared.Heard.{Heard}
 use Rattle.receiving.specs.declared.Answer.{Answer}
 use Rattle.receiving.specs.declared.Answer.the-variants.{Heard as Answer·Heard, Stays, Closes}
 use Rattle.receiving.specs.declared.Reply.{Reply}
 use Rattle.receiving.specs.declared.Reply.the-variants.{Nothing, Frame}
-use Rattle.receiving.specs.Receiving.{replyBytes, replied}
+use Rattle.receiving.specs.Receiving.{receivedOf, replyBytes, replied}
 use Rattle.fbdp.specs.Slots.{answerSlots, carriesOf, heardSlots}
 use Rattle.fbdp.specs.Blocks.{replyLength}
-use Rattle.machine.specs.Programs.{Told, bodyAt, toldOf, replies}
+use Rattle.machine.specs.Bodies.{bodyHeard, bodyTold, placeHeard}
+use Rattle.machine.specs.Programs.{toldOf, replies}
+use Rattle.machine.proofs.Bodies.{frames-tell-body}
 use Rattle.entries.specs.Entries.{toldBy, repliesBy}
 
--- type, flags, type-data and the place of the body
-heard-told : (s : List ℕ) (heard : Heard) (reply : ℕ) → toldBy s (heardSlots heard reply) ≡ toldOf s (Answer·Heard heard)
-unfolding heardSlots
-heard-told s heard reply = go (heard .content)
-  where
-    told : List ℕ → Told
-    told body = record { message = typeOf (heard .message); flags = heard .flags; type-data = heard .«type_data»; body = body }
+-- the slots of the body are its place
+place-told : (content : Content) → carriesOf content .body ≡ placeHeard content
+place-told Content·Nothing = refl
+place-told (Opening opening) = refl
+place-told (Body place) = refl
 
-    go : (content : Content) → told (partAt s (carriesOf content .body)) ≡ told (bodyAt s content)
-    go Content·Nothing = refl
-    go (Opening opening) = refl
-    go (Body place) = refl
-
-pub answer-told : (s : List ℕ) (answer : Answer) (reply : ℕ) → toldBy s (answerSlots answer reply) ≡ toldOf s answer
-answer-told s (Answer·Heard heard) reply = heard-told s heard reply
-answer-told s (Stays number) reply = refl
-answer-told s (Closes number) reply = refl
+-- type, flags, type-data, and the body that the number of data frames tells
+module _ (e : Endpoint) (s : List ℕ) (pipe : Offer) (room reply : ℕ) where
+  pub answer-told : (answer : Answer) → receivedOf e s pipe room .answer ≡ answer → toldBy s (answerSlots answer reply) ≡ toldOf s answer
+  unfolding heardSlots
+  answer-told (Answer·Heard heard) is =
+      let body : bodyTold s (typeOf (heard .message)) (heard .frames) (carriesOf (heard .content) .body) ≡ bodyHeard s (heard .content) =
+      ap (bodyTold s (typeOf (heard .message)) (heard .frames)) (place-told (heard .content)) ∙ frames-tell-body e s pipe room heard is in
+      λ i. record { message = typeOf (heard .message); flags = heard .flags; type-data = heard .«type_data»; body = body i }
+  answer-told (Stays number) is = refl
+  answer-told (Closes number) is = refl
 
 -- a reply has 14 bytes, which a host finds in an output that has room for it
 

@@ -11,8 +11,9 @@ use Rattle.control.specs.Frame.{typeOf}
 use Rattle.open.specs.Offer.{noOffer}
 use Rattle.endpoint.specs.declared.Endpoint.{Endpoint}
 use Rattle.endpoint.specs.Record.{consumer, producer, batch, idle, freshClient, freshServer, atPhase, limited}
-use Rattle.sending.specs.Calls.{READY, written}
-use Rattle.machine.specs.Programs.{Queued, Told, SendOutcome, ReceiveOutcome, Program, bodyAt, toldOf, tables}
+use Rattle.sending.specs.Calls.{Given, READY, written}
+use Rattle.machine.specs.Bodies.{bodyHeard}
+use Rattle.machine.specs.Programs.{Queued, Told, SendOutcome, ReceiveOutcome, Program, toldOf, tables}
 use Rattle.machine.specs.Round.{MayHear}
 use Rattle.machine.proofs.Computing.{computing}
 use Rattle.machine.proofs.Round.{heard-as-sent}
@@ -43,11 +44,11 @@ giving done = slipping (λ e call out. done) (tables .receive)
 
 -- demand 3 after the client's DATA, where it is known what comes of that
 after-data : (p : Program Endpoint ℕ) → DemandOf p asRecords → run p start (agreeing 1 1 []) ≡ agreed
-    → (body : List ℕ) (done : SendOutcome Endpoint) → p .send sender (report false body) room ≡ done
-    → Holds p asRecords (step (giving done) agreed (calls Client (report false body)))
+    → (body : List ℕ) (done : SendOutcome Endpoint) → p .send sender (report false (Given body)) room ≡ done
+    → Holds p asRecords (step (giving done) agreed (calls Client (report false (Given body))))
 unfolding run step
 after-data p demand agrees body done gives =
-    let sending = calls Client (report false body) in
+    let sending = calls Client (report false (Given body)) in
     subst (Holds p asRecords)
     (ap (λ (w : World Endpoint). step p w sending) agrees ∙ ap (λ (x : SendOutcome Endpoint). step (giving x) agreed sending) gives)
     (at-the-end p demand (agreeing 1 1 (sending ∷ [])) (λ w. omega arith))
@@ -59,7 +60,7 @@ some-body size by = by (replicate size 0) (length-replicate size 0)
 -- ---- above the limit
 
 large-refused : (body : List ℕ) → length body ≡ limit
-    → tables .send sender (report false body) room ≡ record { number = 33; bytes = written sender (report false body); next = sender }
+    → tables .send sender (report false (Given body)) room ≡ record { number = 33; bytes = written sender (report false (Given body)); next = sender }
 unfolding computing
 large-refused body long = rw long refl
 
@@ -77,14 +78,14 @@ lowering-on-refusal-fails = some-body limit lowering-fails
 
 module _ (body : List ℕ) (long : length body ≡ limit - 8) where
   abbrev message : Queued
-  message = record { bytes = written sender (report false body); how = 0 }
+  message = record { bytes = written sender (report false (Given body)); how = 0 }
 
   abbrev told : Told
-  told = record { message = typeOf Data; flags = 0; type-data = 0; body = body }
+  told = record { message = typeOf Data; flags = 0; type-data = 0; body = Given body }
 
   -- the tables send it and hear it
 
-  full-sent : tables .send sender (report false body) room ≡ record { number = 0; bytes = message .bytes; next = atPhase sender idle 0 }
+  full-sent : tables .send sender (report false (Given body)) room ≡ record { number = 0; bytes = message .bytes; next = atPhase sender idle 0 }
   unfolding computing
   full-sent = simp (append-nil, long)
 
@@ -92,9 +93,9 @@ module _ (body : List ℕ) (long : length body ≡ limit - 8) where
   unfolding computing
   full-told =
       let number = ap (λ (done : SendOutcome Endpoint). done .number) full-sent in
-      let may : MayHear sender (report false body) hearer noOffer idle 0 = record { leads = refl; small = rw long refl; offered = refl } in
-      let back = heard-as-sent sender (report false body) (omega arith) room number hearer noOffer idle 0 may in
-      let carried = ap (bodyAt (message .bytes)) (back .carried .is) ∙ back .carried .bytes in
+      let may : MayHear sender (report false (Given body)) hearer noOffer idle 0 = record { leads = refl; small = rw long refl; offered = refl } in
+      let back = heard-as-sent sender (report false (Given body)) (omega arith) room number hearer noOffer idle 0 may in
+      let carried = ap (bodyHeard (message .bytes)) (back .carried .is) ∙ ap Given (back .carried .stands) in
       ap (toldOf (message .bytes)) (back .answered) ∙ (λ i. record { message = typeOf Data; flags = 0; type-data = 0; body = carried i })
 
   -- and the slip refuses it

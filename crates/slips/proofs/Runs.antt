@@ -5,7 +5,7 @@ use mathlib.Core.Bool.{Bool}
 use Prim.Native.Nat.{ℕ, _+_}
 use Rattle.endpoint.specs.declared.Endpoint.{Endpoint}
 use Rattle.endpoint.specs.Record.{consumer, producer, freshClient, freshOf, freshServer, givenOf}
-use Rattle.sending.specs.Calls.{Call, OPEN, READY, DATA}
+use Rattle.sending.specs.Calls.{Body, Call, OPEN, READY, DATA}
 use Rattle.machine.specs.Programs.{Program}
 use Rattle.machine.proofs.Computing.{computing}
 use Rattle.session.specs.World.{End, Client, Server, Makings, Going, World, Event, sends, receives, AllFit, afterReceive, step, run, begun}
@@ -39,7 +39,7 @@ abbrev pub hears : End → Event ℕ
 hears end = receives end pipeA room
 
 -- a DATA with this body, with an ask or without
-abbrev pub report : Bool → List ℕ → Call
+abbrev pub report : Bool → Body → Call
 report ask body = DATA (record { type-data = 0; ask = ask; body = body })
 
 -- the client opens the pipe, the server makes an offer, and the client agrees to a count; what follows is given

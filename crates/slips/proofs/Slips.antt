@@ -1,15 +1,16 @@
 -- Slips that are seen by computing a run: each breaks a clause of demand 3 at its end. Assumes nothing.
-use mathlib.Core.Path.{_≡_, ap, refl}
+use mathlib.Core.Path.{_≡_, ap, refl, sym}
 use mathlib.Core.List.{List, [], _∷_}
 use mathlib.Core.Bool.{true, false}
 use Prim.Native.Nat.{ℕ}
 use native.Mathlib.Omega.{arith}
 use lib.ListN.{getD, length}
 use Rattle.bytes_be.proofs.Tests.{clash}
-use Rattle.sending.specs.Calls.{CLOSE}
+use Rattle.sending.specs.Calls.{Body, Missing, Given, Datum, CLOSE}
 use Rattle.session.specs.World.{Client, Server, Going, WroteClose}
 use Rattle.slips.specs.Slips.{countingConfirmations, CountingConfirmationsFails, readingLowByteFirst, ReadingLowByteFirstFails}
 use Rattle.slips.specs.Slips.{losingData, LosingDataFails, agreeingAboveOffer, AgreeingAboveOfferFails, runningPastCount, RunningPastCountFails}
+use Rattle.slips.specs.Slips.{hearingMissingAsEmpty, HearingMissingAsEmptyFails, sendingEmptyAsMissing, SendingEmptyAsMissingFails}
 use Rattle.slips.specs.Slips.{passingOverClose, PassingOverCloseFails, hearingReadyAsClose, HearingReadyAsCloseFails}
 use Rattle.slips.proofs.Runs.{agreeing, at-rest, at-the-end, calls, hears, report, room, running}
 
@@ -31,14 +32,35 @@ agreeing-above-offer-fails demand =
 pub losing-data-fails : LosingDataFails
 unfolding running
 losing-data-fails demand =
-    let holds = at-the-end losingData demand (agreeing 1 1 (calls Client (report false []) ∷ hears Server ∷ [])) (λ w. omega arith) in
+    let holds = at-the-end losingData demand (agreeing 1 1 (calls Client (report false (Given [])) ∷ hears Server ∷ [])) (λ w. omega arith) in
     clash (ap length (holds .nothing-lost Server (λ closed. clash cc) refl .0))
+
+-- one DATA was sent, and one with another body accepted
+
+abbrev firstBody : List Datum → Body
+firstBody [] = Missing
+firstBody (datum ∷ rest) = datum .body
+
+other-body : Given [] ≡ Missing → ⊥
+other-body e = clash cc
+
+pub hearing-missing-as-empty-fails : HearingMissingAsEmptyFails
+unfolding running
+hearing-missing-as-empty-fails demand =
+    let holds = at-the-end hearingMissingAsEmpty demand (agreeing 1 1 (calls Client (report false Missing) ∷ hears Server ∷ [])) (λ w. omega arith) in
+    other-body (ap firstBody (holds .nothing-lost Server (λ closed. clash cc) refl .0))
+
+pub sending-empty-as-missing-fails : SendingEmptyAsMissingFails
+unfolding running
+sending-empty-as-missing-fails demand =
+    let holds = at-the-end sendingEmptyAsMissing demand (agreeing 1 1 (calls Client (report false (Given [])) ∷ hears Server ∷ [])) (λ w. omega arith) in
+    other-body (ap firstBody (sym (holds .nothing-lost Server (λ closed. clash cc) refl .0)))
 
 -- in a batch of 1 two DATA are accepted
 pub running-past-count-fails : RunningPastCountFails
 unfolding running
 running-past-count-fails demand =
-    let twice = calls Client (report false []) ∷ hears Server ∷ calls Client (report false []) ∷ hears Server ∷ [] in
+    let twice = calls Client (report false (Given [])) ∷ hears Server ∷ calls Client (report false (Given [])) ∷ hears Server ∷ [] in
     let holds = at-the-end runningPastCount demand (agreeing 1 1 twice) (λ w. omega arith) in
     absurd (omega (arith, holds .within))
 
@@ -46,7 +68,7 @@ running-past-count-fails demand =
 pub counting-confirmations-fails : CountingConfirmationsFails
 unfolding running
 counting-confirmations-fails demand =
-    let once = calls Client (report true []) ∷ hears Server ∷ hears Client ∷ [] in
+    let once = calls Client (report true (Given [])) ∷ hears Server ∷ hears Client ∷ [] in
     let holds = at-the-end countingConfirmations demand (agreeing 2 2 once) (λ w. omega arith) in
     absurd (omega (arith, holds .may-send (at-rest _ refl refl refl refl) .accepted room (omega arith) .0))
 

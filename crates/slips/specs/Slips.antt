@@ -1,11 +1,10 @@
--- "Slips we have seen", and five more: each is a program that is the tables but for that slip, and demand 3 fails of it.
+-- "Slips we have seen", and seven more: each is a program that is the tables but for that slip, and demand 3 fails of it.
 -- Two slips of document 01 demand 3 does not see: "Replying to a CLOSE that passes 10..13.", as the reply reaches an end that has itself closed and
 -- passes it over, and "Matching a confirmation to any entry and not the oldest.", as in a session the oldest is the one that comes. The contract of
 -- `fbdp_receive` sees both (`fbdp/specs/Blocks: ReceiveOnBlock`).
 use Prim.Native.Nat.{ℕ, _+_}
 use mathlib.Core.List.{List, [], reverse}
 use mathlib.Core.Bool.{Bool, cond, not, _&&_}
-use lib.ListN.{length}
 use lib.Dec.{eqb, leb}
 use lib.IntN.{pos}
 use lib.Ieee.{Float, binary64, div, lt, mul, ofBits, ofInt}
@@ -19,7 +18,7 @@ use Rattle.endpoint.specs.Record.{batch, producer, atPhase, closed}
 use Rattle.table.specs.declared.Row.the-variants.{AboveOffer}
 use Rattle.table.specs.Table.{dataRow, hearNumber, moved, sendNumber}
 use Rattle.receiving.specs.Refusing.{refused}
-use Rattle.sending.specs.Calls.{Call}
+use Rattle.sending.specs.Calls.{Body, Missing, Given, bodySize, Call, OPEN, READY, DATA, NOOP, CLOSE}
 use Rattle.machine.specs.Programs.{Queued, nothingTold, Told, SendOutcome, ReceiveOutcome, ignored, outcomeOf, Program, tables}
 use Rattle.session.specs.Demand.{DemandOf, asRecords}
 
@@ -93,7 +92,7 @@ megabytes size = div binary64 (ofInt binary64 (pos size)) (ofInt binary64 (pos 1
 
 abbrev pub measured : Endpoint → ReceiveOutcome Endpoint → ReceiveOutcome Endpoint
 measured e done =
-    cond (tellsData (done .told) && lt (keptMegabytes (e .limit)) (megabytes (8 + length (done .told .body))))
+    cond (tellsData (done .told) && lt (keptMegabytes (e .limit)) (megabytes (8 + bodySize (done .told .body))))
     (outcomeOf [] (refused e 16 (typeOf Data)))
     done
 
@@ -115,16 +114,47 @@ readingLowByteFirst =
 abbrev pub ReadingLowByteFirstFails : Type 0
 ReadingLowByteFirstFails = Fails readingLowByteFirst
 
--- ---- five more
+-- ---- seven more
+
+-- the same, but for what is told of a DATA
+abbrev pub tellingOfData : (Told → Told) → Program Endpoint ℕ
+tellingOfData change =
+    changing asGiven (λ e done.
+    record { number = done .number; told = cond (tellsData (done .told)) (change (done .told)) (done .told); replied = done .replied; next = done .next })
 
 -- a DATA is heard, and nothing is told of it
 abbrev pub losingData : Program Endpoint ℕ
-losingData =
-    changing asGiven (λ e done.
-    record { number = done .number; told = cond (tellsData (done .told)) nothingTold (done .told); replied = done .replied; next = done .next })
+losingData = tellingOfData (λ told. nothingTold)
 
 abbrev pub LosingDataFails : Type 0
 LosingDataFails = Fails losingData
+
+-- C-12: "Demand 3 counts a missing and an empty body as different." A missing one is heard as empty
+abbrev pub filled : Body → Body
+filled Missing = Given []
+filled (Given bytes) = Given bytes
+
+abbrev pub hearingMissingAsEmpty : Program Endpoint ℕ
+hearingMissingAsEmpty =
+    tellingOfData (λ told. record { message = told .message; flags = told .flags; type-data = told .type-data; body = filled (told .body) })
+
+abbrev pub HearingMissingAsEmptyFails : Type 0
+HearingMissingAsEmptyFails = Fails hearingMissingAsEmpty
+
+-- and an empty one is sent as missing
+abbrev pub emptied : Call → Call
+emptied (OPEN asked) = OPEN asked
+emptied (READY count) = READY count
+emptied (DATA datum) =
+    DATA (record { type-data = datum .type-data; ask = datum .ask; body = cond (eqb (bodySize (datum .body)) 0) Missing (datum .body) })
+emptied (NOOP type-data ask) = NOOP type-data ask
+emptied (CLOSE code) = CLOSE code
+
+abbrev pub sendingEmptyAsMissing : Program Endpoint ℕ
+sendingEmptyAsMissing = slipping (λ e call out. tables .send e (emptied call) out) (tables .receive)
+
+abbrev pub SendingEmptyAsMissingFails : Type 0
+SendingEmptyAsMissingFails = Fails sendingEmptyAsMissing
 
 -- "k at most n" is asked at neither end: a READY above the offer is sent and heard as one within the greatest offer there is
 abbrev pub raisedIf : Bool → Endpoint → Endpoint
@@ -161,7 +191,7 @@ abbrev pub asClose : Endpoint → ReceiveOutcome Endpoint → ReceiveOutcome End
 asClose e done =
     record {
       number = done .number;
-      told = record { message = typeOf Close; flags = 0; type-data = 0; body = [] };
+      told = record { message = typeOf Close; flags = 0; type-data = 0; body = Missing };
       replied = [];
       next = closed e;
     }
