@@ -19,7 +19,7 @@ use Rattle.receiving.specs.declared.Answer.{Answer}
 use Rattle.receiving.specs.declared.Answer.the-variants.{Heard, Stays, Closes}
 use Rattle.receiving.specs.declared.Received.{Received}
 use Rattle.receiving.specs.Receiving.{answerNumber, replyBytes, receivedOf}
-use Rattle.sending.specs.Calls.{Call, OPEN, READY, DATA, written}
+use Rattle.sending.specs.Calls.{Given, Call, OPEN, READY, DATA, written}
 use Rattle.sending.specs.Sending.{sendOf, leftBy}
 
 pub record Case : Type 0 where
@@ -121,7 +121,7 @@ k8 = record { found = outcome (readyAfterOffer 0); expected = 0 ∷ idle ∷ 0 �
 
 -- a DATA with a body of three bytes
 abbrev pub dataMessage : List ℕ
-dataMessage = written theClient (DATA (record { type-data = 0; ask = false; body = ascii "run" }))
+dataMessage = written theClient (DATA (record { type-data = 0; ask = false; body = Given (ascii "run") }))
 
 -- what becomes of it at the server, with one DATA still to come
 abbrev pub afterData : Received
