@@ -11,6 +11,7 @@ use Rattle.session.specs.World.{Client, Server, Going, WroteClose}
 use Rattle.slips.specs.Slips.{countingConfirmations, CountingConfirmationsFails, readingLowByteFirst, ReadingLowByteFirstFails}
 use Rattle.slips.specs.Slips.{losingData, LosingDataFails, agreeingAboveOffer, AgreeingAboveOfferFails, runningPastCount, RunningPastCountFails}
 use Rattle.slips.specs.Slips.{hearingMissingAsEmpty, HearingMissingAsEmptyFails, sendingEmptyAsMissing, SendingEmptyAsMissingFails}
+use Rattle.slips.specs.Slips.{loweringTwice, LoweringTwiceFails, neverLowering, NeverLoweringFails}
 use Rattle.slips.specs.Slips.{passingOverClose, PassingOverCloseFails, hearingReadyAsClose, HearingReadyAsCloseFails}
 use Rattle.slips.proofs.Runs.{agreeing, at-rest, at-the-end, calls, hears, report, room, running}
 
@@ -63,6 +64,20 @@ running-past-count-fails demand =
     let twice = calls Client (report false (Given [])) ∷ hears Server ∷ calls Client (report false (Given [])) ∷ hears Server ∷ [] in
     let holds = at-the-end runningPastCount demand (agreeing 1 1 twice) (λ w. omega arith) in
     absurd (omega (arith, holds .within))
+
+-- in a batch of 2 one DATA without a body is accepted: at rest the server is idle, or has two to come, and the client is in the batch with one
+
+pub lowering-twice-fails : LoweringTwiceFails
+unfolding running
+lowering-twice-fails demand =
+    let holds = at-the-end loweringTwice demand (agreeing 2 2 (calls Client (report false Missing) ∷ hears Server ∷ [])) (λ w. omega arith) in
+    absurd (omega (arith, holds .same-at-rest (at-rest _ refl refl refl refl) .0))
+
+pub never-lowering-fails : NeverLoweringFails
+unfolding running
+never-lowering-fails demand =
+    let holds = at-the-end neverLowering demand (agreeing 2 2 (calls Client (report false Missing) ∷ hears Server ∷ [])) (λ w. omega arith) in
+    absurd (omega (arith, holds .same-at-rest (at-rest _ refl refl refl refl) .1))
 
 -- in a batch of 2 one DATA is confirmed: the client is idle and waits for an offer, and the server is in the batch and may make none
 pub counting-confirmations-fails : CountingConfirmationsFails

@@ -1,4 +1,4 @@
--- "Slips we have seen", and seven more: each is a program that is the tables but for that slip, and demand 3 fails of it.
+-- "Slips we have seen", and nine more: each is a program that is the tables but for that slip, and demand 3 fails of it.
 -- Two slips of document 01 demand 3 does not see: "Replying to a CLOSE that passes 10..13.", as the reply reaches an end that has itself closed and
 -- passes it over, and "Matching a confirmation to any entry and not the oldest.", as in a session the oldest is the one that comes. The contract of
 -- `fbdp_receive` sees both (`fbdp/specs/Blocks: ReceiveOnBlock`).
@@ -19,6 +19,7 @@ use Rattle.table.specs.declared.Row.the-variants.{AboveOffer}
 use Rattle.table.specs.Table.{dataRow, hearNumber, moved, sendNumber}
 use Rattle.receiving.specs.Refusing.{refused}
 use Rattle.sending.specs.Calls.{Body, Missing, Given, bodySize, Call, OPEN, READY, DATA, NOOP, CLOSE}
+use Rattle.sending.specs.Options.{isMissing}
 use Rattle.machine.specs.Programs.{Queued, nothingTold, Told, SendOutcome, ReceiveOutcome, ignored, outcomeOf, Program, tables}
 use Rattle.session.specs.Demand.{DemandOf, asRecords}
 
@@ -114,7 +115,7 @@ readingLowByteFirst =
 abbrev pub ReadingLowByteFirstFails : Type 0
 ReadingLowByteFirstFails = Fails readingLowByteFirst
 
--- ---- seven more
+-- ---- nine more
 
 -- the same, but for what is told of a DATA
 abbrev pub tellingOfData : (Told → Told) → Program Endpoint ℕ
@@ -178,6 +179,22 @@ runningPastCount = changing (λ e done. sentLeaving (staying e) done) (λ e done
 
 abbrev pub RunningPastCountFails : Type 0
 RunningPastCountFails = Fails runningPastCount
+
+-- C-12: a DATA without a body lowers n twice at the end that hears it, or not at all
+abbrev pub tellsMissing : Told → Bool
+tellsMissing told = tellsData told && isMissing (told .body)
+
+abbrev pub loweringTwice : Program Endpoint ℕ
+loweringTwice = changing asGiven (λ e done. receivedLeaving (loweredIf (tellsMissing (done .told))) done)
+
+abbrev pub LoweringTwiceFails : Type 0
+LoweringTwiceFails = Fails loweringTwice
+
+abbrev pub neverLowering : Program Endpoint ℕ
+neverLowering = changing asGiven (λ e done. receivedLeaving (λ next. cond (tellsMissing (done .told)) (staying e next) next) done)
+
+abbrev pub NeverLoweringFails : Type 0
+NeverLoweringFails = Fails neverLowering
 
 -- a CLOSE is heard, and nothing comes of it
 abbrev pub passingOverClose : Program Endpoint ℕ
