@@ -399,14 +399,17 @@ fn what_asks_is_confirmed_and_heard_with_its_body() {
     assert_eq!(received.out, [&message(NOOP, 2, 0x1234, &[])[..], &[7; 6]].concat());
 }
 
+/// The data frames of a DATA; how many there are, with place and length of the body; and the body.
+type Body<'a> = (&'a [&'a [u8]], [u64; 3], Option<&'a [u8]>);
+
 /// A missing body has no place, and an empty one has the place behind the control frame.
 #[test]
 fn a_missing_body_is_heard_apart_from_an_empty_one() {
     let batch = state(Client, Consumer, Batch);
-    let cases: [(&[&[u8]], [u64; 3], Option<&[u8]>); 3] =
+    let bodies: [Body; 3] =
         [(&[], [0, 0, 0], None), (&[b""], [1, 18, 0], Some(b"")), (&[b"ab"], [1, 18, 2], Some(b"ab"))];
     for flags in [0, ACK_REQUEST] {
-        for (frames, [count, at, length], body) in cases {
+        for (frames, [count, at, length], body) in bodies {
             let message = message(DATA, flags, 5, frames);
             let received = receive_at(&batch, &message);
             let reply = if flags == ACK_REQUEST { 14 } else { 0 };

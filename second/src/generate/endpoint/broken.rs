@@ -133,7 +133,7 @@ fn confirmed_open_or_ready(draft: &mut Draft, _: &mut Random) -> bool {
     matches!(draft.message_type(), OPEN | READY)
 }
 
-/// A DATA without a body may have one, and gets one more than that.
+/// More data frames than the message may have: a DATA without a body gets at least two.
 fn too_many_frames(draft: &mut Draft, random: &mut Random) -> bool {
     let bodiless = draft.message_type() == DATA && !is_confirmation(draft) && draft.parts.bodies.len() == 1;
     for _ in 0..random.choose(&[1, 1, 2, 14]) + usize::from(bodiless) {

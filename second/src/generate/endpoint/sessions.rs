@@ -8,10 +8,11 @@
 //! OPEN for what is not offered and for what comes after its own close; a CLOSE that is heard was written, and one that
 //! was written closes the other end once it has arrived; nothing comes to an end that heard a CLOSE; the data accepted
 //! and the READYs heard are the first of those sent, and all of them where nothing is on its way to an end that has not
-//! itself closed; a body that is missing is accepted as missing, and an empty one as empty; each end sends and accepts no
-//! more than the batches that it agreed to, and none of these is more than its offer; and while neither has closed and nothing is on its way, both have one phase and one count, neither awaits
-//! a confirmation, and one of them may still send something other than NOOP and CLOSE. Now and then, where nothing is
-//! on its way, both ends are made again, and all this holds again from there.
+//! itself closed; a body that is missing is accepted as missing, and an empty one as empty; each end sends and accepts
+//! no more than the batches that it agreed to, and none of these is more than its offer; and while neither has closed
+//! and nothing is on its way, both have one phase and one count, neither awaits a confirmation, and one of them may
+//! still send something other than NOOP and CLOSE. Now and then, where nothing is on its way, both ends are made again,
+//! and all this holds again from there.
 
 use std::collections::VecDeque;
 
