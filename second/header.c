@@ -31,6 +31,8 @@ THREE(fbdp_frame_place, found, at, length);
 THREE(fbdp_value_held, kind, held, length);
 THREE(fbdp_term_place, slice, at, length);
 
+IS(FBDP_INTERFACE, 2);
+
 IS(FBDP_ACCEPTED, 0);
 IS(FBDP_BAD_BLOCK, 1);
 IS(FBDP_NO_ROOM, 2);
@@ -76,6 +78,8 @@ IS(FBDP_READY, 2);
 IS(FBDP_NOOP, 3);
 IS(FBDP_DATA, 4);
 IS(FBDP_CLOSE, 5);
+IS(FBDP_ASK, 1);
+IS(FBDP_NO_BODY, 2);
 IS(FBDP_ACK_REQUEST, 1);
 IS(FBDP_ACK_REPLY, 2);
 IS(FBDP_CLIENT, 1);

@@ -460,11 +460,11 @@ static uint64_t call_send_data(struct call *call)
 {
     const struct room block = lend_in_place(call);
     const uint16_t type_data = (uint16_t)number(call);
-    const uint8_t ask = (uint8_t)number(call);
+    const uint8_t how = (uint8_t)number(call);
     const struct input body = lend_input(call);
     const struct room out = lend_room(call);
     uint64_t *written = lend_numbers(call, 1);
-    return fbdp_send_data(block.bytes, block.length, type_data, ask, body.bytes, body.length, out.bytes, out.length,
+    return fbdp_send_data(block.bytes, block.length, type_data, how, body.bytes, body.length, out.bytes, out.length,
                           written);
 }
 
@@ -472,10 +472,10 @@ static uint64_t call_send_noop(struct call *call)
 {
     const struct room block = lend_in_place(call);
     const uint16_t type_data = (uint16_t)number(call);
-    const uint8_t ask = (uint8_t)number(call);
+    const uint8_t how = (uint8_t)number(call);
     const struct room out = lend_room(call);
     uint64_t *written = lend_numbers(call, 1);
-    return fbdp_send_noop(block.bytes, block.length, type_data, ask, out.bytes, out.length, written);
+    return fbdp_send_noop(block.bytes, block.length, type_data, how, out.bytes, out.length, written);
 }
 
 static uint64_t call_send_close(struct call *call)
@@ -497,6 +497,12 @@ static uint64_t call_receive(struct call *call)
     struct fbdp_heard *heard = lend_numbers(call, HEARD_SLOTS);
     return fbdp_receive(block.bytes, block.length, message.bytes, message.length, name.bytes, name.length, format.bytes,
                         format.length, out.bytes, out.length, heard);
+}
+
+static uint64_t call_interface(struct call *call)
+{
+    (void)call;
+    return fbdp_interface_2();
 }
 
 /* A function's code is its place in this table, as in the second program's own. */
@@ -534,6 +540,7 @@ static uint64_t (*const calls[])(struct call *call) = {
     call_send_noop,
     call_send_close,
     call_receive,
+    call_interface,
 };
 
 /* The first lent argument, counted from 1, that is an input and is no longer what it was; 0 for none. */

@@ -49,9 +49,10 @@ pub enum Function {
     SendNoop,
     SendClose,
     Receive,
+    Interface,
 }
 
-pub const FUNCTION_NAMES: [&str; 33] = [
+pub const FUNCTION_NAMES: [&str; 34] = [
     "fbdp_frame",
     "probe_read8",
     "probe_read16",
@@ -85,6 +86,7 @@ pub const FUNCTION_NAMES: [&str; 33] = [
     "fbdp_send_noop",
     "fbdp_send_close",
     "fbdp_receive",
+    "fbdp_interface_2",
 ];
 
 impl Function {
@@ -144,6 +146,23 @@ pub trait Call {
 
     /// What comes of the call by the model, given what each room held before it.
     fn answer(&self, before: &[Vec<u8>]) -> Answer;
+}
+
+/// The number of the interface, which takes no arguments.
+pub struct Interface;
+
+impl Call for Interface {
+    fn function(&self) -> Function {
+        Function::Interface
+    }
+
+    fn arguments(&self) -> Vec<(&'static str, Argument<'_>)> {
+        Vec::new()
+    }
+
+    fn answer(&self, _: &[Vec<u8>]) -> Answer {
+        Answer::number(2)
+    }
 }
 
 /// The width of a big-endian number.

@@ -10,9 +10,9 @@ mod state;
 
 pub use copies::{made, received, sent};
 pub use histories::{Histories, CLIENT, ENDS, SERVER};
-pub use receive::{receive, Heard};
+pub use receive::{body_heard, receive, Heard};
 pub use rest::{agree_at_rest, send_at_rest};
-pub use send::{send, Send};
+pub use send::{send, Send, ASK, NO_BODY};
 pub use state::{Awaited, Entry, Flow, Phase, Role, State, BLOCK, LIMITS, MOST_AWAITED};
 
 use crate::open::BAD_GIVEN;

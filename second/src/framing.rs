@@ -107,7 +107,7 @@ pub fn parts(call: &dyn Call) -> Vec<Part> {
 #[cfg(test)]
 mod tests {
     use super::*;
-    use crate::calls::{Contents, Make, Receive, SendMessage, Store, Width, WriteOpen};
+    use crate::calls::{Contents, Interface, Make, Receive, SendMessage, Store, Width, WriteOpen};
     use crate::endpoint::{Role, Send};
     use crate::open::Opening;
 
@@ -122,7 +122,8 @@ mod tests {
         let opening = Opening { producer: true, name: b"n".to_vec(), format: Vec::new(), limit: 0 };
         let (block, name, format) = (vec![9; 63], b"n".to_vec(), Vec::new());
         let opens = Send::Open { name: name.clone(), format: format.clone() };
-        let calls: [Box<dyn Call>; 6] = [
+        let calls: [Box<dyn Call>; 7] = [
+            Box::new(Interface),
             Box::new(Contents { bundle: vec![0, 0] }),
             Box::new(Store { width: Width::Two, room: 5, at: 1, number: 0x1234 }),
             Box::new(WriteOpen { room: 7, at: 0, opening }),

@@ -20,7 +20,7 @@ mod texts;
 mod trees;
 mod writers;
 
-use crate::calls::{Call, Contents, FrameAt, HandOut, Line, ReadControl};
+use crate::calls::{Call, Contents, FrameAt, HandOut, Interface, Line, ReadControl};
 use crate::random::Random;
 
 pub type Calls = Vec<Box<dyn Call>>;
@@ -32,6 +32,7 @@ pub struct Set {
 }
 
 pub const EXHAUSTIVE: &[Set] = &[
+    Set { kind: "the number of the interface", make: interface },
     Set { kind: "every place to read from", make: bytes::every_read },
     Set { kind: "every place to store at", make: bytes::every_store },
     Set { kind: "every place to copy to", make: bytes::every_copy },
@@ -86,8 +87,10 @@ pub const EXHAUSTIVE: &[Set] = &[
     Set { kind: "every message to every kind of block", make: endpoint::every::messages },
     Set { kind: "every control byte to every kind of block", make: endpoint::every::control_bytes },
     Set { kind: "every flags byte to every kind of block", make: endpoint::every::flags },
+    Set { kind: "DATA with every number of data frames", make: endpoint::every::bodies },
     Set { kind: "every confirmation", make: endpoint::every::confirmations },
     Set { kind: "every send from every kind of block", make: endpoint::every::sends },
+    Set { kind: "every number that says how to send", make: endpoint::every::options },
     Set { kind: "every code of CLOSE", make: endpoint::every::codes },
     Set { kind: "counts of READY around what is offered", make: endpoint::every::counts },
     Set { kind: "every room for sends and replies", make: endpoint::every::rooms },
@@ -180,6 +183,10 @@ pub const GENERATED: &[Set] = &[
 /// Adds a call.
 fn add(calls: &mut Calls, call: impl Call + 'static) {
     calls.push(Box::new(call));
+}
+
+fn interface(_: &mut Random) -> Calls {
+    vec![Box::new(Interface)]
 }
 
 /// Adds what is asked about a bundle that may be bad: some frame of it, what a reader hands out at some position, its

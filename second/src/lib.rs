@@ -1,4 +1,4 @@
-//! The model: document 01 read on its own, as plain Rust that works in place on what it is lent.
+//! The model: documents 01 and 02 read on their own, as plain Rust that works in place on what it is lent.
 #![forbid(unsafe_code)]
 
 pub mod bundle;

@@ -1,4 +1,5 @@
-//! The second program: document 01 read on its own, and compared call by call with the library that a host holds.
+//! The second program: documents 01 and 02 read on their own, and compared call by call with the library that a host
+//! holds.
 //!
 //! second compare --seed S --calls N -- COMMAND..   compares at least N calls
 //! second speed -- COMMAND..                        times what must not depend on the bodies

@@ -36,7 +36,7 @@ mod declared {
             block: *mut u8,
             block_length: usize,
             type_data: u16,
-            ask: u8,
+            how: u8,
             body: *const u8,
             body_length: usize,
             out: *mut u8,
@@ -48,7 +48,7 @@ mod declared {
             block: *mut u8,
             block_length: usize,
             type_data: u16,
-            ask: u8,
+            how: u8,
             out: *mut u8,
             out_length: usize,
             written: *mut u64,
@@ -100,12 +100,12 @@ pub fn send(block: &mut [u8], send: Send<&[u8]>, out: &mut [u8]) -> Result<usize
                 let (names, formats) = (name.len(), format.len());
                 declared::fbdp_send_open(at, length, name_at, names, format_at, formats, into, room, &mut written)
             }
-            Send::Data { type_data, ask, body } => {
+            Send::Data { type_data, how, body } => {
                 let (body, bytes) = (body.as_ptr(), body.len());
-                declared::fbdp_send_data(at, length, type_data, ask, body, bytes, into, room, &mut written)
+                declared::fbdp_send_data(at, length, type_data, how, body, bytes, into, room, &mut written)
             }
-            Send::Noop { type_data, ask } => {
-                declared::fbdp_send_noop(at, length, type_data, ask, into, room, &mut written)
+            Send::Noop { type_data, how } => {
+                declared::fbdp_send_noop(at, length, type_data, how, into, room, &mut written)
             }
             Send::Ready { .. } | Send::Close { .. } => unreachable!("neither READY nor CLOSE is timed"),
         }

@@ -2,7 +2,7 @@
 
 use std::hint::black_box;
 
-use second::endpoint::{self, Flow, Phase, Role, Send, State, BLOCK};
+use second::endpoint::{self, Flow, Phase, Role, Send, State, ASK, BLOCK};
 use second::open::DEFAULT_LIMIT;
 
 use crate::archive;
@@ -110,14 +110,14 @@ pub fn add_rows(table: &mut Table) -> Result<(), String> {
     let batch = State { phase: Phase::Batch, n: 1000, limit: DEFAULT_LIMIT, ..fresh.clone() };
     for (name, size) in SIZES {
         let body = vec![0x5A; size];
-        let sending = || Sending::new(&batch, Send::Data { type_data: 7, ask: 0, body: &body }, HEAD + size);
+        let sending = || Sending::new(&batch, Send::Data { type_data: 7, how: 0, body: &body }, HEAD + size);
         let title = format!("send DATA, {name}");
         let group = if size >= LARGE { Group::LargeSend } else { Group::Other };
         let mut copying = Copying { sending: sending(), body: &body };
         table.add(group, &title, &mut copying, Copying::ours, ("memcpy", Copying::memcpy))?;
         table.add(Group::Other, &title, &mut sending(), Sending::ours, ("second", Sending::model))?;
     }
-    let mut noop = Sending::new(&batch, Send::Noop { type_data: 7, ask: 1 }, HEAD);
+    let mut noop = Sending::new(&batch, Send::Noop { type_data: 7, how: ASK }, HEAD);
     table.add(Group::Other, "send NOOP that asks", &mut noop, Sending::ours, ("second", Sending::model))?;
     let open = Send::Open { name: PIPE, format: PIPE_FORMAT };
     let mut open = Sending::new(&fresh, open, MOST_OPEN);

@@ -63,12 +63,12 @@ impl Call for SendMessage {
                 arguments.extend([("name", Argument::Input(name)), ("format", Argument::Input(format))]);
             }
             Send::Ready { count } => arguments.push(("count", number(*count))),
-            Send::Data { type_data, ask, body } => {
-                arguments.extend([("type_data", number(*type_data)), ("ask", number((*ask).into()))]);
+            Send::Data { type_data, how, body } => {
+                arguments.extend([("type_data", number(*type_data)), ("how", number((*how).into()))]);
                 arguments.push(("body", Argument::Input(body)));
             }
-            Send::Noop { type_data, ask } => {
-                arguments.extend([("type_data", number(*type_data)), ("ask", number((*ask).into()))]);
+            Send::Noop { type_data, how } => {
+                arguments.extend([("type_data", number(*type_data)), ("how", number((*how).into()))]);
             }
             Send::Close { code } => arguments.push(("code", number(*code))),
         }

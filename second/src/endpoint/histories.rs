@@ -13,8 +13,8 @@ pub const CLIENT: usize = 0;
 pub const SERVER: usize = 1;
 pub const ENDS: [usize; 2] = [CLIENT, SERVER];
 
-/// What a DATA carries: its type-data and its body.
-type Item = (u64, Vec<u8>);
+/// What a DATA carries: its type-data, and its body where it has one. A missing body is another than an empty one.
+type Item = (u64, Option<Vec<u8>>);
 
 /// What one end has sent and heard. Each READY counts where this end sent or heard it.
 #[derive(Clone, Default, PartialEq, Eq, Hash)]
@@ -76,9 +76,9 @@ impl History {
     }
 
     /// A DATA accepted. The data accepted are a leading part of those that the other end sent.
-    fn accept(&mut self, type_data: u64, body: &[u8]) {
+    fn accept(&mut self, type_data: u64, body: Option<&[u8]>) {
         let next = self.due.pop_front();
-        let is_next = matches!(next, Some(sent) if sent.0 == type_data && sent.1 == body);
+        let is_next = matches!(next, Some(sent) if sent.0 == type_data && sent.1.as_deref() == body);
         assert!(is_next, "data are accepted as they were sent");
         self.carry();
     }
@@ -133,9 +133,10 @@ impl Histories {
                 self.note_ready(end, end, u64::from(*count));
                 self.0[1 - end].await_ready(u64::from(*count));
             }
-            Send::Data { type_data, body, .. } => {
+            Send::Data { type_data, .. } => {
+                let body = send.lent().body().map(<[u8]>::to_vec);
                 self.0[end].carry();
-                self.0[1 - end].due.push_back((u64::from(*type_data), body.clone()));
+                self.0[1 - end].due.push_back((u64::from(*type_data), body));
             }
             Send::Close { .. } => self.0[end].close(),
             Send::Open { .. } | Send::Noop { .. } => {}
@@ -162,8 +163,8 @@ impl Histories {
         }
     }
 
-    /// Notes a DATA that an end accepted.
-    pub fn note_accepted(&mut self, end: usize, type_data: u64, body: &[u8]) {
+    /// Notes a DATA that an end accepted, with its body where one was heard.
+    pub fn note_accepted(&mut self, end: usize, type_data: u64, body: Option<&[u8]>) {
         self.0[end].accept(type_data, body);
     }
 

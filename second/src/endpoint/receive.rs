@@ -1,5 +1,7 @@
 //! What an endpoint receives: the tests in their order, what is heard, the reply, and the state after it.
 
+use std::ops::RangeInclusive;
+
 use crate::bundle::{self, Frames, Place, BAD_BUNDLE};
 use crate::control::{self, Control};
 use crate::control::{NO_CONTROL_FRAME, WRONG_TYPE, WRONG_VERSION};
@@ -26,6 +28,7 @@ const MOST_OPEN: u64 = 4096;
 /// parameters and body, and two zeros.
 pub type Heard = [u64; 16];
 const REPLY_SLOT: usize = 3;
+const FRAMES_SLOT: usize = 4;
 const OPEN_SLOTS: usize = 5;
 const BODY_SLOTS: usize = 12;
 
@@ -104,6 +107,12 @@ fn hear(state: &mut State, bytes: &[u8], offer: Offer<&[u8]>, heard: &mut Heard)
     Ok(confirmation(&message.control))
 }
 
+/// The body of a DATA in whose message this was heard; none where it has no data frame.
+pub fn body_heard<'a>(message: &'a [u8], heard: &Heard) -> Option<&'a [u8]> {
+    let (at, length) = (heard[BODY_SLOTS] as usize, heard[BODY_SLOTS + 1] as usize);
+    (heard[FRAMES_SLOT] != 0).then(|| &message[at..at + length])
+}
+
 /// The message, or the first of 10 to 13 that applies.
 fn read(bytes: &[u8]) -> Result<Message<'_>, u64> {
     let mut frames = bundle::frames(bytes).ok_or(BAD_BUNDLE)?;
@@ -117,7 +126,7 @@ fn may_come(state: &State, message: &Message) -> Result<(), u64> {
     if !good_flags(&message.control) {
         return Err(BAD_FLAGS);
     }
-    if message.data_frames.len() != frames_needed(message) {
+    if !frames_allowed(message).contains(&message.data_frames.len()) {
         return Err(WRONG_FRAMES);
     }
     let long_open = message.control.message_type == OPEN && message.data().length > MOST_OPEN;
@@ -139,12 +148,12 @@ fn good_flags(control: &Control) -> bool {
     }
 }
 
-/// How many data frames a message must have.
-fn frames_needed(message: &Message) -> usize {
+/// How many data frames a message may have: a DATA that is no confirmation has a body or none.
+fn frames_allowed(message: &Message) -> RangeInclusive<usize> {
     match message.control.message_type {
-        OPEN => 1,
-        DATA if !message.is_confirmation() => 1,
-        _ => 0,
+        OPEN => 1..=1,
+        DATA if !message.is_confirmation() => 0..=1,
+        _ => 0..=0,
     }
 }
 
@@ -165,7 +174,7 @@ fn allowed(state: &State, message: &Message) -> bool {
 fn hear_any(message: &Message, heard: &mut Heard) {
     let control = &message.control;
     heard[..3].copy_from_slice(&[control.message_type.into(), control.flags.into(), control.type_data.into()]);
-    heard[4] = message.data_frames.len() as u64;
+    heard[FRAMES_SLOT] = message.data_frames.len() as u64;
 }
 
 /// Hears an OPEN, of which socket and places are heard too; else the first of 18 to 22 that applies.

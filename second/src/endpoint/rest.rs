@@ -18,7 +18,7 @@ pub fn send_at_rest(client: &State) -> (Role, Send) {
         Phase::Offer => (Role::Client, Send::Ready { count: client.n }),
         Phase::Batch => {
             let producer = if client.is_producer() { Role::Client } else { Role::Server };
-            (producer, Send::Data { type_data: 0, ask: 0, body: Vec::new() })
+            (producer, Send::Data { type_data: 0, how: 0, body: Vec::new() })
         }
         Phase::Closed => unreachable!("an end that is closed is not at rest"),
     }

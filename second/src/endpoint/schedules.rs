@@ -42,12 +42,15 @@ impl Session {
 
     /// The sends that are tried: first those that keep a session going.
     fn sends(&self, end: usize) -> Vec<Send> {
-        let data = |ask| Send::Data { type_data: self.next_sent, ask, body: Vec::new() };
-        let mut sends = vec![Send::Open { name: b"pipe".to_vec(), format: Vec::new() }, data(0)];
+        let data = |how, body: &[u8]| Send::Data { type_data: self.next_sent, how, body: body.to_vec() };
+        let every_data = |how| [data(how | NO_BODY, b""), data(how, b""), data(how, b"run")];
+        let mut sends = vec![Send::Open { name: b"pipe".to_vec(), format: Vec::new() }];
+        sends.extend(every_data(0));
         sends.extend((0..=2).map(|count| Send::Ready { count }));
-        sends.extend([Send::Noop { type_data: 7, ask: 0 }, Send::Close { code: 0 }]);
+        sends.extend([Send::Noop { type_data: 7, how: 0 }, Send::Close { code: 0 }]);
         if self.blocks[end][3] < MOST_ASKED as u8 {
-            sends.extend([data(1), Send::Noop { type_data: 8, ask: 1 }]);
+            sends.extend(every_data(ASK));
+            sends.push(Send::Noop { type_data: 8, how: ASK });
         }
         sends
     }
@@ -105,8 +108,7 @@ impl Session {
     /// Notes a message that was heard, where it is one.
     fn note_heard(&mut self, end: usize, message: &[u8], heard: &Heard) {
         if heard[0] as u8 == DATA && heard[1] != u64::from(ACK_REPLY) {
-            let body = &message[heard[12] as usize..][..heard[13] as usize];
-            self.histories.note_accepted(end, heard[2], body);
+            self.histories.note_accepted(end, heard[2], body_heard(message, heard));
         } else {
             self.histories.note_heard(end, heard);
         }
@@ -229,7 +231,29 @@ impl Session {
 }
 
 fn data() -> Send {
-    Send::Data { type_data: 0, ask: 0, body: Vec::new() }
+    Send::Data { type_data: 0, how: 0, body: Vec::new() }
+}
+
+fn bodiless() -> Send {
+    Send::Data { type_data: 0, how: NO_BODY, body: Vec::new() }
+}
+
+/// Delivers the message of one send where the client made another.
+fn deliver_instead(sent: &Send, delivered: &Send) {
+    let [sent, delivered] = [sent, delivered].map(|send| in_batch().said(CLIENT, send));
+    Session { inboxes: delivered.inboxes, ..sent }.after_delivery(SERVER);
+}
+
+#[test]
+#[should_panic(expected = "data are accepted as they were sent")]
+fn a_missing_body_that_comes_as_an_empty_one_is_told() {
+    deliver_instead(&bodiless(), &data());
+}
+
+#[test]
+#[should_panic(expected = "data are accepted as they were sent")]
+fn an_empty_body_that_comes_as_a_missing_one_is_told() {
+    deliver_instead(&data(), &bodiless());
 }
 
 #[test]
@@ -269,7 +293,7 @@ fn a_close_that_nobody_wrote_is_told() {
 #[test]
 #[should_panic(expected = "neither end awaits a confirmation")]
 fn a_confirmation_lost_on_its_way_is_told() {
-    in_batch().carried(SERVER, &Send::Noop { type_data: 8, ask: 1 }).losing_all().watch();
+    in_batch().carried(SERVER, &Send::Noop { type_data: 8, how: ASK }).losing_all().watch();
 }
 
 #[test]

@@ -13,13 +13,17 @@ pub const TOO_MANY_ASKS: u64 = 32;
 pub const TOO_LARGE: u64 = 33;
 pub const BAD_CODE: u64 = 35;
 
-/// A send with what the host gives for it. An ask is any number but 0.
+/// The options of a send, bits of `how`: an ask for a confirmation, and DATA without a body. No other bit is looked at.
+pub const ASK: u8 = 1;
+pub const NO_BODY: u8 = 2;
+
+/// A send with what the host gives for it.
 #[derive(Clone, Debug)]
 pub enum Send<Bytes = Vec<u8>> {
     Open { name: Bytes, format: Bytes },
     Ready { count: u16 },
-    Data { type_data: u16, ask: u8, body: Bytes },
-    Noop { type_data: u16, ask: u8 },
+    Data { type_data: u16, how: u8, body: Bytes },
+    Noop { type_data: u16, how: u8 },
     Close { code: u16 },
 }
 
@@ -29,9 +33,19 @@ impl Send {
         match self {
             Send::Open { name, format } => Send::Open { name, format },
             Send::Ready { count } => Send::Ready { count: *count },
-            Send::Data { type_data, ask, body } => Send::Data { type_data: *type_data, ask: *ask, body },
-            Send::Noop { type_data, ask } => Send::Noop { type_data: *type_data, ask: *ask },
+            Send::Data { type_data, how, body } => Send::Data { type_data: *type_data, how: *how, body },
+            Send::Noop { type_data, how } => Send::Noop { type_data: *type_data, how: *how },
             Send::Close { code } => Send::Close { code: *code },
+        }
+    }
+}
+
+impl<'a> Send<&'a [u8]> {
+    /// The body that a DATA is sent with; none where `how` says so, whatever is lent, and none for any other send.
+    pub fn body(&self) -> Option<&'a [u8]> {
+        match *self {
+            Send::Data { how, body, .. } if how & NO_BODY == 0 => Some(body),
+            _ => None,
         }
     }
 }
@@ -72,9 +86,9 @@ fn above_offer(state: &State, send: &Send<&[u8]>) -> bool {
     matches!(send, Send::Ready { count } if state.role == Role::Client && *count > state.n)
 }
 
-/// Only DATA is measured: the OPEN frame that an endpoint writes is always short enough.
+/// Only DATA with a body is measured: whatever else an endpoint writes is always short enough.
 fn too_large(state: &State, send: &Send<&[u8]>) -> bool {
-    matches!(send, Send::Data { body, .. } if CONTROL_FRAME + body.len() > state.limit as usize)
+    matches!(send.body(), Some(body) if CONTROL_FRAME + body.len() > state.limit as usize)
 }
 
 /// Whether role, flow and phase allow a send.
@@ -99,12 +113,12 @@ fn is_code(state: &State, code: u16) -> bool {
 
 /// The entry that a send adds: that of a DATA or NOOP with an ask.
 fn entry(send: &Send<&[u8]>) -> Option<Entry> {
-    let (message_type, type_data, ask) = match send {
-        Send::Data { type_data, ask, .. } => (DATA, *type_data, *ask),
-        Send::Noop { type_data, ask } => (NOOP, *type_data, *ask),
+    let (message_type, type_data, how) = match send {
+        Send::Data { type_data, how, .. } => (DATA, *type_data, *how),
+        Send::Noop { type_data, how } => (NOOP, *type_data, *how),
         Send::Open { .. } | Send::Ready { .. } | Send::Close { .. } => return None,
     };
-    (ask != 0).then_some(Entry { message_type, type_data })
+    (how & ASK != 0).then_some(Entry { message_type, type_data })
 }
 
 /// What an accepted send makes of the state.
@@ -135,7 +149,7 @@ fn write(state: &State, send: &Send<&[u8]>, out: &mut [u8]) -> Result<usize, u64
             bundle::write(out, &control(OPEN, 0), Some(&frame))
         }
         Send::Ready { count } => bundle::write(out, &control(READY, count), None),
-        Send::Data { type_data, body, .. } => bundle::write(out, &control(DATA, type_data), Some(body)),
+        Send::Data { type_data, .. } => bundle::write(out, &control(DATA, type_data), send.body()),
         Send::Noop { type_data, .. } => bundle::write(out, &control(NOOP, type_data), None),
         Send::Close { code } => bundle::write(out, &control(CLOSE, code), None),
     };

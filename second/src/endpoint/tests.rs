@@ -176,17 +176,19 @@ fn awaiting(before: &State, message_type: u8, type_data: u16) -> Awaited {
 }
 
 fn other_rows<'a>() -> Vec<SendRow<'a>> {
-    let data = |ask| Send::Data { type_data: 0x1234, ask, body: b"abc".to_vec() };
-    let noop = |ask| Send::Noop { type_data: 0x1234, ask };
+    let data = |how| Send::Data { type_data: 0x1234, how, body: b"abc".to_vec() };
+    let noop = |how| Send::Noop { type_data: 0x1234, how };
     let sent = |message_type, flags, frames| message(message_type, flags, 0x1234, frames);
     let same: fn(&State) -> State = State::clone;
     let asked_noop = |before: &State| State { awaited: awaiting(before, NOOP, 0x1234), ..before.clone() };
     let asked_data = |before: &State| State { n: 3, awaited: awaiting(before, DATA, 0x1234), ..before.clone() };
     vec![
         (noop(0), ROLES, FLOWS, RUNNING, sent(NOOP, 0, &[]), Box::new(same)),
-        (noop(1), ROLES, FLOWS, RUNNING, sent(NOOP, 1, &[]), Box::new(asked_noop)),
+        (noop(ASK), ROLES, FLOWS, RUNNING, sent(NOOP, 1, &[]), Box::new(asked_noop)),
         (data(0), ROLES, &[Producer], &[Batch], sent(DATA, 0, &[b"abc"]), Box::new(after(Batch, 3))),
-        (data(7), ROLES, &[Producer], &[Batch], sent(DATA, 1, &[b"abc"]), Box::new(asked_data)),
+        (data(ASK), ROLES, &[Producer], &[Batch], sent(DATA, 1, &[b"abc"]), Box::new(asked_data)),
+        (data(NO_BODY), ROLES, &[Producer], &[Batch], sent(DATA, 0, &[]), Box::new(after(Batch, 3))),
+        (data(ASK | NO_BODY), ROLES, &[Producer], &[Batch], sent(DATA, 1, &[]), Box::new(asked_data)),
         (Send::Close { code: 6 }, ROLES, FLOWS, &[Opened, Idle, Offer, Batch], close(6), Box::new(State::closed)),
     ]
 }
@@ -206,6 +208,31 @@ fn each_row_of_sends() {
                 assert_eq!(send_from(&before, &send).number, number, "{send:?} from {before:?}");
             }
         }
+    }
+}
+
+/// A number of DATA is as its two lowest bits, and one of NOOP as its lowest.
+#[test]
+fn other_bits_of_how_are_not_looked_at() {
+    let batch = state(Client, Producer, Batch);
+    let data = |how| send_from(&batch, &Send::Data { type_data: 9, how, body: b"abc".to_vec() });
+    let noop = |how| send_from(&batch, &Send::Noop { type_data: 9, how });
+    for how in 0..=255 {
+        assert_eq!(data(how), data(how & (ASK | NO_BODY)), "{how}");
+        assert_eq!(noop(how), noop(how & ASK), "{how}");
+    }
+}
+
+/// The messages of DATA without a body and with an empty one, each in the room that it needs and in a byte less.
+#[test]
+fn a_missing_body_is_no_data_frame_and_an_empty_one_is() {
+    let batch = state(Server, Producer, Batch).block();
+    for (how, lent, needed) in [(NO_BODY, &b""[..], 14), (NO_BODY, b"abc", 14), (0, b"", 18), (0, b"abc", 21)] {
+        let send = Send::Data { type_data: 1, how, body: lent.to_vec() };
+        assert_eq!(super::sent(&batch, &send, &vec![7; needed - 1]).number, 2);
+        let sent = super::sent(&batch, &send, &vec![7; needed]);
+        let frames: &[&[u8]] = if how == NO_BODY { &[] } else { &[lent] };
+        assert_eq!((sent.number, sent.written, sent.out), (0, needed as u64, message(DATA, 0, 1, frames)));
     }
 }
 
@@ -235,11 +262,15 @@ fn open_is_sent_by_a_fresh_client_alone() {
 #[test]
 fn the_last_data_of_a_batch_leaves_an_idle_endpoint() {
     let last = State { n: 1, ..state(Server, Producer, Batch) };
-    let sent = send_from(&last, &Send::Data { type_data: 0, ask: 0, body: Vec::new() });
-    assert_eq!((sent.number, sent.block), (0, after(Idle, 0)(&last).block()));
+    for how in [0, NO_BODY] {
+        let sent = send_from(&last, &Send::Data { type_data: 0, how, body: Vec::new() });
+        assert_eq!((sent.number, sent.block), (0, after(Idle, 0)(&last).block()));
+    }
     let last = State { n: 1, ..state(Client, Consumer, Batch) };
-    let received = receive_at(&last, &message(DATA, 0, 0, &[b""]));
-    assert_eq!((received.number, received.block), (0, after(Idle, 0)(&last).block()));
+    for message in [message(DATA, 0, 0, &[]), message(DATA, 0, 0, &[b""])] {
+        let received = receive_at(&last, &message);
+        assert_eq!((received.number, received.block), (0, after(Idle, 0)(&last).block()));
+    }
 }
 
 #[test]
@@ -268,15 +299,18 @@ fn sends_test_3_30_31_32_33_34_35_2_in_this_order() {
         sent.number
     };
     let full = [Entry { message_type: NOOP, type_data: 1 }; 16].into_iter().collect();
-    let over = Send::Data { type_data: 0, ask: 1, body: vec![0; 1_999_993] };
+    let data = |how, length| Send::Data { type_data: 0, how, body: vec![0; length] };
+    let over = data(ASK, 1_999_993);
     let batch = State { awaited: full, ..state(Client, Producer, Batch) };
     assert_eq!(refused(&State { flow: Consumer, ..batch.clone() }, &over, 0), 30);
     assert_eq!(refused(&batch, &over, 0), 32);
     assert_eq!(refused(&state(Client, Producer, Batch), &over, 0), 33);
-    assert_eq!(refused(&batch, &Send::Data { type_data: 0, ask: 0, body: vec![0; 1_999_993] }, 0), 33);
-    assert_eq!(refused(&batch, &Send::Data { type_data: 0, ask: 0, body: vec![0; 1_999_992] }, 2_000_009), 2);
-    assert_eq!(refused(&batch, &Send::Noop { type_data: 0, ask: 1 }, 0), 32);
-    assert_eq!(refused(&batch, &Send::Noop { type_data: 0, ask: 0 }, 13), 2);
+    assert_eq!(refused(&batch, &data(0, 1_999_993), 0), 33);
+    assert_eq!(refused(&batch, &data(0, 1_999_992), 2_000_009), 2);
+    assert_eq!(refused(&batch, &data(ASK | NO_BODY, 1_999_993), 0), 32);
+    assert_eq!(refused(&batch, &data(NO_BODY, 1_999_993), 13), 2);
+    assert_eq!(refused(&batch, &Send::Noop { type_data: 0, how: ASK }, 0), 32);
+    assert_eq!(refused(&batch, &Send::Noop { type_data: 0, how: 0 }, 13), 2);
     assert_eq!(refused(&state(Client, Producer, Offer), &Send::Ready { count: 5 }, 0), 31);
     assert_eq!(refused(&state(Client, Producer, Offer), &Send::Ready { count: 4 }, 13), 2);
     assert_eq!(refused(&state(Server, Producer, Idle), &Send::Ready { count: 65_535 }, 13), 2);
@@ -306,6 +340,7 @@ fn receive_rows<'a>() -> Vec<ReceiveRow<'a>> {
         (ready(3), &[Server], FLOWS, &[Offer], Box::new(after(Batch, 3))),
         (ready(4), &[Server], FLOWS, &[Offer], Box::new(after(Batch, 4))),
         (message(DATA, 0, 1, &[b"ab"]), ROLES, &[Consumer], &[Batch], Box::new(after(Batch, 3))),
+        (message(DATA, 0, 1, &[]), ROLES, &[Consumer], &[Batch], Box::new(after(Batch, 3))),
         (message(NOOP, 0, 1, &[]), ROLES, FLOWS, RUNNING, Box::new(same)),
         (message(NOOP, 2, 0x0102, &[]), ROLES, FLOWS, RUNNING, Box::new(confirmed)),
         (message(CLOSE, 0, 3, &[]), ROLES, FLOWS, any, Box::new(State::closed)),
@@ -364,6 +399,27 @@ fn what_asks_is_confirmed_and_heard_with_its_body() {
     assert_eq!(received.out, [&message(NOOP, 2, 0x1234, &[])[..], &[7; 6]].concat());
 }
 
+/// The data frames of a DATA; how many there are, with place and length of the body; and the body.
+type Body<'a> = (&'a [&'a [u8]], [u64; 3], Option<&'a [u8]>);
+
+/// A missing body has no place, and an empty one has the place behind the control frame.
+#[test]
+fn a_missing_body_is_heard_apart_from_an_empty_one() {
+    let batch = state(Client, Consumer, Batch);
+    let bodies: [Body; 3] =
+        [(&[], [0, 0, 0], None), (&[b""], [1, 18, 0], Some(b"")), (&[b"ab"], [1, 18, 2], Some(b"ab"))];
+    for flags in [0, ACK_REQUEST] {
+        for (frames, [count, at, length], body) in bodies {
+            let message = message(DATA, flags, 5, frames);
+            let received = receive_at(&batch, &message);
+            let reply = if flags == ACK_REQUEST { 14 } else { 0 };
+            let heard = [4, flags.into(), 5, reply, count, 0, 0, 0, 0, 0, 0, 0, at, length, 0, 0];
+            assert_eq!((received.number, received.heard), (0, heard));
+            assert_eq!(body_heard(&message, &received.heard), body);
+        }
+    }
+}
+
 /// Only NOOP and DATA are confirmed.
 #[test]
 fn asks_of_other_messages_are_ignored() {
@@ -406,10 +462,12 @@ fn flow_refusals() -> Vec<Refusal> {
         (offer.clone(), message(READY, 0, 0, &[b""]), 15, 1),
         (batch.clone(), message(NOOP, 0, 0, &[b""]), 15, 1),
         (batch.clone(), message(NOOP, 2, 0x0102, &[b""]), 15, 1),
-        (batch.clone(), message(DATA, 0, 0, &[]), 15, 1),
         (batch.clone(), message(DATA, 0, 0, &[b"", b""]), 15, 1),
+        (batch.clone(), message(DATA, 1, 0, &[b"", b"", b""]), 15, 1),
+        (batch.clone(), message(DATA, 2, 0x0102, &[b""]), 15, 1),
         (batch.clone(), message(DATA, 0, 0, &[&[0; 1_999_993]]), 16, 2),
         (offer.clone(), message(DATA, 0, 0, &[b""]), 17, 2),
+        (offer.clone(), message(DATA, 0, 0, &[]), 17, 2),
         (offer, message(READY, 0, 5, &[]), 23, 2),
         (batch.clone(), message(NOOP, 2, 0x0201, &[]), 24, 2),
         (batch, message(DATA, 2, 0x0102, &[]), 24, 2),
@@ -487,6 +545,8 @@ fn receives_test_14_to_17_in_this_order() {
     assert_eq!(number_at(&idle, &message(DATA, 1, 0, &[&large, b""])), 15);
     assert_eq!(number_at(&idle, &message(DATA, 1, 0, &[&large])), 16);
     assert_eq!(number_at(&idle, &message(DATA, 1, 0, &[&large[1..]])), 17);
+    assert_eq!(number_at(&idle, &message(DATA, 3, 0, &[])), 14);
+    assert_eq!(number_at(&idle, &message(DATA, 1, 0, &[])), 17);
     assert_eq!(number_at(&idle, &message(CLOSE, 7, 0, &[&large, b""])), 0);
 }
 

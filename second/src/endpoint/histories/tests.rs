@@ -1,14 +1,23 @@
 //! Tests of the watch: histories that break one clause each, and ones that come close and break none.
 
 use super::*;
-use crate::endpoint::DATA;
+use crate::endpoint::{DATA, NO_BODY};
 
 fn ready(count: u16) -> Send {
     Send::Ready { count }
 }
 
 fn data(type_data: u16) -> Send {
-    Send::Data { type_data, ask: 0, body: b"run".to_vec() }
+    Send::Data { type_data, how: 0, body: b"run".to_vec() }
+}
+
+/// A DATA without a body, to which one is lent all the same.
+fn bodiless() -> Send {
+    Send::Data { type_data: 0, how: NO_BODY, body: b"run".to_vec() }
+}
+
+fn empty() -> Send {
+    Send::Data { type_data: 0, how: 0, body: Vec::new() }
 }
 
 /// What is heard with a message of this type and type-data.
@@ -39,11 +48,16 @@ fn with_readys(server: &[u16], client: &[u16]) -> Histories {
     histories
 }
 
+/// Histories with a batch of two, of which an end has sent this one.
+fn with_sent(sender: usize, data: &Send) -> Histories {
+    let mut histories = with_readys(&[2], &[2]);
+    histories.note_sent(sender, data);
+    histories
+}
+
 /// Histories with a batch of two, of which an end has sent the first.
 fn with_data_sent(sender: usize) -> Histories {
-    let mut histories = with_readys(&[2], &[2]);
-    histories.note_sent(sender, &data(0));
-    histories
+    with_sent(sender, &data(0))
 }
 
 /// How many messages are on their way to each end, where one is on its way to this end.
@@ -56,7 +70,7 @@ fn data_on_their_way_and_data_accepted_are_not_lost() {
     for sender in ENDS {
         let mut histories = with_data_sent(sender);
         histories.watch(one_on_its_way(1 - sender));
-        histories.note_accepted(1 - sender, 0, b"run");
+        histories.note_accepted(1 - sender, 0, Some(b"run"));
         histories.watch([0; 2]);
     }
 }
@@ -245,15 +259,58 @@ fn readys_are_not_heard_with_another_count() {
 fn data_are_not_accepted_out_of_order() {
     let mut histories = with_data_sent(CLIENT);
     histories.note_sent(CLIENT, &data(1));
-    histories.note_accepted(SERVER, 1, b"run");
+    histories.note_accepted(SERVER, 1, Some(b"run"));
 }
 
 #[test]
 #[should_panic(expected = "data are accepted as they were sent")]
 fn data_are_not_accepted_twice() {
     let mut histories = with_data_sent(CLIENT);
-    histories.note_accepted(SERVER, 0, b"run");
-    histories.note_accepted(SERVER, 0, b"run");
+    histories.note_accepted(SERVER, 0, Some(b"run"));
+    histories.note_accepted(SERVER, 0, Some(b"run"));
+}
+
+#[test]
+fn bodies_are_accepted_as_they_were_sent() {
+    let bodies: [(Send, Option<&[u8]>); 3] = [(bodiless(), None), (empty(), Some(b"")), (data(0), Some(b"run"))];
+    for sender in ENDS {
+        for (data, body) in &bodies {
+            let mut histories = with_sent(sender, data);
+            histories.note_accepted(1 - sender, 0, *body);
+            histories.watch([0; 2]);
+        }
+    }
+}
+
+#[test]
+#[should_panic(expected = "data are accepted as they were sent")]
+fn a_missing_body_is_not_accepted_as_an_empty_one() {
+    with_sent(CLIENT, &bodiless()).note_accepted(SERVER, 0, Some(b""));
+}
+
+/// What was lent beside it is no part of the data sent.
+#[test]
+#[should_panic(expected = "data are accepted as they were sent")]
+fn a_missing_body_is_not_accepted_as_the_one_that_was_lent() {
+    with_sent(SERVER, &bodiless()).note_accepted(CLIENT, 0, Some(b"run"));
+}
+
+#[test]
+#[should_panic(expected = "data are accepted as they were sent")]
+fn an_empty_body_is_not_accepted_as_a_missing_one() {
+    with_sent(CLIENT, &empty()).note_accepted(SERVER, 0, None);
+}
+
+#[test]
+#[should_panic(expected = "data are accepted as they were sent")]
+fn a_body_is_not_accepted_as_a_missing_one() {
+    with_sent(SERVER, &data(0)).note_accepted(CLIENT, 0, None);
+}
+
+#[test]
+#[should_panic(expected = "data are accepted as they were sent")]
+fn a_body_is_not_accepted_as_an_empty_one() {
+    with_sent(CLIENT, &data(0)).note_accepted(SERVER, 0, Some(b""));
 }
 
 #[test]
@@ -264,7 +321,7 @@ fn as_many_data_as_agreed_are_sent_and_accepted() {
         note_readys(&mut histories, CLIENT, &[2]);
         for number in batch {
             histories.note_sent(SERVER, &data(number));
-            histories.note_accepted(CLIENT, number.into(), b"run");
+            histories.note_accepted(CLIENT, number.into(), Some(b"run"));
         }
     }
 }
@@ -284,7 +341,7 @@ fn an_end_accepts_no_more_than_it_agreed_to() {
     let mut histories = with_readys(&[2], &[]);
     histories.note_sent(CLIENT, &ready(2));
     histories.note_sent(CLIENT, &data(0));
-    histories.note_accepted(SERVER, 0, b"run");
+    histories.note_accepted(SERVER, 0, Some(b"run"));
 }
 
 #[test]
@@ -294,7 +351,7 @@ fn data_sent_and_data_accepted_count_together() {
     for end in ENDS {
         histories.note_sent(end, &data(0));
     }
-    histories.note_accepted(CLIENT, 0, b"run");
+    histories.note_accepted(CLIENT, 0, Some(b"run"));
 }
 
 #[test]

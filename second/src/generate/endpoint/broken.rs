@@ -30,7 +30,7 @@ const CAUSES: &[Cause] = &[
     Cause { number: 14, make: unknown_flags },
     Cause { number: 14, make: both_flags },
     Cause { number: 14, make: confirmed_open_or_ready },
-    Cause { number: 15, make: one_frame_more },
+    Cause { number: 15, make: too_many_frames },
     Cause { number: 15, make: no_frame },
     Cause { number: 16, make: long_open },
     Cause { number: 16, make: long_open_elsewhere },
@@ -133,17 +133,19 @@ fn confirmed_open_or_ready(draft: &mut Draft, _: &mut Random) -> bool {
     matches!(draft.message_type(), OPEN | READY)
 }
 
-fn one_frame_more(draft: &mut Draft, random: &mut Random) -> bool {
-    for _ in 0..random.choose(&[1, 1, 2, 14]) {
+/// More data frames than the message may have: a DATA without a body gets at least two.
+fn too_many_frames(draft: &mut Draft, random: &mut Random) -> bool {
+    let bodiless = draft.message_type() == DATA && !is_confirmation(draft) && draft.parts.bodies.len() == 1;
+    for _ in 0..random.choose(&[1, 1, 2, 14]) + usize::from(bodiless) {
         let length = random.choose(&[0, 1, 8]);
         draft.push_frame(random.bytes(length));
     }
     draft.message_type() != CLOSE
 }
 
-/// An OPEN or DATA without its data frame.
+/// An OPEN without its data frame.
 fn no_frame(draft: &mut Draft, _: &mut Random) -> bool {
-    if draft.message_type() == CLOSE || draft.parts.bodies.len() != 2 {
+    if draft.message_type() != OPEN || draft.parts.bodies.len() != 2 {
         return false;
     }
     draft.pop_frame();

@@ -1,6 +1,7 @@
 //! Messages before they are put together, each with the endpoint that it comes to; and those that are valid there.
 
 use super::blocks::{self, good_in, type_data};
+use super::sends::body;
 use super::{reply_room, MOST_OPEN, REPLY};
 use crate::calls::Receive;
 use crate::control::{SIGNATURE, VERSION};
@@ -135,13 +136,15 @@ fn ready_to_server(random: &mut Random) -> Draft {
     Draft::new(state, READY, flags, count, random)
 }
 
+/// A DATA with a body, often an empty one, or without.
 fn data(random: &mut Random) -> Draft {
     let role = random.choose(&Role::ALL);
     let state = good_in(random, role, Flow::Consumer, Phase::Batch);
     let flags = random.choose(&[0, ACK_REQUEST]);
     let mut draft = Draft::new(state, DATA, flags, type_data(random), random);
-    let length = if random.one_in(20) { random.between(100, 600) } else { random.between(0, 20) };
-    draft.push_frame(random.bytes(length));
+    if !random.one_in(3) {
+        draft.push_frame(body(random));
+    }
     draft
 }
 

@@ -6,7 +6,7 @@ use super::sends::{needed, one_of_each};
 use super::{blocks, REPLY};
 use crate::calls::SendMessage;
 use crate::endpoint::{Entry, Flow, Phase, Role, Send, State, MOST_AWAITED};
-use crate::endpoint::{ACK_REPLY, DATA, NOOP, OPEN};
+use crate::endpoint::{ACK_REPLY, ACK_REQUEST, DATA, NOOP, OPEN};
 use crate::generate::{add, Calls};
 use crate::open::{self, Opening};
 use crate::random::Random;
@@ -54,7 +54,7 @@ fn message(state: &State, control: (u8, u8, u16), frames: usize, random: &mut Ra
     let (message_type, flags, type_data) = control;
     let mut draft = Draft::new(state.clone(), message_type, flags, type_data, random);
     draft.name = NAME.to_vec();
-    for frame in [open_frame(state), Vec::new()].into_iter().take(frames) {
+    for frame in [open_frame(state), Vec::new(), Vec::new()].into_iter().take(frames) {
         draft.push_frame(frame);
     }
     draft
@@ -70,7 +70,7 @@ pub fn messages(random: &mut Random) -> Calls {
         every_type_data.dedup();
         for message_type in 0..=6 {
             for flags in [0, 1, 2, 3, 4, 255] {
-                for frames in 0..=2 {
+                for frames in 0..=3 {
                     for type_data in &every_type_data {
                         let control = (message_type, flags, *type_data);
                         add(&mut calls, message(&state, control, frames, random).call(REPLY));
@@ -97,15 +97,36 @@ pub fn control_bytes(random: &mut Random) -> Calls {
     calls
 }
 
-/// Every flags byte on every type, with the data frames that the type needs.
+/// Every flags byte on every type, alone and with a data frame.
 pub fn flags(random: &mut Random) -> Calls {
     let mut calls = Calls::new();
     for state in every_phase(random) {
         for flags in 0..=255 {
             for message_type in 1..=5 {
-                let frames = usize::from(message_type == OPEN || message_type == DATA && flags & ACK_REPLY == 0);
-                let control = (message_type, flags, 0);
-                add(&mut calls, message(&state, control, frames, random).call(REPLY));
+                for frames in 0..=1 {
+                    let control = (message_type, flags, 0);
+                    add(&mut calls, message(&state, control, frames, random).call(REPLY));
+                }
+            }
+        }
+    }
+    calls
+}
+
+/// DATA with up to three data frames, each of them empty or not, and with flags of every kind.
+pub fn bodies(random: &mut Random) -> Calls {
+    let mut calls = Calls::new();
+    for state in every_state(random) {
+        let type_data = state.awaited.oldest().map_or(7, |entry| entry.type_data);
+        for flags in [0, ACK_REQUEST, ACK_REPLY, ACK_REQUEST | ACK_REPLY, 4] {
+            for frames in 0..=3 {
+                for given in 0..1 << frames {
+                    let mut draft = Draft::new(state.clone(), DATA, flags, type_data, random);
+                    (0..frames).for_each(|frame| draft.push_frame(vec![0x5A; 3 * (given >> frame & 1)]));
+                    for room in [REPLY - 1, REPLY, REPLY + 1] {
+                        add(&mut calls, draft.call(room));
+                    }
+                }
             }
         }
     }
@@ -135,6 +156,12 @@ pub fn confirmations(random: &mut Random) -> Calls {
     calls
 }
 
+/// A DATA with an empty body and with another, and a NOOP, all sent so.
+fn data_and_noop(how: u8) -> [Send; 3] {
+    let data = |body: &[u8]| Send::Data { type_data: 0x1234, how, body: body.to_vec() };
+    [data(&[]), data(&[1, 2, 3]), Send::Noop { type_data: 0x1234, how }]
+}
+
 /// The sends that are tried from every state.
 fn every_send(state: &State) -> Vec<Send> {
     let mut sends = Vec::new();
@@ -144,11 +171,8 @@ fn every_send(state: &State) -> Vec<Send> {
     for count in [0, 1, state.n.saturating_sub(1), state.n, state.n.saturating_add(1), 65_535] {
         sends.push(Send::Ready { count });
     }
-    for ask in [0, 1, 255] {
-        for body in [&[][..], &[1, 2, 3]] {
-            sends.push(Send::Data { type_data: 0x1234, ask, body: body.to_vec() });
-        }
-        sends.push(Send::Noop { type_data: 0x1234, ask });
+    for how in [0, 1, 2, 3, 254, 255] {
+        sends.extend(data_and_noop(how));
     }
     for code in [0, 6, 7, 100, 103, 104] {
         sends.push(Send::Close { code });
@@ -163,6 +187,20 @@ pub fn sends(random: &mut Random) -> Calls {
         for send in every_send(&state) {
             let needed = needed(&state, &send);
             for room in [0, needed - 1, needed, needed + 1, needed + 30] {
+                add(&mut calls, SendMessage { block: state.block(), send: send.clone(), room });
+            }
+        }
+    }
+    calls
+}
+
+/// Every number that says how DATA and NOOP are sent, in rooms around what is needed.
+pub fn options(random: &mut Random) -> Calls {
+    let mut calls = Calls::new();
+    for state in every_state(random).into_iter().filter(|state| state.n <= 1) {
+        for send in (0..=255).flat_map(data_and_noop) {
+            let needed = needed(&state, &send);
+            for room in [needed - 1, needed, needed + 1] {
                 add(&mut calls, SendMessage { block: state.block(), send: send.clone(), room });
             }
         }

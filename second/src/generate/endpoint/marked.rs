@@ -1,7 +1,8 @@
-//! The marked cases and the slips of document 01, as calls; the model must answer each of them as it is told there.
+//! The marked cases and the slips of document 01, and the case of C-12 in document 02, as calls; the model must answer
+//! each of them as it is told there.
 
 use crate::calls::{Receive, SendMessage};
-use crate::endpoint::{self, Awaited, Entry, Flow, Phase, Role, Send, State, DATA, NOOP};
+use crate::endpoint::{self, Awaited, Entry, Flow, Phase, Role, Send, State, ASK, DATA, NOOP, NO_BODY};
 use crate::generate::{add, Calls};
 use crate::random::Random;
 
@@ -74,7 +75,7 @@ fn ready_and_noop(calls: &mut Calls) {
             let (asked, confirmed) = (alone(0x19, 1, [0x12, 0x34]), alone(0x19, 2, [0x12, 0x34]));
             let any = state(Role::Client, flow, phase, n);
             let awaits = awaiting(&any, &[(NOOP, 0x1234)]);
-            sent(calls, &any, Send::Noop { type_data: 0x1234, ask: 1 }, 0, &awaits, &asked);
+            sent(calls, &any, Send::Noop { type_data: 0x1234, how: ASK }, 0, &awaits, &asked);
             received(calls, &any, &asked, 0, &any, &confirmed);
             received(calls, &awaits, &confirmed, 0, &any, &[]);
         }
@@ -124,7 +125,7 @@ fn batches(calls: &mut Calls) {
         received(calls, &idle, &message, 17, &idle.closed(), &close(2));
         let producer = state(role, Flow::Producer, Phase::Batch, 1);
         let idle = state(role, Flow::Producer, Phase::Idle, 0);
-        let send = Send::Data { type_data: 9, ask: 0, body: b"sheet".to_vec() };
+        let send = Send::Data { type_data: 9, how: 0, body: b"sheet".to_vec() };
         sent(calls, &producer, send.clone(), 0, &idle, &message);
         sent(calls, &idle, send, 30, &idle, &[]);
     }
@@ -167,15 +168,42 @@ fn limits(calls: &mut Calls) {
     for role in Role::ALL {
         let producer = state(role, Flow::Producer, Phase::Batch, 3);
         let just = vec![1; 999_992];
-        let send = Send::Data { type_data: 0, ask: 1, body: just.clone() };
+        let send = Send::Data { type_data: 0, how: ASK, body: just.clone() };
         let after = awaiting(&State { n: 2, ..producer.clone() }, &[(DATA, 0)]);
         sent(calls, &producer, send, 0, &after, &data(1, [0, 0], &just));
         let over = vec![1; 999_993];
-        sent(calls, &producer, Send::Data { type_data: 0, ask: 1, body: over.clone() }, 33, &producer, &[]);
+        sent(calls, &producer, Send::Data { type_data: 0, how: ASK, body: over.clone() }, 33, &producer, &[]);
         let consumer = state(role, Flow::Consumer, Phase::Batch, 3);
         let after = State { n: 2, ..consumer.clone() };
         received(calls, &consumer, &data(1, [0, 7], &just), 0, &after, &alone(0x21, 2, [0, 7]));
         received(calls, &consumer, &data(1, [0, 7], &over), 16, &consumer.closed(), &close(2));
+    }
+}
+
+/// C-12: DATA without a data frame is sent and heard, apart from DATA with an empty one; only two or more are refused.
+fn reports_without_a_body(calls: &mut Calls) {
+    let (missing, empty) = (alone(0x21, 0, [0, 9]), data(0, [0, 9], b""));
+    let two = [&[0, 3, 0, 0, 0, 8, 0, 0, 0, 0, 0, 0, 0, 0], &b"FBDP\x21\0\0\x09"[..]].concat();
+    let send = |how, body: &[u8]| Send::Data { type_data: 9, how, body: body.to_vec() };
+    for role in Role::ALL {
+        let producer = state(role, Flow::Producer, Phase::Batch, 3);
+        let after = State { n: 2, ..producer.clone() };
+        for (how, lent) in [(NO_BODY, &b""[..]), (NO_BODY, b"sheet"), (NO_BODY, &[1; 999_993]), (254, b"sheet")] {
+            sent(calls, &producer, send(how, lent), 0, &after, &missing);
+        }
+        sent(calls, &producer, send(0, b""), 0, &after, &empty);
+        let awaits = awaiting(&after, &[(DATA, 9)]);
+        sent(calls, &producer, send(ASK | NO_BODY, b"sheet"), 0, &awaits, &alone(0x21, 1, [0, 9]));
+        let consumer = state(role, Flow::Consumer, Phase::Batch, 3);
+        let after = State { n: 2, ..consumer.clone() };
+        for (message, [frames, at]) in [(&missing, [0, 0]), (&empty, [1, 18])] {
+            received(calls, &consumer, message, 0, &after, &[]);
+            let heard = endpoint::received(&consumer.block(), message, b"", b"", &[0; 14]).heard;
+            assert_eq!([heard[4], heard[12], heard[13]], [frames, at, 0]);
+            received(calls, &producer, message, 17, &producer.closed(), &close(2));
+        }
+        received(calls, &consumer, &alone(0x21, 1, [0, 9]), 0, &after, &alone(0x21, 2, [0, 9]));
+        received(calls, &consumer, &two, 15, &consumer.closed(), &close(1));
     }
 }
 
@@ -196,7 +224,7 @@ fn byte_order(calls: &mut Calls) {
     sent(calls, &offer, Send::Ready { count: 1 }, 0, &offer.after_ready(1, Phase::Batch), &alone(0x11, 0, [0, 1]));
     let awaits = awaiting(&client, &[(NOOP, 0x0100)]);
     assert_eq!(awaits.block()[16..19], [3, 1, 0]);
-    sent(calls, &client, Send::Noop { type_data: 0x0100, ask: 255 }, 0, &awaits, &alone(0x19, 1, [1, 0]));
+    sent(calls, &client, Send::Noop { type_data: 0x0100, how: 255 }, 0, &awaits, &alone(0x19, 1, [1, 0]));
 }
 
 pub fn cases(_: &mut Random) -> Calls {
@@ -208,6 +236,7 @@ pub fn cases(_: &mut Random) -> Calls {
     bundles_and_closes(&mut calls);
     confirmations(&mut calls);
     limits(&mut calls);
+    reports_without_a_body(&mut calls);
     byte_order(&mut calls);
     calls
 }

@@ -3,20 +3,26 @@
 use super::blocks::{self, type_data};
 use super::{room_for, REPLY};
 use crate::calls::SendMessage;
-use crate::endpoint::{self, Flow, Phase, Role, Send, State, MOST_AWAITED};
+use crate::endpoint::{self, Flow, Phase, Role, Send, State, ASK, MOST_AWAITED, NO_BODY};
 use crate::generate::open::writers::given_text;
 use crate::generate::open::{other_text, short_text};
 use crate::generate::{add, texts, Calls};
 use crate::open::MOST_TEXT;
 use crate::random::Random;
 
-/// An ask, which any number but 0 is; or none.
-fn ask(random: &mut Random) -> u8 {
-    random.choose(&[0, 0, 0, 1, 1, 2, 128, 255])
+/// The bits of `how` that no send has an option for: mostly none of them.
+pub fn unknown_options(random: &mut Random) -> u8 {
+    let any = random.byte() & !(ASK | NO_BODY);
+    random.choose(&[0, 0, 0, 0, 4, 128, !(ASK | NO_BODY), any])
+}
+
+/// A `how` with each option in half of the cases.
+fn how(random: &mut Random) -> u8 {
+    random.choose(&[0, ASK, NO_BODY, ASK | NO_BODY]) | unknown_options(random)
 }
 
 /// A body: mostly short, often empty.
-fn body(random: &mut Random) -> Vec<u8> {
+pub fn body(random: &mut Random) -> Vec<u8> {
     let length = match random.between(0, 19) {
         0 => random.between(100, 700),
         1..=6 => 0,
@@ -31,11 +37,11 @@ fn open(random: &mut Random) -> Send {
 }
 
 fn data(random: &mut Random) -> Send {
-    Send::Data { type_data: type_data(random), ask: ask(random), body: body(random) }
+    Send::Data { type_data: type_data(random), how: how(random), body: body(random) }
 }
 
 fn noop(random: &mut Random) -> Send {
-    Send::Noop { type_data: type_data(random), ask: ask(random) }
+    Send::Noop { type_data: type_data(random), how: how(random) }
 }
 
 fn close(random: &mut Random) -> Send {
@@ -132,8 +138,8 @@ fn off_by_a_step(random: &mut Random, state: &State) -> Send {
             let n = state.n;
             Send::Ready { count: random.choose(&[n.saturating_add(1), n.saturating_sub(1), n.swap_bytes(), u16::MAX]) }
         }
-        2 => Send::Data { type_data: type_data(random), ask: random.choose(&[1, 2, 255]), body: body(random) },
-        3 => Send::Noop { type_data: type_data(random), ask: random.choose(&[1, 2, 255]) },
+        2 => Send::Data { type_data: type_data(random), how: random.choose(&[1, 2, 3, 254, 255]), body: body(random) },
+        3 => Send::Noop { type_data: type_data(random), how: random.choose(&[1, 2, 3, 254, 255]) },
         _ => Send::Close { code: random.choose(&[6, 7, 8, 99, 100, 101, 102, 103, 104, 256, 259, 356, u16::MAX]) },
     }
 }

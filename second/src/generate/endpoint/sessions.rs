@@ -8,17 +8,18 @@
 //! OPEN for what is not offered and for what comes after its own close; a CLOSE that is heard was written, and one that
 //! was written closes the other end once it has arrived; nothing comes to an end that heard a CLOSE; the data accepted
 //! and the READYs heard are the first of those sent, and all of them where nothing is on its way to an end that has not
-//! itself closed; each end sends and accepts no more than the batches that it agreed to, and none of these is more than
-//! its offer; and while neither has closed and nothing is on its way, both have one phase and one count, neither awaits
-//! a confirmation, and one of them may still send something other than NOOP and CLOSE. Now and then, where nothing is
-//! on its way, both ends are made again, and all this holds again from there.
+//! itself closed; a body that is missing is accepted as missing, and an empty one as empty; each end sends and accepts
+//! no more than the batches that it agreed to, and none of these is more than its offer; and while neither has closed
+//! and nothing is on its way, both have one phase and one count, neither awaits a confirmation, and one of them may
+//! still send something other than NOOP and CLOSE. Now and then, where nothing is on its way, both ends are made again,
+//! and all this holds again from there.
 
 use std::collections::VecDeque;
 
 use super::{blocks, reply_room, room_for, sends, REPLY};
 use crate::calls::{Make, Receive, SendMessage};
 use crate::endpoint::{self, Flow, Heard, Histories, Phase, Role, Send, State};
-use crate::endpoint::{ACK_REPLY, BLOCK, CLIENT, DATA, ENDS, OPEN, SERVER};
+use crate::endpoint::{ACK_REPLY, ASK, BLOCK, CLIENT, DATA, ENDS, NO_BODY, OPEN, SERVER};
 use crate::generate::open::{other_text, short_text};
 use crate::generate::{add, Calls};
 use crate::open::{DEFAULT_LIMIT, NOT_OFFERED, OTHER_FORMAT};
@@ -232,8 +233,7 @@ impl<'a> Session<'a> {
 
     /// Watches the data that are accepted: the next that were sent, and no more than were agreed to.
     fn watch_data(&mut self, end: usize, message: &[u8], heard: &Heard) {
-        let body = &message[heard[12] as usize..][..heard[13] as usize];
-        self.histories.note_accepted(end, heard[2], body);
+        self.histories.note_accepted(end, heard[2], endpoint::body_heard(message, heard));
     }
 
     /// Watches what holds at every moment.
@@ -258,18 +258,20 @@ impl<'a> Session<'a> {
         add(self.calls, SendMessage { block, send, room: ENOUGH });
     }
 
-    /// An ask for a confirmation, or none.
-    fn ask(&mut self) -> u8 {
-        u8::from(!self.random.one_in(self.temper.no_ask))
+    /// How a NOOP or DATA is sent: with an ask for a confirmation or without, and a DATA with a body or without.
+    fn how(&mut self) -> u8 {
+        let ask = if self.random.one_in(self.temper.no_ask) { 0 } else { ASK };
+        let no_body = if self.random.one_in(3) { NO_BODY } else { 0 };
+        ask | no_body | sends::unknown_options(self.random)
     }
 
+    /// The body that is lent to a DATA, whether it is sent with one or not.
     fn body(&mut self, limit: u32) -> Vec<u8> {
         if self.random.one_in(self.temper.large) {
             let length = limit as usize - 8 + self.random.between(0, 1);
             return vec![self.random.byte(); length];
         }
-        let length = if self.random.one_in(30) { self.random.between(100, 500) } else { self.random.between(0, 24) };
-        self.random.bytes(length)
+        sends::body(self.random)
     }
 
     /// A count for a READY: mostly small, so that batches end.
@@ -309,10 +311,10 @@ impl<'a> Session<'a> {
             (Role::Server, Phase::Idle) if !noop => Send::Ready { count: self.count(u16::MAX) },
             (Role::Server, Phase::Opening) => Send::Ready { count: self.count(u16::MAX) },
             (_, Phase::Batch) if state.is_producer() && !noop => {
-                let (ask, body) = (self.ask(), self.body(state.limit));
-                Send::Data { type_data, ask, body }
+                let (how, body) = (self.how(), self.body(state.limit));
+                Send::Data { type_data, how, body }
             }
-            _ => Send::Noop { type_data, ask: self.ask() },
+            _ => Send::Noop { type_data, how: self.how() },
         }
     }
 

@@ -5,8 +5,8 @@ use super::broken::lengthen;
 use super::drafts::{opening, Draft};
 use super::{blocks, MOST_OPEN, REPLY};
 use crate::calls::SendMessage;
-use crate::endpoint::{Flow, Phase, Role, Send, State, MOST_AWAITED};
-use crate::endpoint::{ACK_REQUEST, CLOSE, DATA};
+use crate::endpoint::{self, Flow, Phase, Role, Send, State, MOST_AWAITED, SHORT_OUTPUT};
+use crate::endpoint::{ACK_REQUEST, ASK, CLOSE, DATA, NO_BODY};
 use crate::generate::{add, Calls};
 use crate::random::Random;
 
@@ -36,13 +36,24 @@ fn add_message(calls: &mut Calls, random: &mut Random, state: State, message_typ
 
 /// Adds a DATA of this size to be sent into this room.
 fn add_send(calls: &mut Calls, random: &mut Random, state: State, size: usize, room: usize) {
-    let ask = random.choose(&[0, 1]);
-    let send = Send::Data { type_data: 0x1234, ask, body: vec![0xA5; size - CONTROL] };
+    let how = random.choose(&[0, ASK]);
+    let send = Send::Data { type_data: 0x1234, how, body: vec![0xA5; size - CONTROL] };
     add(calls, SendMessage { block: state.block(), send, room });
 }
 
+/// Adds a DATA without a body to which the body of a message of this size is lent, in rooms around its own.
+fn add_bodiless(calls: &mut Calls, random: &mut Random, state: &State, size: usize) {
+    for room in [REPLY - 1, REPLY, REPLY + 1] {
+        let how = random.choose(&[NO_BODY, ASK | NO_BODY]);
+        let send = Send::Data { type_data: 0x1234, how, body: vec![0xA5; size - CONTROL] };
+        let number = endpoint::sent(&state.block(), &send, &vec![0; room]).number;
+        assert_eq!(number, if room < REPLY { SHORT_OUTPUT } else { 0 }, "a body that is not sent is not measured");
+        add(calls, SendMessage { block: state.block(), send, room });
+    }
+}
+
 /// DATA around the limit, sent and received; larger messages that are refused before their size is looked at, or heard
-/// whatever it is.
+/// whatever it is; and DATA without a body to which more than the limit is lent.
 pub fn around_the_limit(random: &mut Random) -> Calls {
     let mut calls = Calls::new();
     for limit in [1_000_000, 1_000_001, 1_048_576, 1_500_000] {
@@ -61,11 +72,14 @@ pub fn around_the_limit(random: &mut Random) -> Calls {
         add_message(&mut calls, random, state.clone(), DATA, limit + 1, 2);
         add_message(&mut calls, random, state.clone(), CLOSE, limit + 1, 3);
         add_send(&mut calls, random, State { flow: Flow::Producer, ..state }, limit + 1, 0);
+        let state = in_batch(random, Flow::Producer, limit);
+        add_bodiless(&mut calls, random, &state, limit + 1);
     }
     calls
 }
 
-/// DATA that is a byte too large, sent and received, with every other cause that there may be beside it.
+/// DATA that is a byte too large, sent and received, with every other cause that there may be beside it; and the same
+/// body lent where none is sent.
 pub fn with_other_causes(random: &mut Random) -> Calls {
     let mut calls = Calls::new();
     let body = vec![0x3C; 1_000_001 - CONTROL];
@@ -74,8 +88,9 @@ pub fn with_other_causes(random: &mut Random) -> Calls {
             let role = random.choose(&Role::ALL);
             let awaited = blocks::entries(random, flow, if phase.is_running() { MOST_AWAITED } else { 0 });
             let state = State { limit: 1_000_000, awaited, ..good_in(random, role, flow, phase) };
-            for (ask, room) in [(1, 0), (1, TWO + body.len()), (0, 0)] {
-                let send = Send::Data { type_data: 0, ask, body: body.clone() };
+            let bodiless = [(ASK | NO_BODY, 0), (ASK | NO_BODY, REPLY), (NO_BODY, REPLY - 1), (NO_BODY, REPLY)];
+            for (how, room) in [(ASK, 0), (ASK, TWO + body.len()), (0, 0)].into_iter().chain(bodiless) {
+                let send = Send::Data { type_data: 0, how, body: body.clone() };
                 add(&mut calls, SendMessage { block: state.block(), send, room });
             }
             for (flags, frames) in [(0, 1), (1, 2), (2, 1), (3, 1), (4, 2)] {

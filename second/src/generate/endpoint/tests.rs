@@ -3,29 +3,52 @@
 use std::collections::{BTreeMap, BTreeSet};
 
 use super::*;
-use crate::calls::{Argument, Call, Written};
+use crate::calls::{Answer, Argument, Call, Written};
 use crate::endpoint::{self, Phase, State};
 use crate::generate::Calls;
 use crate::open::NOT_OFFERED;
 
-/// The number that the model answers to a call, and the block before and afterwards.
-fn answered(call: &dyn Call) -> (u64, Vec<u8>, Vec<u8>) {
-    let arguments = call.arguments();
-    let rooms: Vec<Vec<u8>> = arguments
+/// The whole answer of the model to a call.
+fn answer(call: &dyn Call) -> Answer {
+    let rooms: Vec<Vec<u8>> = call
+        .arguments()
         .iter()
         .filter_map(|(_, argument)| match argument {
             Argument::Room(length) => Some(vec![7; *length]),
             _ => None,
         })
         .collect();
-    let Some((_, Argument::InPlace(before))) = arguments.first() else {
+    call.answer(&rooms)
+}
+
+/// The number that the model answers to a call, and the block before and afterwards.
+fn answered(call: &dyn Call) -> (u64, Vec<u8>, Vec<u8>) {
+    let Some((_, Argument::InPlace(before))) = call.arguments().into_iter().next() else {
         unreachable!("an endpoint's first argument is its block");
     };
-    let answer = call.answer(&rooms);
+    let answer = answer(call);
     let Some(Written::Bytes(after)) = answer.written.into_iter().next() else {
         unreachable!("an endpoint's block comes first in the answer");
     };
     (answer.returned, before.to_vec(), after)
+}
+
+/// The data frames and the length of the body of a DATA that a call accepts as data; nothing for any other call.
+fn accepted_body(call: &dyn Call) -> Option<[u64; 2]> {
+    match answer(call).written.pop() {
+        Some(Written::Numbers(heard)) if heard.len() == 16 && heard[0] == 4 && heard[1] != 2 => {
+            Some([heard[4], heard[13]])
+        }
+        _ => None,
+    }
+}
+
+/// The number of options and the body that are lent to a send of DATA; nothing for any other call.
+fn lent_to_data(call: &dyn Call) -> Option<(u64, usize)> {
+    match call.arguments()[..] {
+        [_, _, ("how", Argument::Number(how)), ("body", Argument::Input(body)), ..] => Some((how, body.len())),
+        _ => None,
+    }
 }
 
 /// How often each function answers each number in some rounds of a set.
@@ -59,6 +82,28 @@ fn messages_are_heard_or_refused_as_they_were_meant() {
     assert_eq!(numbers_of("fbdp_receive", 3, broken::refused_opens), BTreeSet::from([2, 18, 19, 20, 21, 22]));
 }
 
+/// Bodies that are missing, empty, short and long, at either role, in single messages and in whole sessions.
+#[test]
+fn data_are_accepted_with_every_kind_of_body() {
+    for make in [drafts::valid_messages, sessions::sessions] {
+        let mut random = Random::new(14);
+        let mut kinds = BTreeSet::new();
+        for call in (0..20).flat_map(|_| make(&mut random)) {
+            let role = answered(call.as_ref()).1[0];
+            kinds.extend(accepted_body(call.as_ref()).map(|[frames, length]| (role, frames, length.min(100))));
+        }
+        for role in [1, 2] {
+            assert!([(0, 0), (1, 0), (1, 1), (1, 100)].iter().all(|kind| kinds.contains(&(role, kind.0, kind.1))));
+        }
+    }
+}
+
+#[test]
+fn every_number_of_data_frames_is_heard_or_refused() {
+    let numbers = numbers_of("fbdp_receive", 1, every::bodies);
+    assert_eq!(numbers, BTreeSet::from([0, 2, 3, 14, 15, 17, 24]));
+}
+
 /// The sets themselves hold the model to what was put in.
 #[test]
 fn opens_are_heard_as_they_were_sent() {
@@ -84,6 +129,8 @@ fn sends_reach_every_number() {
     assert_eq!(reached("fbdp_send_noop"), BTreeSet::from([0, 2, 3, 30, 32]));
     assert_eq!(reached("fbdp_send_close"), BTreeSet::from([0, 2, 3, 30, 35]));
     assert!(numbers_of("fbdp_send_data", 1, sizes::around_the_limit).contains(&33));
+    assert_eq!(numbers_of("fbdp_send_data", 1, every::options), BTreeSet::from([0, 2, 3, 30, 32]));
+    assert_eq!(numbers_of("fbdp_send_noop", 1, every::options), BTreeSet::from([0, 2, 3, 30, 32]));
 }
 
 /// The sessions themselves watch that the two ends understand each other.
@@ -161,12 +208,19 @@ fn sessions_carry_data_both_ways_and_have_ends_of_the_same_flow() {
     assert_eq!((accepting, refusing), (BTreeSet::from([1, 2]), BTreeSet::from([1, 2])));
 }
 
+/// Bodies above the limit are refused where they are to be sent, and not looked at where none is.
 #[test]
 fn sessions_of_large_data_meet_the_limit() {
     let mut random = Random::new(4);
-    let numbers: BTreeSet<u64> =
-        (0..30).flat_map(|_| sessions::of_large_data(&mut random)).map(|call| answered(call.as_ref()).0).collect();
-    assert!(numbers.contains(&33));
+    let mut numbers = BTreeSet::new();
+    for call in (0..30).flat_map(|_| sessions::of_large_data(&mut random)) {
+        let (number, before, _) = answered(call.as_ref());
+        let limit = State::read(&before).map_or(0, |state| state.limit as usize);
+        let above = lent_to_data(call.as_ref()).filter(|(_, length)| length + 8 > limit);
+        numbers.extend(above.map(|(how, _)| (how as u8 & endpoint::NO_BODY, number)));
+    }
+    assert!(numbers.contains(&(0, 33)) && numbers.contains(&(endpoint::NO_BODY, 0)));
+    assert!(!numbers.contains(&(0, 0)) && !numbers.contains(&(endpoint::NO_BODY, 33)));
 }
 
 #[test]

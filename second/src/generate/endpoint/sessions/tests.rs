@@ -46,16 +46,26 @@ impl Session<'_> {
 }
 
 fn data() -> Send {
-    Send::Data { type_data: 7, ask: 0, body: b"run".to_vec() }
+    Send::Data { type_data: 7, how: 0, body: b"run".to_vec() }
+}
+
+/// A DATA without a body, to which one is lent all the same.
+fn bodiless() -> Send {
+    Send::Data { type_data: 7, how: NO_BODY, body: b"run".to_vec() }
+}
+
+fn empty() -> Send {
+    Send::Data { type_data: 7, how: 0, body: Vec::new() }
 }
 
 #[test]
 fn a_batch_that_nothing_disturbs_is_carried() {
     told(|session| {
-        session.agree(3, 2);
+        session.agree(4, 3);
         session.tell(CLIENT, &data());
-        session.tell(CLIENT, &data());
-        session.tell(SERVER, &Send::Noop { type_data: 1, ask: 1 });
+        session.tell(CLIENT, &bodiless());
+        session.tell(CLIENT, &empty());
+        session.tell(SERVER, &Send::Noop { type_data: 1, how: ASK });
     });
 }
 
@@ -67,6 +77,31 @@ fn data_lost_on_their_way_are_told() {
         session.say(CLIENT, &data());
         session.ends[SERVER].inbox.clear();
         session.watch_step();
+    });
+}
+
+/// The two messages differ in the body alone, and come in the other order.
+#[test]
+#[should_panic(expected = "data are accepted as they were sent")]
+fn a_missing_body_that_comes_as_an_empty_one_is_told() {
+    told(|session| {
+        session.agree(2, 2);
+        session.say(CLIENT, &bodiless());
+        session.say(CLIENT, &empty());
+        session.ends[SERVER].inbox.swap(0, 1);
+        session.drain();
+    });
+}
+
+#[test]
+#[should_panic(expected = "data are accepted as they were sent")]
+fn an_empty_body_that_comes_as_a_missing_one_is_told() {
+    told(|session| {
+        session.agree(2, 2);
+        session.say(CLIENT, &empty());
+        session.say(CLIENT, &bodiless());
+        session.ends[SERVER].inbox.swap(0, 1);
+        session.drain();
     });
 }
 
@@ -86,7 +121,7 @@ fn data_lost_before_a_close_are_told() {
 #[should_panic(expected = "neither end awaits a confirmation")]
 fn a_confirmation_lost_on_its_way_is_told() {
     told(|session| {
-        session.say(CLIENT, &Send::Noop { type_data: 1, ask: 1 });
+        session.say(CLIENT, &Send::Noop { type_data: 1, how: ASK });
         while session.ends[CLIENT].inbox.is_empty() {
             session.deliver(SERVER);
         }
@@ -157,7 +192,7 @@ fn a_close_lost_on_its_way_is_told() {
 #[should_panic(expected = "a CLOSE that is heard was written")]
 fn a_close_that_nobody_wrote_is_told() {
     told(|session| {
-        session.say(SERVER, &Send::Noop { type_data: 0, ask: 0 });
+        session.say(SERVER, &Send::Noop { type_data: 0, how: 0 });
         session.ends[CLIENT].inbox[0][REPLY - 4] = 8 * CLOSE + 1;
         session.drain();
     });
@@ -214,7 +249,7 @@ fn both_ends_begin_anew_where_they_are_made_again() {
 #[should_panic(expected = "only where nothing is on its way")]
 fn no_end_is_made_again_while_something_is_on_its_way() {
     told(|session| {
-        session.say(CLIENT, &Send::Noop { type_data: 1, ask: 0 });
+        session.say(CLIENT, &Send::Noop { type_data: 1, how: 0 });
         session.make(Flow::Producer);
     });
 }
