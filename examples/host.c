@@ -1,14 +1,16 @@
-/* A press and the estimating desk in one process: the press opens a pipe and sends its run reports in batches, the desk
- * confirms each of them, the press closes. Two queues in memory stand for the transport. */
+/* A press and the estimating desk in one process: the press opens a pipe and sends its run reports in batches, and
+ * between two runs one with no body, whose number says that it is still turning; the desk confirms each of them, the
+ * press closes. Two queues in memory stand for the transport. */
 #include <fbdp.h>
 #include <inttypes.h>
 #include <stdio.h>
 #include <string.h>
 
-enum { PLACES = 8, REPORTS = 5, OFFER = 3 };
+enum { PLACES = 8, REPORTS = 6, OFFER = 3, STILL_TURNING = 500 };
 
+/* The runs, and NULL where the press says no more than STILL_TURNING. */
 static const char *const reports[REPORTS] = {
-    "run 4711: 12000 sheets, 31 wasted", "run 4712: 800 sheets, 12 wasted", "run 4713: 800 sheets, 9 wasted",
+    "run 4711: 12000 sheets, 31 wasted", NULL, "run 4712: 800 sheets, 12 wasted", "run 4713: 800 sheets, 9 wasted",
     "run 4714: 25000 sheets, 58 wasted", "run 4715: 150 sheets, 40 wasted",
 };
 
@@ -40,11 +42,13 @@ static const uint8_t *bytes(const char *text) { return (const uint8_t *)text; }
 
 static void say(const struct end *end, const struct message *message, const struct fbdp_heard *heard) {
     const char *text = (const char *)message->bytes;
+    const int confirms = heard->type != FBDP_CLOSE && (heard->flags & FBDP_ACK_REPLY);
     printf("%s heard %s %" PRIu64, end->title, fbdp_type_name(heard->type), heard->type_data);
     if (heard->type == FBDP_OPEN) printf(": pipe %.*s", (int)heard->name_length, text + heard->name_at);
     if (heard->type == FBDP_CLOSE) printf(": %s", fbdp_close_meaning(heard->type_data));
-    if (heard->body_length > 0) printf(": %.*s", (int)heard->body_length, text + heard->body_at);
-    if (heard->type != FBDP_CLOSE && (heard->flags & FBDP_ACK_REPLY)) printf(" confirmed");
+    if (heard->type == FBDP_DATA && heard->frames > 0) printf(": %.*s", (int)heard->body_length, text + heard->body_at);
+    if (heard->type == FBDP_DATA && heard->frames == 0 && !confirms) printf(": still turning");
+    if (confirms) printf(" confirmed");
     printf("\n");
 }
 
@@ -63,6 +67,16 @@ static uint32_t hear(struct end *end) {
     return post(end->other, number);
 }
 
+/* Sends a report, to be confirmed. */
+static uint32_t send_report(struct end *press, const char *report, struct message *out) {
+    if (report == NULL) {
+        return fbdp_send_data(press->block, FBDP_BLOCK_BYTES, STILL_TURNING, FBDP_ASK | FBDP_NO_BODY, NULL, 0,
+                              out->bytes, sizeof out->bytes, &out->length);
+    }
+    return fbdp_send_data(press->block, FBDP_BLOCK_BYTES, (uint16_t)press->sent, FBDP_ASK, bytes(report),
+                          strlen(report), out->bytes, sizeof out->bytes, &out->length);
+}
+
 /* The press opens, agrees to what it has reports for, sends them, and closes once all are sent and confirmed. */
 static uint32_t press_sends(struct end *press) {
     struct message *out = next(press->other);
@@ -76,9 +90,7 @@ static uint32_t press_sends(struct end *press) {
         number = fbdp_send_open(block, FBDP_BLOCK_BYTES, bytes(pipe), strlen(pipe), bytes(format), strlen(format),
                                 out->bytes, sizeof out->bytes, &out->length);
     } else if (fbdp_phase(block) == FBDP_PHASE_BATCH) {
-        const char *report = reports[press->sent++];
-        number = fbdp_send_data(block, FBDP_BLOCK_BYTES, (uint16_t)press->sent, 1, bytes(report), strlen(report),
-                                out->bytes, sizeof out->bytes, &out->length);
+        number = send_report(press, reports[press->sent++], out);
     } else if (fbdp_phase(block) == FBDP_PHASE_OFFER && left > 0) {
         number = fbdp_send_ready(block, FBDP_BLOCK_BYTES, count, out->bytes, sizeof out->bytes, &out->length);
     } else if (left == 0 && fbdp_awaited(block) == 0) {

@@ -4,9 +4,9 @@
  * writes on the transport, lend each message that arrives to fbdp_receive, and send the reply that this may leave. The
  * block moves with the call, so whatever was written has to reach the other end, once and in order.
  *
- * Every function of the archive takes any bytes, any block and any order of calls, and returns a number: FBDP_ACCEPTED,
- * or the refusal that applies first; fbdp_meaning says it in words. None keeps a pointer, allocates, or calls anything
- * but memcpy, so calls on different blocks may run at the same time.
+ * Every function of the archive takes any bytes, any block and any order of calls. All but fbdp_interface_2 return
+ * FBDP_ACCEPTED, or the number of the refusal that applies first, which fbdp_meaning says in words. None keeps a
+ * pointer, allocates, or calls anything but memcpy, so calls on different blocks may run at the same time.
  *
  * A slice is a pointer and a length; an empty one may come with a null pointer. The slices of one call, and the struct
  * or number to be filled, must lie apart; the latter must not be null. It is filled by every call: a refusal writes the
@@ -21,17 +21,20 @@
 extern "C" {
 #endif
 
-/* The number of this interface, which goes up with every change that a host has to follow. An object that was compiled
- * with the header of another interface does not link with the archive of this one: each refers to the function that has
- * its number in its name, and answers it. */
+/* The number of this interface, which goes up with every change that a host has to follow. The archive has one function
+ * with the number in its name, which answers it, and every object that includes this header refers to that function: so
+ * one that was compiled with the header of another interface does not link. */
 #define FBDP_INTERFACE 2
 uint32_t fbdp_interface_2(void);
 #if defined(__has_attribute)
+#if __has_attribute(used)
+__attribute__((used))
+#endif
 #if __has_attribute(retain)
 __attribute__((retain))
 #endif
 #endif
-__attribute__((used)) static uint32_t (*const fbdp_interface_linked)(void) = fbdp_interface_2;
+static uint32_t (*const fbdp_interface_linked)(void) = fbdp_interface_2;
 
 /* The numbers answered: name, number, meaning. */
 #define FBDP_NUMBERS(ROW)                                                                                              \
@@ -137,7 +140,7 @@ enum {
 };
 
 /* The least and the most that a limit may be: the bytes of a message, which are its control frame of 8 and its data
- * frame, without count and lengths of the bundle. So a body has at most 8 less than the limit. */
+ * frame, if it has one, without count and lengths of the bundle. So a body has at most 8 less than the limit. */
 enum { FBDP_LEAST_LIMIT = 1000000, FBDP_MOST_LIMIT = 50000000 };
 
 /* The term by which a client announces its limit, a number; it is left out where that is FBDP_MOST_LIMIT. */
@@ -226,13 +229,13 @@ struct fbdp_heard {
     uint64_t flags;                            /* as they came */
     uint64_t type_data;                        /* READY: count; CLOSE: code; NOOP, DATA: a host's number */
     uint64_t reply;                            /* bytes of the reply in `out`, of a refusal too: 0 or 14 */
-    uint64_t frames;                           /* data frames; DATA: 1, or 0 where it has no body; a CLOSE may have
-                                                  some, which fbdp_frame places */
+    uint64_t frames;                           /* data frames: of OPEN 1; of DATA 1, or 0 where it has no body, as a
+                                                  confirmation never has; of a CLOSE any, which fbdp_frame places */
     uint64_t socket;                           /* OPEN: FBDP_INPUT or FBDP_OUTPUT */
     uint64_t name_at, name_length;             /* OPEN: the pipe name */
     uint64_t format_at, format_length;         /* OPEN: the format */
     uint64_t parameters_at, parameters_length; /* OPEN: the parameters, for fbdp_lookup */
-    uint64_t body_at, body_length;             /* DATA: its body, which may be empty where `frames` is 1 */
+    uint64_t body_at, body_length;             /* DATA with a data frame: its body, which may be empty */
     uint64_t spare[2];                         /* 0 */
 };
 
