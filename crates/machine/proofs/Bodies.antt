@@ -13,24 +13,22 @@ use Rattle.control.specs.Frame.{ackReply, typeOf}
 use Rattle.open.specs.declared.Open.{Open as OpenFrame}
 use Rattle.open.specs.declared.Open.the-variants.{Heard, Refused}
 use Rattle.open.specs.Open.{heardBy}
-use Rattle.open.specs.Offer.{Offer}
 use Rattle.message.specs.declared.Body.{Body as BodyPlace}
 use Rattle.message.specs.declared.Body.the-variants.{Nothing as BodyPlace·Nothing, At}
 use Rattle.message.specs.Reading.{badFrames, bodyPlace, hasBody}
 use Rattle.message.proofs.Bodies.{read-placed}
-use Rattle.endpoint.specs.declared.Endpoint.{Endpoint}
 use Rattle.receiving.specs.declared.Answer.{Answer}
 use Rattle.receiving.specs.declared.Answer.the-variants.{Heard as Answer·Heard, Stays, Closes}
 use Rattle.receiving.specs.declared.Carried.{Carried}
 use Rattle.receiving.specs.declared.Carried.the-variants.{Content as Carried·Content}
 use Rattle.receiving.specs.declared.Content.{Content}
-use Rattle.receiving.specs.declared.Content.the-variants.{Nothing, Opening, Body as Content·Body}
+use Rattle.receiving.specs.declared.Content.the-variants.{Nothing}
 use Rattle.receiving.specs.declared.Received.{Received}
 use Rattle.receiving.specs.Hearing.{accepted, bodyCarried, carriedAs, carriedBy, openAt, openCarried}
 use Rattle.receiving.specs.Refusing.{refused, unchanged}
 use Rattle.sending.specs.Calls.{Missing, Given}
 use Rattle.machine.specs.Bodies.{FramesTellBody, bodyHeard, bodyTold, placeHeard}
-use Rattle.machine.proofs.Stages.{Passed, received-holds}
+use Rattle.machine.proofs.Stages.{received-holds}
 
 is-content : {known content : Content} → Carried·Content known ≡ Carried·Content content → known ≡ content
 is-content e = cc

@@ -103,6 +103,8 @@ fn open() -> Receiving {
 pub fn add_rows(table: &mut Table) -> Result<(), String> {
     let mut works: Vec<(String, Receiving)> = Vec::new();
     works.extend(SIZES.map(|(name, size)| (format!("receive DATA, {name}"), data(size))));
+    let bodiless = message(DATA, 0, &[]);
+    works.push(("receive DATA, no body".into(), Receiving::new(&in_batch(Flow::Consumer, 0), bodiless)));
     let asks = message(NOOP, ACK_REQUEST, &[]);
     works.push(("receive NOOP that asks, with its reply".into(), Receiving::new(&in_batch(Flow::Producer, 0), asks)));
     for awaited in [1, MOST_AWAITED] {

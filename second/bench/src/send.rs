@@ -2,7 +2,7 @@
 
 use std::hint::black_box;
 
-use second::endpoint::{self, Flow, Phase, Role, Send, State, ASK, BLOCK};
+use second::endpoint::{self, Flow, Phase, Role, Send, State, ASK, BLOCK, NO_BODY};
 use second::open::DEFAULT_LIMIT;
 
 use crate::archive;
@@ -117,6 +117,8 @@ pub fn add_rows(table: &mut Table) -> Result<(), String> {
         table.add(group, &title, &mut copying, Copying::ours, ("memcpy", Copying::memcpy))?;
         table.add(Group::Other, &title, &mut sending(), Sending::ours, ("second", Sending::model))?;
     }
+    let mut bodiless = Sending::new(&batch, Send::Data { type_data: 7, how: NO_BODY, body: &[] }, HEAD);
+    table.add(Group::Other, "send DATA, no body", &mut bodiless, Sending::ours, ("second", Sending::model))?;
     let mut noop = Sending::new(&batch, Send::Noop { type_data: 7, how: ASK }, HEAD);
     table.add(Group::Other, "send NOOP that asks", &mut noop, Sending::ours, ("second", Sending::model))?;
     let open = Send::Open { name: PIPE, format: PIPE_FORMAT };
