@@ -46,8 +46,10 @@ static void say(const struct end *end, const struct message *message, const stru
     printf("%s heard %s %" PRIu64, end->title, fbdp_type_name(heard->type), heard->type_data);
     if (heard->type == FBDP_OPEN) printf(": pipe %.*s", (int)heard->name_length, text + heard->name_at);
     if (heard->type == FBDP_CLOSE) printf(": %s", fbdp_close_meaning(heard->type_data));
-    if (heard->type == FBDP_DATA && heard->frames > 0) printf(": %.*s", (int)heard->body_length, text + heard->body_at);
-    if (heard->type == FBDP_DATA && heard->frames == 0 && !confirms) printf(": still turning");
+    if (heard->type == FBDP_DATA && !confirms) {
+        if (heard->frames > 0) printf(": %.*s", (int)heard->body_length, text + heard->body_at);
+        else printf(": %s", heard->type_data == STILL_TURNING ? "still turning" : "no body");
+    }
     if (confirms) printf(" confirmed");
     printf("\n");
 }
@@ -67,13 +69,14 @@ static uint32_t hear(struct end *end) {
     return post(end->other, number);
 }
 
-/* Sends a report, to be confirmed. */
-static uint32_t send_report(struct end *press, const char *report, struct message *out) {
+/* Sends the next report, to be confirmed. */
+static uint32_t send_report(struct end *press, struct message *out) {
+    const char *report = reports[press->sent];
     if (report == NULL) {
         return fbdp_send_data(press->block, FBDP_BLOCK_BYTES, STILL_TURNING, FBDP_ASK | FBDP_NO_BODY, NULL, 0,
                               out->bytes, sizeof out->bytes, &out->length);
     }
-    return fbdp_send_data(press->block, FBDP_BLOCK_BYTES, (uint16_t)press->sent, FBDP_ASK, bytes(report),
+    return fbdp_send_data(press->block, FBDP_BLOCK_BYTES, (uint16_t)(press->sent + 1), FBDP_ASK, bytes(report),
                           strlen(report), out->bytes, sizeof out->bytes, &out->length);
 }
 
@@ -90,7 +93,8 @@ static uint32_t press_sends(struct end *press) {
         number = fbdp_send_open(block, FBDP_BLOCK_BYTES, bytes(pipe), strlen(pipe), bytes(format), strlen(format),
                                 out->bytes, sizeof out->bytes, &out->length);
     } else if (fbdp_phase(block) == FBDP_PHASE_BATCH) {
-        number = send_report(press, reports[press->sent++], out);
+        number = send_report(press, out);
+        press->sent += number == FBDP_ACCEPTED;
     } else if (fbdp_phase(block) == FBDP_PHASE_OFFER && left > 0) {
         number = fbdp_send_ready(block, FBDP_BLOCK_BYTES, count, out->bytes, sizeof out->bytes, &out->length);
     } else if (left == 0 && fbdp_awaited(block) == 0) {

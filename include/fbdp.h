@@ -21,20 +21,13 @@
 extern "C" {
 #endif
 
-/* The number of this interface, which goes up with every change that a host has to follow. The archive has one function
- * with the number in its name, which answers it, and every object that includes this header refers to that function: so
- * one that was compiled with the header of another interface does not link. */
+/* The number of this interface, which goes up with every change that a host has to follow; docs/CHANGES.md says what to
+ * change. The archive has one function with the number in its name, which answers it, and every object that includes
+ * this header refers to that function. So each of them wants the archive behind it, and one that was compiled with the
+ * header of another interface does not link: "undefined reference to `fbdp_interface_N'". The interface before this one
+ * had no number, and what was compiled with its header links all the same: compile it anew. */
 #define FBDP_INTERFACE 2
 uint32_t fbdp_interface_2(void);
-#if defined(__has_attribute)
-#if __has_attribute(used)
-__attribute__((used))
-#endif
-#if __has_attribute(retain)
-__attribute__((retain))
-#endif
-#endif
-static uint32_t (*const fbdp_interface_linked)(void) = fbdp_interface_2;
 
 /* The numbers answered: name, number, meaning. */
 #define FBDP_NUMBERS(ROW)                                                                                              \
@@ -47,7 +40,7 @@ static uint32_t (*const fbdp_interface_linked)(void) = fbdp_interface_2;
     ROW(FBDP_OTHER_VERSION, 12, "a version other than 1")                                                              \
     ROW(FBDP_UNKNOWN_TYPE, 13, "a message type other than OPEN, READY, NOOP, DATA and CLOSE")                          \
     ROW(FBDP_BAD_FLAGS, 14, "unknown flags or both, on any message but CLOSE, or a confirmation of OPEN or READY")     \
-    ROW(FBDP_BAD_FRAMES, 15, "too many data frames, or too few, for any message but CLOSE")                            \
+    ROW(FBDP_BAD_FRAMES, 15, "data frames other than 1 for OPEN, 0 or 1 for DATA, 0 for READY, NOOP, a confirmation")  \
     ROW(FBDP_TOO_LARGE, 16, "any message but CLOSE above the limit, or an OPEN frame above 4,096 bytes")               \
     ROW(FBDP_NOT_ALLOWED, 17, "a message that role, flow or phase does not allow")                                     \
     ROW(FBDP_UNREADABLE, 18, "an OPEN frame, parameters or a Value that cannot be read")                               \
@@ -114,11 +107,12 @@ static inline const char *fbdp_type_name(uint64_t type) {
 }
 #undef FBDP_WORDS
 
-/* The options of a send, bits of one number `how`: to ask for a confirmation, and to send DATA without a body, which is
- * another report than one with an empty body. Bits that a send has no option for are not looked at. */
+/* The options of a send of DATA or NOOP, bits of one number `how`: to ask for a confirmation, and to send DATA without
+ * a body, which is heard as another report than one with an empty body. Other bits, and FBDP_NO_BODY at a NOOP, are not
+ * looked at; leave them 0, as a later interface may give them a meaning. */
 enum { FBDP_ASK = 1, FBDP_NO_BODY = 2 };
 
-/* The flags of a message: it asks for confirmation, or it is one. */
+/* The flags of a message that is heard, which are not options of a send: it asks for confirmation, or it is one. */
 enum { FBDP_ACK_REQUEST = 1, FBDP_ACK_REPLY = 2 };
 
 /* Who opens the pipe, and which way the data goes: a producer sends DATA, a consumer receives it. */
@@ -202,16 +196,16 @@ uint32_t fbdp_send_open(uint8_t *block, size_t block_length, const uint8_t *name
 uint32_t fbdp_send_ready(uint8_t *block, size_t block_length, uint16_t count, uint8_t *out, size_t out_length,
                          uint64_t *written);
 
-/* Sends DATA, by a producer in a batch: a number of the host's, and a body that may be empty. `how` is 0, or FBDP_ASK,
- * FBDP_NO_BODY or both; with FBDP_NO_BODY the slice of the body is not looked at.
- * Refuses what every send does, with FBDP_ASK FBDP_TOO_MANY_ASKS, and FBDP_SEND_TOO_LARGE.
+/* Sends DATA, by a producer in a batch: a number of the host's, and a body that may be empty. `how` is 0, FBDP_ASK,
+ * FBDP_NO_BODY or both; with FBDP_NO_BODY neither `body` nor `body_length` is looked at, so that NULL and 0 will do.
+ * Refuses what every send does; FBDP_TOO_MANY_ASKS, with FBDP_ASK alone; FBDP_SEND_TOO_LARGE, never with FBDP_NO_BODY.
  * Leaves one message less to send, after the last one FBDP_PHASE_IDLE; with FBDP_ASK one more awaited; and in `out`
  * body_length + FBDP_DATA_OVERHEAD bytes, or with FBDP_NO_BODY FBDP_CONTROL_BYTES. */
 uint32_t fbdp_send_data(uint8_t *block, size_t block_length, uint16_t type_data, uint8_t how, const uint8_t *body,
                         size_t body_length, uint8_t *out, size_t out_length, uint64_t *written);
 
 /* Sends NOOP, to keep a connection alive or to see that it is: a number of the host's. `how` is 0 or FBDP_ASK.
- * Refuses what every send does, and with FBDP_ASK FBDP_TOO_MANY_ASKS.
+ * Refuses what every send does; FBDP_TOO_MANY_ASKS, with FBDP_ASK alone.
  * Leaves phase and count as they were, with FBDP_ASK one more awaited, and FBDP_CONTROL_BYTES in `out`. */
 uint32_t fbdp_send_noop(uint8_t *block, size_t block_length, uint16_t type_data, uint8_t how, uint8_t *out,
                         size_t out_length, uint64_t *written);
@@ -223,14 +217,15 @@ uint32_t fbdp_send_close(uint8_t *block, size_t block_length, uint16_t code, uin
                          uint64_t *written);
 
 /* What was heard. Places are offsets into the message; what a message does not have is 0, and what it has and is empty
- * has its place. */
+ * has its place. A DATA is a confirmation where `flags` is FBDP_ACK_REPLY, and else a report, whose body is missing
+ * where `frames` is 0. */
 struct fbdp_heard {
     uint64_t type;                             /* FBDP_OPEN to FBDP_CLOSE */
     uint64_t flags;                            /* as they came */
     uint64_t type_data;                        /* READY: count; CLOSE: code; NOOP, DATA: a host's number */
     uint64_t reply;                            /* bytes of the reply in `out`, of a refusal too: 0 or 14 */
-    uint64_t frames;                           /* data frames: of OPEN 1; of DATA 1, or 0 where it has no body, as a
-                                                  confirmation never has; of a CLOSE any, which fbdp_frame places */
+    uint64_t frames;                           /* data frames: OPEN 1; DATA 1, or 0 for a missing body; a confirmation
+                                                  0, of DATA too; CLOSE up to 15, which fbdp_frame places */
     uint64_t socket;                           /* OPEN: FBDP_INPUT or FBDP_OUTPUT */
     uint64_t name_at, name_length;             /* OPEN: the pipe name */
     uint64_t format_at, format_length;         /* OPEN: the format */
@@ -245,8 +240,8 @@ struct fbdp_heard {
  * CLOSE: send them, after a refusal too. A CLOSE that is heard is accepted, and not to be answered.
  * Refuses FBDP_BAD_BLOCK, FBDP_NO_ROOM (`out` under FBDP_REPLY_BYTES, always tested) and FBDP_CLOSED, which leave every
  * byte of `block` and `out` as it was, so that what comes behind a close is dropped; and FBDP_BAD_BUNDLE to
- * FBDP_UNMATCHED, which close the endpoint and reply with a CLOSE, but not as a client in FBDP_PHASE_FRESH, nor to a
- * CLOSE that is refused as FBDP_NOT_ALLOWED.
+ * FBDP_UNMATCHED, in the order of their numbers, which close the endpoint and reply with a CLOSE, but not as a client in
+ * FBDP_PHASE_FRESH, nor to a CLOSE that is refused as FBDP_NOT_ALLOWED.
  * Leaves the block moved or closed, the reply at the start of `out` and nothing behind it, and in `heard` what was
  * heard, or for a refusal zeros in all but `reply`. */
 uint32_t fbdp_receive(uint8_t *block, size_t block_length, const uint8_t *message, size_t message_length,
@@ -300,6 +295,22 @@ struct fbdp_term_place {
  * Leaves the place, of a Value that fbdp_value reads, or for a refusal FBDP_IN_CLIENT, 0, 0. */
 uint32_t fbdp_lookup(const uint8_t *client, size_t client_length, const uint8_t *defaults, size_t defaults_length,
                      const uint8_t *key, size_t key_length, struct fbdp_term_place *place);
+
+/* What refers to fbdp_interface_2: a constant that stays where a linker leaves out what nothing uses, and of a compiler
+ * that has no such constants a function that is called before main. */
+#if defined(__has_attribute)
+#if __has_attribute(used) && __has_attribute(retain)
+#define FBDP_RETAINED
+#endif
+#endif
+#ifdef FBDP_RETAINED
+__attribute__((used, retain)) static uint32_t (*const fbdp_interface_linked)(void) = fbdp_interface_2;
+#undef FBDP_RETAINED
+#elif defined(__GNUC__)
+__attribute__((constructor)) static void fbdp_interface_linked(void) { (void)fbdp_interface_2(); }
+#else
+static uint32_t (*const fbdp_interface_linked)(void) = fbdp_interface_2;
+#endif
 
 #ifdef __cplusplus
 }

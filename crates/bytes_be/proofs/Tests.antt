@@ -19,6 +19,11 @@ last-false true b e = clash cc
 last-false false b e = e
 
 module _ {A : Type 0} where
+  -- a choice between the same
+  pub either-way : (t : Bool) (a : A) → cond t a a ≡ a
+  either-way true a = refl
+  either-way false a = refl
+
   -- a choice that gives what its second answer cannot be has taken the first
   pub took-first : (t : Bool) {a b x : A} → (b ≡ x → ⊥) → cond t a b ≡ x → (t ≡ true) × (a ≡ x)
   took-first true other e = (refl, e)

@@ -1,12 +1,14 @@
 -- What `fbdp_receive` tells in its slots and writes to its output is what was heard and replied. Assumes nothing.
-use mathlib.Core.Path.{_≡_, _∙_, ap, refl}
+use mathlib.Core.Path.{_≡_, ap, refl}
 use Prim.Native.Nat.{ℕ, _≤_}
 use mathlib.Core.List.{List, [], _∷_}
-use mathlib.Core.Bool.{cond}
+use mathlib.Core.Bool.{Bool, true, false, cond, not}
 use native.Mathlib.Omega.{arith}
 use lib.Dec.{eqb}
 use lib.ListN.{length, take}
+use Rattle.bytes_be.specs.Part.{partAt}
 use Rattle.bytes_be.proofs.Parts.{part-put}
+use Rattle.bytes_be.proofs.Tests.{clash}
 use Rattle.bundle.proofs.Outputs.{one-long}
 use Rattle.control.specs.declared.MessageType.{MessageType}
 use Rattle.control.specs.Frame.{bytesOf, typeOf}
@@ -22,24 +24,28 @@ use Rattle.receiving.specs.declared.Reply.the-variants.{Nothing, Frame}
 use Rattle.receiving.specs.Receiving.{receivedOf, replyBytes, replied}
 use Rattle.fbdp.specs.Slots.{answerSlots, carriesOf, heardSlots}
 use Rattle.fbdp.specs.Blocks.{replyLength}
-use Rattle.machine.specs.Bodies.{bodyHeard, bodyTold, placeHeard}
+use Rattle.sending.specs.Calls.{Missing, Given, isMissing}
+use Rattle.machine.specs.Bodies.{bodyHeard, tellsBody}
 use Rattle.machine.specs.Programs.{toldOf, replies}
 use Rattle.machine.proofs.Bodies.{frames-tell-body}
 use Rattle.entries.specs.Entries.{toldBy, repliesBy}
 
--- the slots of the body are its place
-place-told : (content : Content) → carriesOf content .body ≡ placeHeard content
-place-told Content·Nothing = refl
-place-told (Opening opening) = refl
-place-told (Body place) = refl
+-- a body that is told by the number of data frames is the one that was heard
+body-told : (s : List ℕ) (tells : Bool) (content : Content) → isMissing (bodyHeard s content) ≡ not tells
+    → cond tells (Given (partAt s (carriesOf content .body))) Missing ≡ bodyHeard s content
+body-told s true Content·Nothing is = clash cc
+body-told s false Content·Nothing is = refl
+body-told s true (Opening opening) is = clash cc
+body-told s false (Opening opening) is = refl
+body-told s true (Body place) is = refl
+body-told s false (Body place) is = clash cc
 
--- type, flags, type-data, and the body that the number of data frames tells
+-- type, flags, type-data and body
 module _ (e : Endpoint) (s : List ℕ) (pipe : Offer) (room reply : ℕ) where
   pub answer-told : (answer : Answer) → receivedOf e s pipe room .answer ≡ answer → toldBy s (answerSlots answer reply) ≡ toldOf s answer
   unfolding heardSlots
   answer-told (Answer·Heard heard) is =
-      let body : bodyTold s (typeOf (heard .message)) (heard .frames) (carriesOf (heard .content) .body) ≡ bodyHeard s (heard .content) =
-      ap (bodyTold s (typeOf (heard .message)) (heard .frames)) (place-told (heard .content)) ∙ frames-tell-body e s pipe room heard is in
+      let body = body-told s (tellsBody (typeOf (heard .message)) (heard .frames)) (heard .content) (frames-tell-body e s pipe room heard is) in
       λ i. record { message = typeOf (heard .message); flags = heard .flags; type-data = heard .«type_data»; body = body i }
   answer-told (Stays number) is = refl
   answer-told (Closes number) is = refl

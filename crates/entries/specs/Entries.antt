@@ -5,6 +5,7 @@ use mathlib.Core.List.{List, [], _∷_}
 use mathlib.Core.Bool.{cond}
 use lib.ListN.{length, take}
 use lib.Dec.{eqb}
+use Rattle.bytes_be.specs.Part.{partAt}
 use Rattle.open.specs.Offer.{Offer}
 use Rattle.endpoint.specs.declared.Made.{Made}
 use Rattle.endpoint.specs.Record.{madeOf, noEndpoint}
@@ -12,10 +13,10 @@ use Rattle.endpoint.specs.Block.{loadOf}
 use Rattle.receiving.specs.declared.Received.{Received}
 use Rattle.receiving.specs.Receiving.{answerNumber, replied}
 use Rattle.sending.specs.declared.Sent.{Sent}
-use Rattle.sending.specs.Calls.{Call, written}
+use Rattle.sending.specs.Calls.{Missing, Given, Call, written}
 use Rattle.sending.specs.Sending.{leftBy}
 use Rattle.machine.specs.Good.{Fits}
-use Rattle.machine.specs.Bodies.{bodyTold}
+use Rattle.machine.specs.Bodies.{tellsBody}
 use Rattle.machine.specs.Programs.{Making, freshBy, Told, MakeOutcome, SendOutcome, ReceiveOutcome, Program}
 use Rattle.fbdp.specs.Blocks.{MakeAnswer, SendOnBlock, ReceiveOnBlock, keptAfter, keptBy, makeNumber, receivedOn, replyLength, sentOn, stored}
 use Rattle.fbdp.specs.Slots.{Slots, answerSlots, inOrder, slotsIn}
@@ -104,7 +105,7 @@ toldBy s slots =
       message = slots .message;
       flags = slots .flags;
       type-data = slots .type-data;
-      body = bodyTold s (slots .message) (slots .frames) (slots .carries .body);
+      body = cond (tellsBody (slots .message) (slots .frames)) (Given (partAt s (slots .carries .body))) Missing;
     }
 
 -- and of a reply, which stands at the start of the output

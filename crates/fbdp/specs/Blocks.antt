@@ -19,8 +19,8 @@ use Rattle.receiving.specs.declared.Received.{Received}
 use Rattle.receiving.specs.Receiving.{answerNumber, replyBytes, replied, receivedOf}
 use Rattle.sending.specs.declared.Report.{Report}
 use Rattle.sending.specs.declared.Sent.{Sent}
-use Rattle.sending.specs.Calls.{Call, written}
-use Rattle.sending.specs.Options.{asking, withoutBody, isChosen}
+use Rattle.sending.specs.Calls.{Body, Missing, Given, Datum, datumOf, Call, DATA, written}
+use Rattle.sending.specs.Options.{asking, withoutBody, isChosen, howOf}
 use Rattle.sending.specs.Sending.{sendOf, leftBy}
 use Rattle.fbdp.specs.Slots.{answerSlots, inOrder}
 
@@ -57,6 +57,17 @@ pub record Finished (sent : Sent) (before : List ℕ) (number count : ℕ) (afte
 -- what a send of DATA is told
 abbrev pub reportOf : ℕ → ℕ → Report
 reportOf type-data how = record { «type_data» = type-data; ask = isChosen asking how; «no_body» = isChosen withoutBody how }
+
+-- the bytes that may be lent for a body: these, and any where it is missing
+abbrev pub LentFor : Body → List ℕ → Type 0
+LentFor Missing lent = Unit
+LentFor (Given bytes) lent = lent ≡ bytes
+
+-- a host that gives type-data and options of a datum, and lends its body, sends that datum
+abbrev pub GivesEveryDatum : Type 0
+GivesEveryDatum =
+    (datum : Datum) (lent : List ℕ) → LentFor (datum .body) lent
+    → datumOf (reportOf (datum .type-data) (howOf (DATA datum))) lent ≡ datum
 
 -- `fbdp_send_open`, `fbdp_send_ready`, `fbdp_send_data`, `fbdp_send_noop` and `fbdp_send_close`
 pub record SendOnBlock (call : Call) (block out : List ℕ) (number count : ℕ) (block′ out′ : List ℕ) : Type 0 where

@@ -95,7 +95,7 @@ pub fn send_ready(e: &mut Endpoint, count: u16, out: &mut [u8]) -> Told
     }
 }
 
-// Sends DATA with this body, which is copied once.
+// Sends DATA with this body, or without one.
 pub fn send_data(e: &mut Endpoint, report: Report, body: &[u8], out: &mut [u8]) -> Told
     ensures { λ r. ⌜ SendOnLent (now (e .entry)) (DATA (datumOf report (now (body .entry)))) (now (out .entry)) r (now (e .exit)) (now (out .exit)) ⌝ }
 {

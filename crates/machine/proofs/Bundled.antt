@@ -2,11 +2,12 @@
 use mathlib.Core.Path.{_∙_, _≡_, ap, refl}
 use Prim.Native.Nat.{_+_, _<_, _^_, _-_, _≤_, suc, ℕ}
 use mathlib.Core.List.{flatten, append-nil, List, [], _∷_}
-use mathlib.Core.Bool.{Bool, cond, false, true}
+use mathlib.Core.Bool.{false, true}
 use native.Mathlib.Omega.{arith}
 use lib.ListN.{length, length-append}
 use borrow.Author.Tests.{lt-ltb}
 use Rattle.bytes_be.specs.Part.{part, partAt}
+use Rattle.bytes_be.proofs.Tests.{either-way}
 use Rattle.bundle.specs.declared.Contents.the-variants.{Frames}
 use Rattle.bundle.specs.declared.Frame.the-variants.{At as Frame·At, Behind}
 use Rattle.bundle.specs.Reading.{contentsOf, placeOf, startOf, lengthOf, frameOf}
@@ -20,11 +21,6 @@ use Rattle.message.specs.declared.Body.the-variants.{Nothing}
 use Rattle.message.specs.declared.Reading.the-variants.{Read}
 use Rattle.message.specs.Reading.{badFlags, badFrames, bodyOf, carries, readAs, readingOf}
 use Rattle.machine.specs.Round.{messageWith}
-
--- a body that is looked for where there is none, and one that is not looked for
-neither : (t : Bool) → cond t Nothing Nothing ≡ Nothing
-neither true = refl
-neither false = refl
 
 module _ (message : MessageType) (flags type-data : ℕ) (small : type-data < 256 ^ 2) where
   abbrev control : List ℕ
@@ -68,7 +64,7 @@ module _ (message : MessageType) (flags type-data : ℕ) (small : type-data < 25
   plain-read flagged framed =
       let eight : length (flatten (control ∷ [])) ≡ 8 = simp append-nil (length-control message flags type-data) in
       let none : frameOf (bundleOf (control ∷ [])) 1 ≡ Behind = none-behind (control ∷ []) (omega arith) (all-fit [] (omega arith) refl) (omega arith) 1 (omega arith) in
-      reading-back [] (omega arith) refl flagged framed ∙ simp (eight, none, neither (carries message flags))
+      reading-back [] (omega arith) refl flagged framed ∙ simp (eight, none, either-way (carries message flags) Nothing)
 
   -- with one
 

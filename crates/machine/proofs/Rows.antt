@@ -5,7 +5,7 @@ use mathlib.Core.Bool.{Bool, _&&_, _||_, cond, false, true}
 use native.Mathlib.Omega.{arith}
 use lib.Dec.{eqb, leb}
 use borrow.Author.Tests.{eqb-false, eqb-true, le-leb, leb-true, ne-eqb}
-use Rattle.bytes_be.proofs.Tests.{both-true, clash}
+use Rattle.bytes_be.proofs.Tests.{both-true, clash, either-way}
 use Rattle.control.specs.declared.MessageType.{MessageType}
 use Rattle.control.specs.declared.MessageType.the-variants.{Open, Ready, Noop, Data, Close}
 use Rattle.endpoint.specs.declared.Endpoint.{Endpoint}
@@ -147,14 +147,10 @@ never : (t : Bool) (row : Row) → cond (t && false) row NotAllowed ≡ NotAllow
 never true row = refl
 never false row = refl
 
-neither : (t : Bool) → cond t NotAllowed NotAllowed ≡ NotAllowed
-neither true = refl
-neither false = refl
-
 shut-barred : (role flow n : ℕ) (message : MessageType) (type-data : ℕ) → rowOf role flow shut n message type-data ≡ NotAllowed
 unfolding openRow readyRow dataRow noopRow closeRow
 shut-barred role flow n Open type-data = never (eqb role client) (To opening 0)
-shut-barred role flow n Ready type-data = neither (eqb role client)
+shut-barred role flow n Ready type-data = either-way (eqb role client) NotAllowed
 shut-barred role flow n Noop type-data = refl
 shut-barred role flow n Data type-data = never (eqb flow producer) (begun batch (n - 1))
 shut-barred role flow n Close type-data = refl

@@ -62,7 +62,7 @@ messageWith message flags type-data frames =
 abbrev pub messageSent : Endpoint → Call → Message
 messageSent e call = messageWith (messageOf call) (flagsFor (askOf call)) (typeDataOf call) (dataFrames e call)
 
--- the bytes of a call are read as its message, and its data frame stands where the message says
+-- the bytes of a call are read as its message, and its data frame, if it has one, stands where the message says
 pub record ReadBack (e : Endpoint) (call : Call) : Type 0 where
   pub read : readingOf (written e call) ≡ Read (messageSent e call)
   pub framed : partAt (written e call) (bodyPlace (messageSent e call .body)) ≡ firstFrame (dataFrames e call)
@@ -97,12 +97,13 @@ pub record OpeningSent (e : Endpoint) (asked : Offer) (s : List ℕ) (content : 
   pub parametrized : partAt s (opening .parameters) ≡ cond (eqb (e .limit) mostLimit) [] (limitStruct (e .limit))
   pub announced : announcedLimit (opening .announced) ≡ e .limit
 
--- the place of the body that was sent, or none where none was
+-- the place of a body that was given
 pub record PlaceSent (bytes s : List ℕ) (content : Content) : Type 0 where
   pub place : Place
   pub is : content ≡ Content·Body place
   pub stands : partAt s place ≡ bytes
 
+-- and none where it was missing
 abbrev pub BodySent : Body → List ℕ → Content → Type 0
 BodySent Missing s content = content ≡ Nothing
 BodySent (Given bytes) s content = PlaceSent bytes s content

@@ -4,13 +4,13 @@ use Prim.Native.Nat.{ℕ}
 use mathlib.Core.List.{List, [], _∷_, _++_}
 use mathlib.Core.Bool.{Bool, false}
 use Rattle.bundle.specs.Writing.{bundleOf}
+use Rattle.message.specs.Reading.{bodyPlace}
 use Rattle.endpoint.specs.declared.Endpoint.{Endpoint}
 use Rattle.endpoint.specs.Record.{idle, batch, shut, atPhase}
 use Rattle.receiving.specs.declared.Answer.{Answer}
 use Rattle.receiving.specs.declared.Answer.the-variants.{Heard, Stays, Closes}
-use Rattle.receiving.specs.declared.Content.{Content}
-use Rattle.receiving.specs.declared.Content.the-variants.{Nothing, Opening, Body as Content·Body}
 use Rattle.sending.specs.Calls.{Body, Missing, Given, Call, DATA}
+use Rattle.machine.specs.Bodies.{placeHeard}
 use Rattle.marked.specs.Cases.{Case, theClient, serverIn, sentInto, receive, heardIn, outcome, bundleHead, closeFrame}
 
 -- the number 500 for "still turning"
@@ -36,34 +36,29 @@ missingSent = record { found = sentInto 14 producing (turning false Missing); ex
 abbrev pub emptySent : Case
 emptySent = record { found = sentInto 18 producing (turning false (Given [])); expected = headWithEmpty ++ turningFrame 0 }
 
--- how many data frames were heard, and place and length of a body
-abbrev pub placeIn : Content → List ℕ
-placeIn Nothing = []
-placeIn (Opening opening) = []
-placeIn (Content·Body place) = place .at ∷ place .length ∷ []
+-- "Heard too is the place of its body.": how many data frames there are, and place and length of the body
+abbrev pub bodySlots : Answer → List ℕ
+bodySlots (Heard heard) = let place = bodyPlace (placeHeard (heard .content)) in heard .frames ∷ place .at ∷ place .length ∷ []
+bodySlots (Stays number) = []
+bodySlots (Closes number) = []
 
-abbrev pub bodyIn : Answer → List ℕ
-bodyIn (Heard heard) = heard .frames ∷ placeIn (heard .content)
-bodyIn (Stays number) = []
-bodyIn (Closes number) = []
-
--- what a server in a batch of one makes of a message: what it heard, and what came of it
+-- what a server in a batch of two makes of a message: what it heard, and what came of it
 abbrev pub heardInBatch : List ℕ → List ℕ
-heardInBatch s = let received = receive (serverIn batch 1) s in heardIn (received .answer) ++ bodyIn (received .answer) ++ outcome received
+heardInBatch s = let received = receive (serverIn batch 2) s in heardIn (received .answer) ++ bodySlots (received .answer) ++ outcome received
 
 -- "a missing body is heard as such, apart from an empty one"; either lowers n by one
 abbrev pub missingHeard : Case
-missingHeard = record { found = heardInBatch (bundleHead ++ turningFrame 0); expected = 4 ∷ 0 ∷ 500 ∷ 0 ∷ 0 ∷ idle ∷ 0 ∷ [] }
+missingHeard = record { found = heardInBatch (bundleHead ++ turningFrame 0); expected = 4 ∷ 0 ∷ 500 ∷ 0 ∷ 0 ∷ 0 ∷ 0 ∷ batch ∷ 1 ∷ [] }
 
 abbrev pub emptyHeard : Case
-emptyHeard = record { found = heardInBatch (headWithEmpty ++ turningFrame 0); expected = 4 ∷ 0 ∷ 500 ∷ 1 ∷ 18 ∷ 0 ∷ 0 ∷ idle ∷ 0 ∷ [] }
+emptyHeard = record { found = heardInBatch (headWithEmpty ++ turningFrame 0); expected = 4 ∷ 0 ∷ 500 ∷ 1 ∷ 18 ∷ 0 ∷ 0 ∷ batch ∷ 1 ∷ [] }
 
 -- with an ask it is confirmed as any other
 abbrev pub missingConfirmed : Case
 missingConfirmed =
     record {
       found = heardInBatch (bundleHead ++ turningFrame 1);
-      expected = (4 ∷ 1 ∷ 500 ∷ 0 ∷ 0 ∷ idle ∷ 0 ∷ []) ++ bundleHead ++ turningFrame 2;
+      expected = (4 ∷ 1 ∷ 500 ∷ 0 ∷ 0 ∷ 0 ∷ 0 ∷ batch ∷ 1 ∷ []) ++ bundleHead ++ turningFrame 2;
     }
 
 -- where DATA is not allowed it is 17, and the reply CLOSE 2
@@ -74,7 +69,7 @@ missingForbidden =
       expected = (17 ∷ shut ∷ 0 ∷ []) ++ bundleHead ++ closeFrame 2;
     }
 
--- "15 for such DATA now means two or more", and with ACK-REPLY it is still for one; the reply is CLOSE 1
+-- "15 for such DATA now means two or more", and with ACK-REPLY one is still too many; the reply is CLOSE 1
 abbrev pub twoRefused : Case
 twoRefused =
     record {

@@ -19,7 +19,8 @@ use Rattle.message.specs.declared.Body.the-variants.{Nothing, At}
 use Rattle.message.specs.declared.Message.{Message}
 use Rattle.message.specs.declared.Reading.{Reading}
 use Rattle.message.specs.declared.Reading.the-variants.{Read}
-use Rattle.message.specs.Reading.{badFlags, badFrames, bodyIn, bodyOf, carries, hasBody, readAs, readingOf, refused}
+use Rattle.message.specs.Reading.{badFlags, badFrames, bodyIn, bodyOf, carries, readAs, readingOf, refused}
+use Rattle.message.specs.Held.{bodyBehind}
 use Rattle.message.proofs.Stages.{OfMessage, by-stages}
 
 -- a test has one answer
@@ -48,10 +49,10 @@ at-most-one Close flags frames passes some = other (sym some)
 
 module _ (s : List ℕ) (count size : ℕ) (control : Place) (contents : contentsOf s ≡ Frames count control size) where
   -- all that stands behind the control frame
-  abbrev behind : Body
-  behind = At (record { at = control .at + control .length; length = size - control .length })
+  abbrev behind : Place
+  behind = record { at = control .at + control .length; length = size - control .length }
 
-  second-frame : (t : Bool) → eqb (count - 1) 0 ≡ t → count - 1 ≤ 1 → bodyIn (frameOf s 1) ≡ cond (not t) behind Nothing
+  second-frame : (t : Bool) → eqb (count - 1) 0 ≡ t → count - 1 ≤ 1 → bodyIn (frameOf s 1) ≡ cond (not t) (At behind) Nothing
   second-frame true none few =
       let whole = contents-told s count size control contents .whole in
       ap bodyIn (frame-behind s (whole .is-good) 1 (omega (arith, whole .counts, eqb-true (count - 1) 0 none)))
@@ -60,16 +61,16 @@ module _ (s : List ℕ) (count size : ℕ) (control : Place) (contents : content
       ap bodyIn (second-of-two s size control (rw two at contents))
 
   body-behind : (message : MessageType) (flags : ℕ) → badFrames message flags (count - 1) ≡ false →
-      bodyOf s message flags ≡ cond (hasBody message flags (count - 1)) behind Nothing
+      bodyOf s message flags ≡ bodyBehind message flags (count - 1) behind
   unfolding bodyOf
   body-behind message flags passes = go (carries message flags) refl
     where
-      go : (t : Bool) → carries message flags ≡ t → cond t (bodyIn (frameOf s 1)) Nothing ≡ cond (t && not (eqb (count - 1) 0)) behind Nothing
+      go : (t : Bool) → carries message flags ≡ t → cond t (bodyIn (frameOf s 1)) Nothing ≡ cond (t && not (eqb (count - 1) 0)) (At behind) Nothing
       go true some = second-frame (eqb (count - 1) 0) refl (at-most-one message flags (count - 1) passes some)
       go false none = refl
 
   -- what is read of a message whose type is known, where its body is what stands behind its control frame
-  pub read-behind : (said : ℕ) (message : MessageType) (flags type-data : ℕ) (body : Body) → body ≡ cond (hasBody message flags (count - 1)) behind Nothing →
+  pub read-behind : (said : ℕ) (message : MessageType) (flags type-data : ℕ) (body : Body) → body ≡ bodyBehind message flags (count - 1) behind →
       readAs s said message flags type-data (count - 1) size ≡
       cond (badFlags message flags) (refused 14 said)
       (cond (badFrames message flags (count - 1)) (refused 15 said)
@@ -89,7 +90,7 @@ module _ (s : List ℕ) (count size : ℕ) (control : Place) (contents : content
 -- the body of a message: at a place where it has one
 pub record Placed (m : Message) : Type 0 where
   pub place : Place
-  pub there : m .body ≡ cond (hasBody (m .message) (m .flags) (m .frames)) (At place) Nothing
+  pub there : m .body ≡ bodyBehind (m .message) (m .flags) (m .frames) place
   pub passes : badFrames (m .message) (m .flags) (m .frames) ≡ false
 
 -- of every message that is read
@@ -99,7 +100,7 @@ read-placed s m is =
     (by-stages Placed s
     (λ count size control byte flags type-data message contents signed framed.
     record {
-      place = record { at = control .at + control .length; length = size - control .length };
+      place = behind s count size control contents;
       there = body-behind s count size control contents message flags framed;
       passes = framed;
     }))

@@ -54,7 +54,7 @@ module _ (Holds : Message → Type 0) where
   by-test true number said early next h = early
   by-test false number said early next h = h refl
 
-  -- every message that is read has the flags and the type-data of a frame that is signed, as many data frames as its type and flags need, and
+  -- every message that is read has the flags and the type-data of a frame that is signed, as many data frames as its type and flags allow, and
   -- the body that they say
   pub by-stages : (s : List ℕ)
       → ((count size : ℕ) (control : Place) (byte flags type-data : ℕ) (message : MessageType) → contentsOf s ≡ Frames count control size → signedOf (partAt s control) ≡ Frame byte flags type-data

@@ -2,7 +2,7 @@
 -- flags, frames or size."
 use Prim.Native.Nat.{ℕ, _+_, _-_}
 use mathlib.Core.List.{List}
-use mathlib.Core.Bool.{Bool, true, false, cond, not, _&&_, _||_}
+use mathlib.Core.Bool.{Bool, true, false, cond, not, _||_}
 use lib.Dec.{leb, eqb}
 use Rattle.bytes_be.specs.declared.Place.{Place}
 use Rattle.bytes_be.specs.Part.{partAt}
@@ -56,10 +56,6 @@ carries Ready flags = false
 carries Noop flags = false
 carries Data flags = not (eqb flags ackReply)
 carries Close flags = false
-
--- whether a message with so many data frames has a body
-abbrev pub hasBody : MessageType → ℕ → ℕ → Bool
-hasBody message flags frames = carries message flags && not (eqb frames 0)
 
 -- where it stands
 abbrev pub bodyIn : Frame → Body

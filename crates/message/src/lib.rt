@@ -1,8 +1,7 @@
-// A message as a bundle carries it: its control frame and its data frame, or the first of 10 to 15 that refuses it.
+// A message as a bundle carries it: its control frame and its data frame, if it has one, or the first of 10 to 15 that refuses it.
 ghost use mathlib.Core.Path.{_≡_};
-ghost use mathlib.Core.Bool.{cond};
-ghost use Rattle.message.specs.Reading.{testOf, strangeFlags, badFlags, badFrames, carries as Reading·carries, hasBody, bodyPlace, refused as Reading·refused, tested as Reading·tested, readingOf, readingNumber, saidIn};
-ghost use Rattle.message.specs.declared.Body.the-variants.{Nothing, At as Body·At};
+ghost use Rattle.message.specs.Reading.{testOf, strangeFlags, badFlags, badFrames, carries as Reading·carries, bodyPlace, refused as Reading·refused, tested as Reading·tested, readingOf, readingNumber, saidIn};
+ghost use Rattle.message.specs.Held.{bodyBehind};
 use bundle::Contents;
 use bytes_be::Place;
 use control::KnownType;
@@ -105,7 +104,7 @@ fn bad_frames(message: MessageType, flags: u8, frames: usize) -> bool
 
 // The body of a message with so many data frames, the first of which, if there is one, stands at this place.
 fn body_of(message: MessageType, flags: u8, frames: usize, at: usize, size: usize) -> Body
-    ensures { λ r. ⌜ r ≡ cond (hasBody message flags frames) (Body·At (record { at = at; length = size })) Nothing ⌝ }
+    ensures { λ r. ⌜ r ≡ bodyBehind message flags frames (record { at = at; length = size }) ⌝ }
 {
     let some = carries(message, flags) & (frames != 0);
     if some {

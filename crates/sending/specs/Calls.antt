@@ -1,8 +1,8 @@
 -- "Send": the five calls, and the message that each makes. "DATA takes type-data, one body (may be empty) and an ask for confirmation; NOOP
--- takes type-data and the ask. .. OPEN takes the pipe name (1..255 bytes of UTF-8) and a format (0..255 bytes of UTF-8)."
+-- takes type-data and the ask. .. OPEN takes the pipe name (1..255 bytes of UTF-8) and a format (0..255 bytes of UTF-8)."; and the choice of C-12.
 use Prim.Native.Nat.{ℕ, _+_}
 use mathlib.Core.List.{List, [], _∷_}
-use mathlib.Core.Bool.{Bool, false, cond, not, _&&_, _||_}
+use mathlib.Core.Bool.{Bool, true, false, cond, not, _&&_, _||_}
 use lib.ListN.{length}
 use lib.Dec.{ltb, leb, eqb}
 use Rattle.bundle.specs.Writing.{bundleOf}
@@ -22,6 +22,10 @@ pub data Body : Type 0 where
   Missing : Body
   Given : List ℕ → Body
 
+abbrev pub isMissing : Body → Bool
+isMissing Missing = true
+isMissing (Given bytes) = false
+
 -- the data frames that it makes
 abbrev pub asFrames : Body → List (List ℕ)
 asFrames Missing = []
@@ -32,17 +36,17 @@ abbrev pub bodySize : Body → ℕ
 bodySize Missing = 0
 bodySize (Given bytes) = length bytes
 
--- "DATA takes type-data, one body (may be empty) and an ask for confirmation"
+-- "DATA takes type-data, one body (may be empty) and an ask for confirmation", and by C-12 the body may be missing
 pub record Datum : Type 0 where
   pub type-data : ℕ
   pub ask : Bool
   pub body : Body
 
--- of what is told beside the body
+-- of what is told beside the body, and of a body
 abbrev pub datumWith : Report → Body → Datum
 datumWith report body = record { type-data = report .«type_data»; ask = report .ask; body = body }
 
--- and of the bytes that are lent for a body, which are not looked at where there is to be none
+-- of the bytes that are lent for a body, which are not looked at where there is to be none
 abbrev pub datumOf : Report → List ℕ → Datum
 datumOf report lent = datumWith report (cond (report .«no_body») Missing (Given lent))
 

@@ -2,9 +2,9 @@
 -- call has no option for are not looked at.
 use Prim.Native.Nat.{ℕ, _+_, _/_, _%_}
 use mathlib.Core.Path.{_≡_}
-use mathlib.Core.Bool.{Bool, true, false, cond}
+use mathlib.Core.Bool.{Bool, false, cond}
 use lib.Dec.{eqb}
-use Rattle.sending.specs.Calls.{Body, Missing, Given, Call, OPEN, READY, DATA, NOOP, CLOSE, askOf}
+use Rattle.sending.specs.Calls.{isMissing, Call, OPEN, READY, DATA, NOOP, CLOSE, askOf}
 
 abbrev pub asking : ℕ
 asking = 1
@@ -15,10 +15,6 @@ withoutBody = 2
 -- whether an option is among those given
 abbrev pub isChosen : ℕ → ℕ → Bool
 isChosen option how = eqb (how / option % 2) 1
-
-abbrev pub isMissing : Body → Bool
-isMissing Missing = true
-isMissing (Given bytes) = false
 
 -- only DATA chooses between a body and none
 abbrev pub omitsBody : Call → Bool

@@ -35,8 +35,8 @@ datum type-data ask body = record { type-data = type-data; ask = ask; body = bod
 opens : List (Event ℕ)
 opens = sends Client (OPEN pipeA) 4200 ∷ receives Server pipeA 14 ∷ []
 
--- the client produces: of an offer of five it takes two, asks for a confirmation of the second, which has no body, and is refused a third; one receive has no room
--- for a reply; the server closes, and the client's NOOP comes after that
+-- the client produces: of an offer of five it takes two, asks for a confirmation of the second, which has no body, and is refused a third; one
+-- receive has no room for a reply; the server closes, and the client's NOOP comes after that
 client-produces : List (Event ℕ)
 client-produces =
     opens

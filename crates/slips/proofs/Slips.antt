@@ -36,7 +36,7 @@ losing-data-fails demand =
     let holds = at-the-end losingData demand (agreeing 1 1 (calls Client (report false (Given [])) ∷ hears Server ∷ [])) (λ w. omega arith) in
     clash (ap length (holds .nothing-lost Server (λ closed. clash cc) refl .0))
 
--- one DATA was sent, and one with another body accepted
+-- one DATA was sent, and the one accepted has another body
 
 abbrev firstBody : List Datum → Body
 firstBody [] = Missing
@@ -49,13 +49,13 @@ pub hearing-missing-as-empty-fails : HearingMissingAsEmptyFails
 unfolding running
 hearing-missing-as-empty-fails demand =
     let holds = at-the-end hearingMissingAsEmpty demand (agreeing 1 1 (calls Client (report false Missing) ∷ hears Server ∷ [])) (λ w. omega arith) in
-    other-body (ap firstBody (holds .nothing-lost Server (λ closed. clash cc) refl .0))
+    other-body (ap firstBody (holds .data-leads Server .1))
 
 pub sending-empty-as-missing-fails : SendingEmptyAsMissingFails
 unfolding running
 sending-empty-as-missing-fails demand =
     let holds = at-the-end sendingEmptyAsMissing demand (agreeing 1 1 (calls Client (report false (Given [])) ∷ hears Server ∷ [])) (λ w. omega arith) in
-    other-body (ap firstBody (sym (holds .nothing-lost Server (λ closed. clash cc) refl .0)))
+    other-body (ap firstBody (sym (holds .data-leads Server .1)))
 
 -- in a batch of 1 two DATA are accepted
 pub running-past-count-fails : RunningPastCountFails

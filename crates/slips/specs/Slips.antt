@@ -18,8 +18,7 @@ use Rattle.endpoint.specs.Record.{batch, producer, atPhase, closed}
 use Rattle.table.specs.declared.Row.the-variants.{AboveOffer}
 use Rattle.table.specs.Table.{dataRow, hearNumber, moved, sendNumber}
 use Rattle.receiving.specs.Refusing.{refused}
-use Rattle.sending.specs.Calls.{Body, Missing, Given, bodySize, Call, OPEN, READY, DATA, NOOP, CLOSE}
-use Rattle.sending.specs.Options.{isMissing}
+use Rattle.sending.specs.Calls.{Body, Missing, Given, isMissing, bodySize, Call, OPEN, READY, DATA, NOOP, CLOSE}
 use Rattle.machine.specs.Programs.{Queued, nothingTold, Told, SendOutcome, ReceiveOutcome, ignored, outcomeOf, Program, tables}
 use Rattle.session.specs.Demand.{DemandOf, asRecords}
 
@@ -143,16 +142,16 @@ abbrev pub HearingMissingAsEmptyFails : Type 0
 HearingMissingAsEmptyFails = Fails hearingMissingAsEmpty
 
 -- and an empty one is sent as missing
-abbrev pub emptied : Call → Call
-emptied (OPEN asked) = OPEN asked
-emptied (READY count) = READY count
-emptied (DATA datum) =
+abbrev pub omittingEmpty : Call → Call
+omittingEmpty (OPEN asked) = OPEN asked
+omittingEmpty (READY count) = READY count
+omittingEmpty (DATA datum) =
     DATA (record { type-data = datum .type-data; ask = datum .ask; body = cond (eqb (bodySize (datum .body)) 0) Missing (datum .body) })
-emptied (NOOP type-data ask) = NOOP type-data ask
-emptied (CLOSE code) = CLOSE code
+omittingEmpty (NOOP type-data ask) = NOOP type-data ask
+omittingEmpty (CLOSE code) = CLOSE code
 
 abbrev pub sendingEmptyAsMissing : Program Endpoint ℕ
-sendingEmptyAsMissing = slipping (λ e call out. tables .send e (emptied call) out) (tables .receive)
+sendingEmptyAsMissing = slipping (λ e call out. tables .send e (omittingEmpty call) out) (tables .receive)
 
 abbrev pub SendingEmptyAsMissingFails : Type 0
 SendingEmptyAsMissingFails = Fails sendingEmptyAsMissing

@@ -1,4 +1,4 @@
--- `message::body_of` meets its contract: only a message that carries a data frame has a body.
+-- `message::body_of` meets its contract: only a message whose data frame is looked at, and is there, has a body.
 -- Assumes nothing.
 use mathlib.Core.Path.{sym}
 use borrow.Author.Needs.{needs}
