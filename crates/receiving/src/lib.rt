@@ -20,6 +20,7 @@ use table::Row;
 
 // What is heard beside type, flags and type-data.
 pub enum Content {
+    // Of DATA too, where its body is missing.
     Nothing,
     Opening(Opening),
     // Where the body of DATA stands in the message.
