@@ -43,6 +43,17 @@ pub well-given : (asked : Offer) → numberIf (misgiven asked) 34 ≡ 0 → isGo
 unfolding misgiven
 well-given asked own = not-false (isGood asked) (not-applies (misgiven asked) 34 (lit< tt) own)
 
+-- the flags of an own message are no strange ones, confirm nothing, and ask where it asks
+record AskedFlags (ask : Bool) : Type 0 where
+  known : strangeFlags (flagsFor ask) ≡ false
+  own : eqb (flagsFor ask) ackReply ≡ false
+  asks-for : eqb (flagsFor ask) ackRequest ≡ ask
+
+asked-flags : (ask : Bool) → AskedFlags ask
+unfolding strangeFlags
+asked-flags true = record { known = refl; own = refl; asks-for = refl }
+asked-flags false = record { known = refl; own = refl; asks-for = refl }
+
 module _ (e : Endpoint) (is-good : good e ≡ true) where
   -- a body of a message that is not above the limit
   body-short : (body : Body) → ltb (e .limit) (8 + bodySize body) ≡ false → bodySize body < 256 ^ 4
@@ -54,15 +65,18 @@ module _ (e : Endpoint) (is-good : good e ≡ true) where
   open-short : (pipe : Offer) → isGood pipe ≡ true → length (frameFor (e .flow) pipe (e .limit)) < 256 ^ 4
   open-short pipe given = omega (arith, frame-short (e .flow) pipe (e .limit) given)
 
-  -- a datum, with an ask or without, and with a body or without
+  -- a datum, with a body or without
   data-read : (type-data : ℕ) (ask : Bool) (body : Body) → type-data < 256 ^ 2 → bodySize body < 256 ^ 4 → ReadBack e (DATA (record { type-data = type-data; ask = ask; body = body }))
-  unfolding bundleWith strangeFlags
-  data-read type-data true Missing fits short = record { read = plain-read Data 1 type-data fits refl refl; framed = refl }
-  data-read type-data false Missing fits short = record { read = plain-read Data 0 type-data fits refl refl; framed = refl }
-  data-read type-data true (Given bytes) fits short =
-      record { read = framed-read Data 1 type-data fits bytes short refl refl refl; framed = frame-read Data 1 type-data fits bytes short }
-  data-read type-data false (Given bytes) fits short =
-      record { read = framed-read Data 0 type-data fits bytes short refl refl refl; framed = frame-read Data 0 type-data fits bytes short }
+  unfolding bundleWith
+  data-read type-data ask Missing fits short =
+      let flags = asked-flags ask in
+      record { read = plain-read Data (flagsFor ask) type-data fits (flags .known) (simp (flags .own)); framed = refl }
+  data-read type-data ask (Given bytes) fits short =
+      let flags = asked-flags ask in
+      record {
+        read = framed-read Data (flagsFor ask) type-data fits bytes short (flags .known) (simp (flags .own)) (simp (flags .own));
+        framed = frame-read Data (flagsFor ask) type-data fits bytes short;
+      }
 
   call-read : (call : Call) → Fits call → ownNumber e call ≡ 0 → ReadBack e call
   unfolding bundleWith strangeFlags
@@ -72,8 +86,7 @@ module _ (e : Endpoint) (is-good : good e ≡ true) where
       record { read = framed-read Open 0 0 fits frame short refl refl refl; framed = frame-read Open 0 0 fits frame short }
   call-read (READY count) fits own = record { read = plain-read Ready 0 count fits refl refl; framed = refl }
   call-read (DATA datum) fits own = data-read (datum .type-data) (datum .ask) (datum .body) fits (body-short (datum .body) (not-above e datum own))
-  call-read (NOOP type-data true) fits own = record { read = plain-read Noop 1 type-data fits refl refl; framed = refl }
-  call-read (NOOP type-data false) fits own = record { read = plain-read Noop 0 type-data fits refl refl; framed = refl }
+  call-read (NOOP type-data ask) fits own = record { read = plain-read Noop (flagsFor ask) type-data fits (asked-flags ask .known) refl; framed = refl }
   call-read (CLOSE code) fits own = record { read = plain-read Close 0 code fits refl refl; framed = refl }
 
 -- every call that is accepted is read as its message
@@ -88,13 +101,8 @@ reads-back e call fits room number =
 pub own-flags : (call : Call) → (confirms (messageOf call) (flagsFor (askOf call)) ≡ false) × (asks (messageOf call) (flagsFor (askOf call)) ≡ askOf call)
 own-flags (OPEN asked) = (refl, refl)
 own-flags (READY count) = (refl, refl)
-own-flags (DATA datum) = ask-flags (datum .ask)
-  where
-    ask-flags : (ask : Bool) → (eqb (flagsFor ask) ackReply ≡ false) × (eqb (flagsFor ask) ackRequest ≡ ask)
-    ask-flags true = (refl, refl)
-    ask-flags false = (refl, refl)
-own-flags (NOOP type-data true) = (refl, refl)
-own-flags (NOOP type-data false) = (refl, refl)
+own-flags (DATA datum) = let flags = asked-flags (datum .ask) in (flags .own, flags .asks-for)
+own-flags (NOOP type-data ask) = let flags = asked-flags ask in (flags .own, flags .asks-for)
 own-flags (CLOSE code) = (refl, refl)
 
 module _ (e : Endpoint) (call : Call) where

@@ -207,12 +207,13 @@ fn send_body(e: Endpoint, report: Report, body: &[u8], out: &mut [u8]) -> Sent
     ensures { λ r. ⌜ SendAnswer e (DATA (datumWith report (Body·Given (now (body .entry))))) (now (out .entry)) r (now (out .exit)) ⌝ }
 {
     let large = (e.limit as usize) < 8 + body.len();
+    let length = 18 + body.len();
     let o = Outgoing {
         message: MessageType::Data,
         type_data: report.type_data,
         ask: report.ask,
         own: number_if(large, 33),
-        length: 18 + body.len(),
+        length: length,
     };
     let sent = decide(e, o, out.len());
     if sent.number == 0 {

@@ -1,8 +1,9 @@
 -- The opening that all runs share, and demand 3 at the end of a run. Assumes nothing.
 use mathlib.Core.Path.{_≡_, refl}
 use mathlib.Core.List.{List, [], _∷_}
-use mathlib.Core.Bool.{Bool}
-use Prim.Native.Nat.{ℕ, _+_}
+use mathlib.Core.Bool.{Bool, false}
+use Prim.Native.Nat.{ℕ, _+_, _<_, _^_}
+use native.Mathlib.Omega.{arith}
 use Rattle.endpoint.specs.declared.Endpoint.{Endpoint}
 use Rattle.endpoint.specs.Record.{consumer, producer, freshClient, freshOf, freshServer, givenOf}
 use Rattle.sending.specs.Calls.{Body, Call, OPEN, READY, DATA}
@@ -66,3 +67,8 @@ unfolding givenOf freshOf
 at-the-end p demand events fit =
     demand makings (freshClient producer limit) (freshServer consumer) (record { given = refl; holds = refl; none-due = refl })
     (record { given = refl; holds = refl; none-due = refl }) events (fit start)
+
+-- and of a batch of this count, in which the client has sent one DATA with this body and the server has heard it
+pub after-report : (p : Program Endpoint ℕ) → DemandOf p asRecords → (count : ℕ) → count < 256 ^ 2 → (body : Body)
+    → Holds p asRecords (run p start (agreeing count count (calls Client (report false body) ∷ hears Server ∷ [])))
+after-report p demand count few body = at-the-end p demand (agreeing count count (calls Client (report false body) ∷ hears Server ∷ [])) (λ w. omega arith)

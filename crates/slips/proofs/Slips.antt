@@ -1,19 +1,18 @@
 -- Slips that are seen by computing a run: each breaks a clause of demand 3 at its end. Assumes nothing.
-use mathlib.Core.Path.{_≡_, ap, refl, sym}
+use mathlib.Core.Path.{_≡_, ap, refl}
 use mathlib.Core.List.{List, [], _∷_}
 use mathlib.Core.Bool.{true, false}
 use Prim.Native.Nat.{ℕ}
 use native.Mathlib.Omega.{arith}
+use lib.Dec.{lit<}
 use lib.ListN.{getD, length}
 use Rattle.bytes_be.proofs.Tests.{clash}
-use Rattle.sending.specs.Calls.{Body, Missing, Given, Datum, CLOSE}
+use Rattle.sending.specs.Calls.{Given, CLOSE}
 use Rattle.session.specs.World.{Client, Server, Going, WroteClose}
 use Rattle.slips.specs.Slips.{countingConfirmations, CountingConfirmationsFails, readingLowByteFirst, ReadingLowByteFirstFails}
 use Rattle.slips.specs.Slips.{losingData, LosingDataFails, agreeingAboveOffer, AgreeingAboveOfferFails, runningPastCount, RunningPastCountFails}
-use Rattle.slips.specs.Slips.{hearingMissingAsEmpty, HearingMissingAsEmptyFails, sendingEmptyAsMissing, SendingEmptyAsMissingFails}
-use Rattle.slips.specs.Slips.{loweringTwice, LoweringTwiceFails, neverLowering, NeverLoweringFails}
 use Rattle.slips.specs.Slips.{passingOverClose, PassingOverCloseFails, hearingReadyAsClose, HearingReadyAsCloseFails}
-use Rattle.slips.proofs.Runs.{agreeing, at-rest, at-the-end, calls, hears, report, room, running}
+use Rattle.slips.proofs.Runs.{after-report, agreeing, at-rest, at-the-end, calls, hears, report, room, running}
 
 -- an offer of 1 is heard as one of 256
 pub reading-low-byte-first-fails : ReadingLowByteFirstFails
@@ -33,29 +32,8 @@ agreeing-above-offer-fails demand =
 pub losing-data-fails : LosingDataFails
 unfolding running
 losing-data-fails demand =
-    let holds = at-the-end losingData demand (agreeing 1 1 (calls Client (report false (Given [])) ∷ hears Server ∷ [])) (λ w. omega arith) in
+    let holds = after-report losingData demand 1 (lit< tt) (Given []) in
     clash (ap length (holds .nothing-lost Server (λ closed. clash cc) refl .0))
-
--- one DATA was sent, and the one accepted has another body
-
-abbrev firstBody : List Datum → Body
-firstBody [] = Missing
-firstBody (datum ∷ rest) = datum .body
-
-other-body : Given [] ≡ Missing → ⊥
-other-body e = clash cc
-
-pub hearing-missing-as-empty-fails : HearingMissingAsEmptyFails
-unfolding running
-hearing-missing-as-empty-fails demand =
-    let holds = at-the-end hearingMissingAsEmpty demand (agreeing 1 1 (calls Client (report false Missing) ∷ hears Server ∷ [])) (λ w. omega arith) in
-    other-body (ap firstBody (holds .data-leads Server .1))
-
-pub sending-empty-as-missing-fails : SendingEmptyAsMissingFails
-unfolding running
-sending-empty-as-missing-fails demand =
-    let holds = at-the-end sendingEmptyAsMissing demand (agreeing 1 1 (calls Client (report false (Given [])) ∷ hears Server ∷ [])) (λ w. omega arith) in
-    other-body (ap firstBody (sym (holds .data-leads Server .1)))
 
 -- in a batch of 1 two DATA are accepted
 pub running-past-count-fails : RunningPastCountFails
@@ -64,20 +42,6 @@ running-past-count-fails demand =
     let twice = calls Client (report false (Given [])) ∷ hears Server ∷ calls Client (report false (Given [])) ∷ hears Server ∷ [] in
     let holds = at-the-end runningPastCount demand (agreeing 1 1 twice) (λ w. omega arith) in
     absurd (omega (arith, holds .within))
-
--- in a batch of 2 one DATA without a body is accepted: at rest the server is idle, or has two to come, and the client is in the batch with one
-
-pub lowering-twice-fails : LoweringTwiceFails
-unfolding running
-lowering-twice-fails demand =
-    let holds = at-the-end loweringTwice demand (agreeing 2 2 (calls Client (report false Missing) ∷ hears Server ∷ [])) (λ w. omega arith) in
-    absurd (omega (arith, holds .same-at-rest (at-rest _ refl refl refl refl) .0))
-
-pub never-lowering-fails : NeverLoweringFails
-unfolding running
-never-lowering-fails demand =
-    let holds = at-the-end neverLowering demand (agreeing 2 2 (calls Client (report false Missing) ∷ hears Server ∷ [])) (λ w. omega arith) in
-    absurd (omega (arith, holds .same-at-rest (at-rest _ refl refl refl refl) .1))
 
 -- in a batch of 2 one DATA is confirmed: the client is idle and waits for an offer, and the server is in the batch and may make none
 pub counting-confirmations-fails : CountingConfirmationsFails

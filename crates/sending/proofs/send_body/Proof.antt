@@ -35,11 +35,11 @@ cast-large c = search needs
 add-large : tie.Need-add-large
 add-large c = search needs
 
+add-length : tie.Need-add-length
+add-length c = search needs
+
 number-if-requires : tie.Need-number-if-requires
 number-if-requires c κs = search needs
-
-add-t11 : tie.Need-add-t11
-add-t11 c = search needs
 
 decide-requires : tie.Need-decide-requires
 decide-requires c κs = search needs
@@ -81,8 +81,8 @@ send-body-spec =
     (tie.spec
     cast-large
     add-large
+    add-length
     number-if-requires
-    add-t11
     decide-requires
     control-frame-requires
     write-two-requires
