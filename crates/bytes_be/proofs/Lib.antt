@@ -5,4 +5,5 @@ pub mod Parts
 pub mod Filled
 pub mod Sameness
 pub mod Numbers
+pub mod Words
 pub mod Determined

@@ -1,6 +1,6 @@
 -- Lists that are the same: what the test says, and how it goes on from a place. Assumes nothing.
 use Prim.Native.Nat.{ℕ, _+_, _≤_, _<_}
-use mathlib.Core.Path.{_≡_, refl, ap, ap₂}
+use mathlib.Core.Path.{_≡_, refl, ap₂}
 use mathlib.Core.List.{List, [], _∷_}
 use mathlib.Core.Bool.{Bool, true, false}
 use lib.ListN.{length, getD, drop, drop-of-length-le}
@@ -29,12 +29,13 @@ unfolding same
 equal-same [] = refl
 equal-same (x ∷ xs) = simp (eq-eqb x x refl, equal-same xs)
 
-pub lengths-differ : (xs ys : List ℕ) → (length xs ≡ length ys → ⊥) → false ≡ same xs ys
-lengths-differ xs ys other = go (same xs ys) (same-equal xs ys)
+-- and of lists that are not, that they are not
+pub not-same : (xs ys : List ℕ) → (xs ≡ ys → ⊥) → false ≡ same xs ys
+not-same xs ys other = go (same xs ys) (same-equal xs ys)
   where
     go : (t : Bool) → (t ≡ true → xs ≡ ys) → false ≡ t
     go false f = refl
-    go true f = absurd (other (ap length (f refl)))
+    go true f = absurd (other (f refl))
 
 module _ (xs ys : List ℕ) (i : ℕ) (lx : i < length xs) (ly : i < length ys) where
   pub same-step : getD xs i 0 ≡ getD ys i 0 → same (drop i xs) (drop i ys) ≡ same (drop (i + 1) xs) (drop (i + 1) ys)

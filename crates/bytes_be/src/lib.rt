@@ -1,9 +1,11 @@
-// Big-endian numbers at a place of a slice, and the copy that everything written to an output uses.
+// Numbers at a place of a slice, and the copy that everything written to an output uses.
 ghost use mathlib.Core.Path.{_≡_};
-ghost use Prim.Native.Nat.{_≤_, _<_, _^_};
-ghost use Rattle.bytes_be.specs.Part.{putAt};
+ghost use mathlib.Core.List.{reverse};
+ghost use Prim.Native.Nat.{_+_, _≤_, _<_, _^_};
+ghost use lib.ListN.{length};
+ghost use Rattle.bytes_be.specs.Part.{part, putAt};
 ghost use Rattle.bytes_be.specs.Part.{holds as Part·holds, same as Part·same};
-ghost use Rattle.bytes_be.specs.Number.{numberAt, toBytes};
+ghost use Rattle.bytes_be.specs.Number.{fromBytes, numberAt, toBytes};
 
 // Where a part of a slice stands.
 pub struct Place {
@@ -21,13 +23,35 @@ pub fn holds(n: usize, at: usize, size: usize) -> bool
     at <= n - size
 }
 
-// Whether two slices have the same bytes.
-pub fn same(a: &[u8], b: &[u8]) -> bool
+fn wide(byte: u8) -> u64
+    ensures { λ r. ⌜ (r ≡ byte) × (r < 256) ⌝ }
+{
+    byte as u64
+}
+
+// The number that the eight bytes at place `at` say, the least significant first. This form is compiled to one load.
+pub fn word_at(s: &[u8], at: usize) -> u64
+    requires { ⌜ at + 8 ≤ length (now s) ⌝ }
+    ensures { λ r. ⌜ r ≡ fromBytes (reverse (part (now (s .entry)) at 8)) ⌝ }
+{
+    let end = at + 8;
+    let bytes = &s[at..end];
+    // From a to g: the number of the last byte, of the last two, and so on.
+    let a = wide(bytes[7]);
+    let b = a * 256 + wide(bytes[6]);
+    let c = b * 256 + wide(bytes[5]);
+    let d = c * 256 + wide(bytes[4]);
+    let e = d * 256 + wide(bytes[3]);
+    let f = e * 256 + wide(bytes[2]);
+    let g = f * 256 + wide(bytes[1]);
+    g * 256 + wide(bytes[0])
+}
+
+// Whether two slices of one length have the same bytes, one by one.
+fn same_bytes(a: &[u8], b: &[u8]) -> bool
+    requires { ⌜ length (now a) ≡ length (now b) ⌝ }
     ensures { λ r. ⌜ r ≡ Part·same (now (a .entry)) (now (b .entry)) ⌝ }
 {
-    if a.len() != b.len() {
-        return false;
-    }
     let mut at = 0;
     while at < a.len() {
         if a[at] != b[at] {
@@ -36,6 +60,35 @@ pub fn same(a: &[u8], b: &[u8]) -> bool
         at += 1;
     }
     true
+}
+
+// The same, eight at a time; the last eight may begin among those that were compared before.
+fn same_words(a: &[u8], b: &[u8]) -> bool
+    requires { ⌜ (length (now a) ≡ length (now b)) × (8 ≤ length (now a)) ⌝ }
+    ensures { λ r. ⌜ r ≡ Part·same (now (a .entry)) (now (b .entry)) ⌝ }
+{
+    let last = a.len() - 8;
+    let mut at = 0;
+    while at < last {
+        if word_at(a, at) != word_at(b, at) {
+            return false;
+        }
+        at += 8;
+    }
+    word_at(a, last) == word_at(b, last)
+}
+
+// Whether two slices have the same bytes.
+pub fn same(a: &[u8], b: &[u8]) -> bool
+    ensures { λ r. ⌜ r ≡ Part·same (now (a .entry)) (now (b .entry)) ⌝ }
+{
+    if a.len() != b.len() {
+        return false;
+    }
+    if a.len() < 8 {
+        return same_bytes(a, b);
+    }
+    same_words(a, b)
 }
 
 // Copies `bytes` into `out` from place `at` on. Where they do not all fit, `out` stays as it is.
@@ -50,12 +103,6 @@ pub fn copy_at(out: &mut [u8], at: usize, bytes: &[u8])
             i += 1;
         }
     }
-}
-
-fn wide(byte: u8) -> u64
-    ensures { λ r. ⌜ r ≡ byte ⌝ }
-{
-    byte as u64
 }
 
 // The number that the `width` bytes at place `at` say, or 0 where they do not all lie in s.

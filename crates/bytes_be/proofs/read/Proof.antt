@@ -64,7 +64,7 @@ loop-again c =
     let i = at-loop .loop .i in
     let byte = c .before .shared-slice-known2 .given (a .at + i) in
     let more = number-more (a .s .now) (a .at) i (at-loop .loop .n) (omega arith) (at-loop .loop .inv .2) in
-    (omega arith, at-loop .loop .inv .1, rw (c .wide .ensures) more, more-below i (at-loop .loop .inv .3) (omega (arith, byte)))
+    (omega arith, at-loop .loop .inv .1, rw (c .wide .ensures .0) more, more-below i (at-loop .loop .inv .3) (omega (arith, byte)))
 
 returns-2 : tie.Need-returns-2 Inv-loop μ-loop
 unfolding numberAt
