@@ -1,10 +1,6 @@
 // Doubles as eight bytes, and the limit that a double says.
 ghost use mathlib.Core.Path.{_≡_};
-ghost use mathlib.Core.List.{reverse};
-ghost use Prim.Native.Nat.{_+_, _≤_};
-ghost use lib.ListN.{length};
 ghost use lib.Ieee.{binary64, ofBits};
-ghost use Rattle.bytes_be.specs.Part.{part};
 ghost use Rattle.double.specs.Double.{bitsAt, bytesOf};
 ghost use Rattle.double.specs.Limit.{limitOf};
 
@@ -15,25 +11,6 @@ pub enum Limit {
     Bad,
 }
 
-// The eight bytes at place `at`, the last one first.
-fn backwards(s: &[u8], at: usize) -> [u8; 8]
-    requires { ⌜ at + 8 ≤ length (now s) ⌝ }
-    ensures { λ r. ⌜ r ≡ reverse (part (now (s .entry)) at 8) ⌝ }
-{
-    let end = at + 8;
-    let bytes = &s[at..end];
-    [
-        bytes[7],
-        bytes[6],
-        bytes[5],
-        bytes[4],
-        bytes[3],
-        bytes[2],
-        bytes[1],
-        bytes[0],
-    ]
-}
-
 // The number that the eight bytes at place `at` say, the least significant first, or 0 where they do not all lie in s.
 pub fn bits_at(s: &[u8], at: usize) -> u64
     ensures { λ r. ⌜ r ≡ bitsAt (now (s .entry)) at ⌝ }
@@ -42,8 +19,7 @@ pub fn bits_at(s: &[u8], at: usize) -> u64
     if !fits {
         return 0;
     }
-    let bytes = backwards(s, at);
-    bytes_be::read64(&bytes, 0)
+    bytes_be::word_at(s, at)
 }
 
 // The double of a bit pattern. Each NaN pattern is a NaN.
@@ -64,7 +40,16 @@ pub fn bytes_of(number: u32) -> [u8; 8]
 {
     let bits = f64::to_bits(number as f64);
     let bytes = bytes_be::bytes64(bits);
-    backwards(&bytes, 0)
+    [
+        bytes[7],
+        bytes[6],
+        bytes[5],
+        bytes[4],
+        bytes[3],
+        bytes[2],
+        bytes[1],
+        bytes[0],
+    ]
 }
 
 // The limit that a double says. It is compared as an integer, and equal bits show that nothing was lost.

@@ -1,12 +1,12 @@
 -- Laws of whether a range has a byte, and of the ranges that a count stands for. Assumes nothing.
 use Prim.Native.Nat.{ℕ, zero, suc, _-_, _≤_, _<_}
 use mathlib.Core.Path.{_≡_, refl}
-use mathlib.Core.List.{[], _∷_}
+use mathlib.Core.List.{_∷_}
 use mathlib.Core.Bool.{Bool, true, false, and-eq-true-iff}
 use native.Mathlib.Omega.{arith}
-use lib.Dec.{leb, eqb, leb·zero, eqb·suc-zero}
+use lib.Dec.{leb, leb·zero}
 use borrow.Author.Tests.{le-leb, lt-leb, leb-true}
-use Rattle.utf8.specs.Text.{_‥_, within, rest}
+use Rattle.utf8.specs.Text.{_‥_, within}
 use Rattle.utf8.specs.Held.{ranges}
 
 -- a range from 0 on has each byte up to its end, and none above
@@ -34,9 +34,3 @@ ranges-some {count = zero} some from to = absurd (some refl)
 ranges-some {count = suc more} some from to =
     let less : suc more - 1 ≡ more = omega arith in
     rw less
-
--- a text may end where no byte is due
-pub rest-ends : (count from to : ℕ) → rest (ranges count from to) [] ≡ eqb count 0
-unfolding rest ranges
-rest-ends zero from to = refl
-rest-ends (suc more) from to = simp (eqb·suc-zero more)

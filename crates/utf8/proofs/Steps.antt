@@ -1,42 +1,31 @@
--- The cases of `rest` at a place of a text, for one pass over it. Assumes nothing.
+-- The steps of one pass over a text, which stands at the start of a sequence after each. Assumes nothing.
 use Prim.Native.Nat.{ℕ, suc, _+_, _≤_, _<_}
 use mathlib.Core.Path.{_≡_, refl, sym, _∙_}
-use mathlib.Core.List.{List, [], _∷_}
-use mathlib.Core.Bool.{Bool, true, false, _&&_, cond}
-use mathlib.Core.Option.{none, some}
+use mathlib.Core.List.{List}
+use mathlib.Core.Bool.{Bool, true, false, _&&_}
 use native.Mathlib.Numerals.{add-one}
-use lib.Dec.{eqb}
-use lib.ListN.{getD, length, drop, drop-of-length-le}
+use native.Mathlib.Omega.{arith}
+use lib.Dec.{ltb}
+use lib.ListN.{length, getD, drop, drop-of-length-le}
 use lib.Seq.{drop-cons}
-use Rattle.utf8.specs.declared.Due.{Due}
-use Rattle.utf8.specs.declared.Due.the-variants.{Bytes, Never}
-use Rattle.utf8.specs.Text.{Range, within, ifSome, rest}
-use Rattle.utf8.specs.Held.{ranges, rangesOf, dueAfter}
-use Rattle.utf8.proofs.Rows.{rest-ends}
-
--- one byte more: the rest behind it is a text that owes what is then due
-pub rest-step : (due : List Range) (b : ℕ) (l : List ℕ) → rest due (b ∷ l) ≡ ifSome (dueAfter due b) (λ next. rest next l)
-unfolding rest dueAfter
-rest-step [] b l = refl
-rest-step (range ∷ due) b l = go (within range b)
-  where
-    go : (t : Bool) → t && rest due l ≡ ifSome (cond t (some due) none) (λ next. rest next l)
-    go true = refl
-    go false = refl
+use borrow.Author.Tests.{lt-ltb}
+use Rattle.utf8.specs.Text.{rest, wellFormed}
+use Rattle.utf8.proofs.Texts.{low-in-front}
+use Rattle.utf8.proofs.Runs.{Run, run-passed}
 
 -- w is what the whole text comes to, and is known to be what comes of it from place i on
-module _ (w : Bool) (s : List ℕ) (count from to i : ℕ) (known : w ≡ rest (ranges count from to) (drop i s)) where
-  pub at-end : length s ≤ i → eqb count 0 ≡ w
-  at-end h = sym (known ∙ rw (drop-of-length-le s {i = i} h) (rest-ends count from to))
+module _ (w : Bool) (s : List ℕ) (i : ℕ) (known : w ≡ wellFormed (drop i s)) where
+  pub at-end : length s ≤ i → true ≡ w
+  unfolding wellFormed rest
+  at-end h = sym (known ∙ rw (drop-of-length-le s {i = i} h) refl)
 
-  module _ (next : Due) (behind : rangesOf next ≡ dueAfter (ranges count from to) (getD s i 0)) (inside : i < length s) where
-    at-byte : w ≡ ifSome (rangesOf next) (λ due. rest due (drop (i + 1) s))
-    at-byte = known ∙ rw (drop-cons s i 0 inside, behind, add-one) (rest-step (ranges count from to) (getD s i 0) (drop (suc i) s))
+  pub at-low : i < length s → getD s i 0 < 128 → w ≡ wellFormed (drop (i + 1) s)
+  at-low inside low = known ∙ rw (drop-cons s i 0 inside, add-one) (low-in-front (getD s i 0) (drop (suc i) s) low)
 
-    pub at-bytes : {more lowest highest : ℕ} → next ≡ Bytes more lowest highest → w ≡ rest (ranges more lowest highest) (drop (i + 1) s)
-    unfolding rangesOf
-    at-bytes e = at-byte ∙ rw e
+  -- the sequence there has so many bytes, or is none
+  module _ (size : ℕ) (told : wellFormed (drop i s) ≡ ltb 0 size && wellFormed (drop (i + size) s)) where
+    pub at-none : size ≡ 0 → false ≡ w
+    at-none none = sym (known ∙ told ∙ rw none refl)
 
-    pub at-never : next ≡ Never → false ≡ w
-    unfolding rangesOf
-    at-never e = sym (at-byte ∙ rw e)
+    pub at-sequence : (size ≡ 0 → ⊥) → (to : ℕ) → Run s (i + size) to → w ≡ wellFormed (drop to s)
+    at-sequence some to run = known ∙ told ∙ rw (lt-ltb 0 size (omega arith)) (run-passed s (i + size) to run)

@@ -2,14 +2,13 @@
 use Prim.Native.Nat.{ℕ, suc, _≤_, _<_}
 use mathlib.Core.Path.{_≡_, refl, sym, _∙_}
 use mathlib.Core.List.{List, [], _∷_, _++_}
-use mathlib.Core.Bool.{true}
+use mathlib.Core.Bool.{Bool, true, false, _&&_, cond}
 use mathlib.Core.Option.{Option, none, some}
 use native.Mathlib.Omega.{arith}
 use lib.ListN.{length, getD}
-use Rattle.utf8.specs.Text.{Range, table, dueBehind, ifSome, rest, wellFormed}
+use Rattle.utf8.specs.Text.{Range, within, table, dueBehind, ifSome, rest, wellFormed}
 use Rattle.utf8.specs.Held.{dueAfter}
 use Rattle.utf8.proofs.Rows.{within-low}
-use Rattle.utf8.proofs.Steps.{rest-step}
 
 pub low-in-front : (b : ℕ) (l : List ℕ) → b < 128 → wellFormed (b ∷ l) ≡ wellFormed l
 unfolding wellFormed rest dueBehind table
@@ -21,6 +20,16 @@ pub low-run-in-front : (xs l : List ℕ) → ((i : ℕ) → i < length xs → ge
 low-run-in-front [] l h = refl
 low-run-in-front (b ∷ xs) l h =
     low-in-front b (xs ++ l) (h 0 (omega arith)) ∙ low-run-in-front xs l (λ i less. h (suc i) (omega arith))
+
+-- one byte more: the rest behind it is a text that owes what is then due
+rest-step : (due : List Range) (b : ℕ) (l : List ℕ) → rest due (b ∷ l) ≡ ifSome (dueAfter due b) (λ next. rest next l)
+unfolding rest dueAfter
+rest-step [] b l = refl
+rest-step (range ∷ due) b l = go (within range b)
+  where
+    go : (t : Bool) → t && rest due l ≡ ifSome (cond t (some due) none) (λ next. rest next l)
+    go true = refl
+    go false = refl
 
 -- where ranges are due in front too: a text that begins with them ends with none due
 rest-append : (xs ys : List ℕ) (due : List Range) → rest due xs ≡ true → rest due (xs ++ ys) ≡ rest [] ys

@@ -1,7 +1,13 @@
 // Whether bytes are well-formed UTF-8.
 ghost use mathlib.Core.Path.{_≡_};
-ghost use Rattle.utf8.specs.Text.{table, dueBehind, wellFormed};
-ghost use Rattle.utf8.specs.Held.{ranges, rangesOf, dueAfter};
+ghost use mathlib.Core.Bool.{true, _&&_};
+ghost use mathlib.Core.Logic.{_↔_};
+ghost use Prim.Native.Nat.{ℕ, _+_, _≤_, _<_};
+ghost use lib.ListN.{length, getD, drop};
+ghost use lib.Dec.{ltb};
+ghost use Rattle.bytes_be.specs.Part.{part};
+ghost use Rattle.utf8.specs.Text.{table, dueBehind, rest, wellFormed};
+ghost use Rattle.utf8.specs.Held.{ranges, rangesOf};
 ghost use Rattle.utf8.specs.declared.Due.the-variants.{Bytes};
 
 // What must follow for the bytes so far to be the start of a well-formed text.
@@ -56,43 +62,122 @@ fn due_behind(byte: u8) -> Due
     Due::Never
 }
 
-// What is due behind any byte, where `count` bytes were due before it, the next of them in this range.
-fn due_after(count: u8, from: u8, to: u8, byte: u8) -> Due
-    ensures { λ r. ⌜ rangesOf r ≡ dueAfter (ranges count from to) byte ⌝ }
+// Whether the bytes that are due stand at place `at`: `count` of them, the first in this range.
+fn follow(s: &[u8], at: usize, count: u8, from: u8, to: u8) -> bool
+    requires { ⌜ at ≤ length (now s) ⌝ }
+    ensures { λ r. ⌜ r ≡ rest (ranges count from to) (part (now (s .entry)) at count) ⌝ }
 {
-    if count == 0 {
-        return due_behind(byte);
+    if s.len() - at < count as usize {
+        return false;
     }
-    if (from <= byte) & (byte <= to) {
-        return due_bytes(count - 1, 0x80, 0xBF);
+    let mut left = count;
+    let mut lowest = from;
+    let mut highest = to;
+    let mut i = at;
+    while left != 0 {
+        let inside = (lowest <= s[i]) & (s[i] <= highest);
+        if !inside {
+            return false;
+        }
+        left -= 1;
+        lowest = 0x80;
+        highest = 0xBF;
+        i += 1;
     }
-    Due::Never
+    true
 }
 
-// Whether the bytes are text, in one pass that ends at the first byte which may not stand where it does.
+// How many bytes the sequence at place i has, or 0 where none of the table is there: then the text is not well-formed from there on,
+// and else it is so exactly if it is behind the sequence.
+fn sequence_at(s: &[u8], i: usize) -> usize
+    requires { ⌜ i < length (now s) ⌝ }
+    ensures { λ r. ⌜ (i + r ≤ length (now (s .entry))) × (wellFormed (drop i (now (s .entry))) ≡ ltb 0 r && wellFormed (drop (i + r) (now (s .entry)))) ⌝ }
+{
+    match due_behind(s[i]) {
+        Due::Bytes {
+            count: count,
+            from: from,
+            to: to,
+        } => {
+            if follow(s, i + 1, count, from, to) {
+                return 1 + count as usize;
+            }
+            0
+        }
+        Due::Never => 0,
+    }
+}
+
+// Whether the eight bytes at place `at` are below 128: none of them has its highest bit.
+fn plain_at(s: &[u8], at: usize) -> bool
+    requires { ⌜ at + 8 ≤ length (now s) ⌝ }
+    ensures { λ r. ⌜ (r ≡ true) ↔ ((i : ℕ) → i < 8 → getD (now (s .entry)) (at + i) 0 < 128) ⌝ }
+{
+    bytes_be::word_at(s, at) & 0x8080_8080_8080_8080 == 0
+}
+
+// A place behind eight bytes below 128, or `at` itself where they are not there.
+fn behind_eight(s: &[u8], at: usize) -> usize
+    requires { ⌜ at ≤ length (now s) ⌝ }
+    ensures { λ r. ⌜ (at ≤ r) × (r ≤ length (now (s .entry))) × ((i : ℕ) → at ≤ i → i < r → getD (now (s .entry)) i 0 < 128) ⌝ }
+{
+    if s.len() - at < 8 {
+        return at;
+    }
+    if plain_at(s, at) {
+        return at + 8;
+    }
+    at
+}
+
+// A place behind sixteen bytes below 128, and sixteen more, as often as they are there.
+fn behind_sixteens(s: &[u8], from: usize) -> usize
+    requires { ⌜ from ≤ length (now s) ⌝ }
+    ensures { λ r. ⌜ (from ≤ r) × (r ≤ length (now (s .entry))) × ((i : ℕ) → from ≤ i → i < r → getD (now (s .entry)) i 0 < 128) ⌝ }
+{
+    if s.len() < 16 {
+        return from;
+    }
+    let last = s.len() - 16;
+    let mut i = from;
+    while i <= last {
+        let plain = plain_at(s, i) & plain_at(s, i + 8);
+        if !plain {
+            return i;
+        }
+        i += 16;
+    }
+    i
+}
+
+// A place behind bytes below 128, as far as they are passed over eight at a time. Where eight are not there, no more is tried.
+fn behind_plain(s: &[u8], from: usize) -> usize
+    requires { ⌜ from ≤ length (now s) ⌝ }
+    ensures { λ r. ⌜ (from ≤ r) × (r ≤ length (now (s .entry))) × ((i : ℕ) → from ≤ i → i < r → getD (now (s .entry)) i 0 < 128) ⌝ }
+{
+    let first = behind_eight(s, from);
+    if first == from {
+        return from;
+    }
+    let at = behind_sixteens(s, first);
+    behind_eight(s, at)
+}
+
+// Whether the bytes are text, in one pass that ends at the first sequence which is none of the table.
 pub fn well_formed(s: &[u8]) -> bool
     ensures { λ r. ⌜ r ≡ wellFormed (now (s .entry)) ⌝ }
 {
-    let mut count: u8 = 0;
-    let mut from: u8 = 0x80;
-    let mut to: u8 = 0xBF;
-    let mut i = 0;
+    let mut i = behind_plain(s, 0);
     while i < s.len() {
-        match due_after(count, from, to, s[i]) {
-            Due::Bytes {
-                count: next_count,
-                from: next_from,
-                to: next_to,
-            } => {
-                count = next_count;
-                from = next_from;
-                to = next_to;
-            }
-            Due::Never => {
+        if s[i] < 128 {
+            i += 1;
+        } else {
+            let size = sequence_at(s, i);
+            if size == 0 {
                 return false;
             }
+            i = behind_plain(s, i + size);
         }
-        i += 1;
     }
-    count == 0
+    true
 }

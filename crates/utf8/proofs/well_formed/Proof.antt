@@ -1,57 +1,69 @@
--- `utf8::well_formed` meets its contract. The invariant of its loop: the whole comes to what comes of the bytes from place i on, where
--- what is held is due. The measure is the number of bytes still to pass. Assumes nothing.
+-- `utf8::well_formed` meets its contract. The invariant of its loop: the whole comes to what comes of the bytes from place i on, where a
+-- sequence begins. The measure is the number of bytes still to pass. Assumes nothing.
 use Prim.Native.Nat.{_≤_, _-_}
-use mathlib.Core.Path.{_≡_, refl}
+use mathlib.Core.Path.{_≡_}
+use native.Mathlib.Omega.{arith}
 use lib.ListN.{length, drop}
+use denote.Ref.{now}
 use borrow.Author.Needs.{needs}
-use Rattle.utf8.specs.Text.{rest, wellFormed}
-use Rattle.utf8.specs.Held.{ranges}
-use Rattle.utf8.proofs.Steps.{at-end, at-bytes, at-never}
+use Rattle.utf8.specs.Text.{wellFormed}
+use Rattle.utf8.proofs.Runs.{run-passed}
+use Rattle.utf8.proofs.Steps.{at-end, at-low, at-none, at-sequence}
 use Rattle.utf8.proofs.well_formed.Statement.{statement}
 use Rattle.utf8.proofs.well_formed.Tie as tie
 
 abbrev Inv-loop : tie.InvT-loop
-Inv-loop s count₀ from₀ to₀ i₀ count from to i = (i ≤ length s) × (wellFormed s ≡ rest (ranges count from to) (drop i s))
+Inv-loop s i₀ i = (i ≤ length s) × (wellFormed s ≡ wellFormed (drop i s))
 
 abbrev μ-loop : tie.MeasureT-loop
-μ-loop s count₀ from₀ to₀ i₀ count from to i = length s - i
+μ-loop s i₀ i = length s - i
+
+behind-plain-requires : tie.Need-behind-plain-requires Inv-loop μ-loop
+behind-plain-requires c κs = omega arith
 
 loop-holds : tie.Need-loop-holds Inv-loop μ-loop
-unfolding wellFormed ranges
-loop-holds c = (search needs, refl)
+loop-holds c = (c .behind-plain .ensures .1, run-passed (now (c .before .before .args .s)) 0 (c .behind-plain .result) (c .behind-plain .ensures))
 
-shared-slice-read-due-after : tie.Need-shared-slice-read-due-after Inv-loop μ-loop
-shared-slice-read-due-after c = search needs
-
-due-after-requires : tie.Need-due-after-requires Inv-loop μ-loop
-due-after-requires c κs = search needs
-
-enum-known-next-count : tie.Need-enum-known-next-count Inv-loop μ-loop
-enum-known-next-count c = search needs
-
-enum-told : tie.Need-enum-told Inv-loop μ-loop
-enum-told c = search needs
-
-returns : tie.Need-returns Inv-loop μ-loop
-returns c =
-    let at-loop = c .before .before .before .before .before in
-    at-never _ (at-loop .before .before .args .s .now) _ _ _ (at-loop .loop .i) (at-loop .loop .inv .1) _ (c .before .before .due-after .ensures) (search needs) (c .enum-told .given .1)
+shared-slice-read-if1 : tie.Need-shared-slice-read-if1 Inv-loop μ-loop
+shared-slice-read-if1 c = search needs
 
 add-i : tie.Need-add-i Inv-loop μ-loop
 add-i c = search needs
 
 loop-less : tie.Need-loop-less Inv-loop μ-loop
-loop-less c = search needs
+loop-less c = omega arith
 
 loop-again : tie.Need-loop-again Inv-loop μ-loop
 loop-again c =
+    let at-loop = c .before .before .before in
+    (omega arith, at-low _ (now (at-loop .before .before .before .args .s)) (at-loop .loop .i) (at-loop .loop .inv .1) (search needs) (c .if1 .taken))
+
+sequence-at-requires : tie.Need-sequence-at-requires Inv-loop μ-loop
+sequence-at-requires c κs = search needs
+
+returns : tie.Need-returns Inv-loop μ-loop
+returns c =
+    let at-loop = c .before .before .before .before .before in
+    at-none _ (now (at-loop .before .before .before .args .s)) (at-loop .loop .i) (at-loop .loop .inv .1) _ (c .before .sequence-at .ensures .1) (c .if2 .taken)
+
+add-behind-plain : tie.Need-add-behind-plain Inv-loop μ-loop
+add-behind-plain c = omega (arith, c .before .sequence-at .ensures .0)
+
+behind-plain-requires-2 : tie.Need-behind-plain-requires-2 Inv-loop μ-loop
+behind-plain-requires-2 c κs = omega (arith, c .before .sequence-at .ensures .0)
+
+loop-less-2 : tie.Need-loop-less-2 Inv-loop μ-loop
+loop-less-2 c = omega (arith, c .behind-plain2 .ensures .0, c .behind-plain2 .ensures .1)
+
+loop-again-2 : tie.Need-loop-again-2 Inv-loop μ-loop
+loop-again-2 c =
     let at-loop = c .before .before .before .before .before .before in
-    (search needs, at-bytes _ (at-loop .before .before .args .s .now) _ _ _ (at-loop .loop .i) (at-loop .loop .inv .1) _ (c .before .before .before .due-after .ensures) (search needs) (c .before .next-count .given .1))
+    (c .behind-plain2 .ensures .1, at-sequence _ (now (at-loop .before .before .before .args .s)) (at-loop .loop .i) (at-loop .loop .inv .1) _ (c .before .before .sequence-at .ensures .1) (c .before .if2 .left) _ (c .behind-plain2 .ensures))
 
 returns-2 : tie.Need-returns-2 Inv-loop μ-loop
 returns-2 c =
     let at-loop = c .before in
-    at-end _ (at-loop .before .before .args .s .now) _ _ _ (at-loop .loop .i) (at-loop .loop .inv .1) (search needs)
+    at-end _ (now (at-loop .before .before .before .args .s)) (at-loop .loop .i) (at-loop .loop .inv .1) (search needs)
 
 pub well-formed-spec : {M : Type 1} → statement M
 well-formed-spec =
@@ -59,13 +71,16 @@ well-formed-spec =
     (tie.spec
     Inv-loop
     μ-loop
+    behind-plain-requires
     loop-holds
-    shared-slice-read-due-after
-    due-after-requires
-    enum-known-next-count
-    enum-told
-    returns
+    shared-slice-read-if1
     add-i
     loop-less
     loop-again
+    sequence-at-requires
+    returns
+    add-behind-plain
+    behind-plain-requires-2
+    loop-less-2
+    loop-again-2
     returns-2)
