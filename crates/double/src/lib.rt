@@ -1,5 +1,6 @@
 // Doubles as eight bytes, and the limit that a double says.
 ghost use mathlib.Core.Path.{_≡_};
+ghost use mathlib.Core.List.{reverse};
 ghost use lib.Ieee.{binary64, ofBits};
 ghost use Rattle.double.specs.Double.{bitsAt, bytesOf};
 ghost use Rattle.double.specs.Limit.{limitOf};
@@ -34,12 +35,10 @@ pub fn double_of(bits: u64) -> f64
     f64::from_bits(bits)
 }
 
-// The eight bytes, the least significant first, of the double of a whole number.
-pub fn bytes_of(number: u32) -> [u8; 8]
-    ensures { λ r. ⌜ r ≡ bytesOf number ⌝ }
+// Eight bytes, the last one first.
+fn backwards(bytes: [u8; 8]) -> [u8; 8]
+    ensures { λ r. ⌜ r ≡ reverse bytes ⌝ }
 {
-    let bits = f64::to_bits(number as f64);
-    let bytes = bytes_be::bytes64(bits);
     [
         bytes[7],
         bytes[6],
@@ -50,6 +49,14 @@ pub fn bytes_of(number: u32) -> [u8; 8]
         bytes[1],
         bytes[0],
     ]
+}
+
+// The eight bytes, the least significant first, of the double of a whole number.
+pub fn bytes_of(number: u32) -> [u8; 8]
+    ensures { λ r. ⌜ r ≡ bytesOf number ⌝ }
+{
+    let bits = f64::to_bits(number as f64);
+    backwards(bytes_be::bytes64(bits))
 }
 
 // The limit that a double says. It is compared as an integer, and equal bits show that nothing was lost.
