@@ -29,7 +29,7 @@ fn wide(byte: u8) -> u64
     byte as u64
 }
 
-// The number that the eight bytes at place `at` say, the least significant first. This form is compiled to one load.
+// The number that the eight bytes at place `at` say, the least significant first: written out, as that is compiled to one load.
 pub fn word_at(s: &[u8], at: usize) -> u64
     requires { ⌜ at + 8 ≤ length (now s) ⌝ }
     ensures { λ r. ⌜ r ≡ fromBytes (reverse (part (now (s .entry)) at 8)) ⌝ }

@@ -25,9 +25,9 @@ returns c =
     let at = start .args .at in
     let eight : length (part s at 8) ≡ 8 = length-part s at 8 (start .pre) in
     let law = low-bytes (part s at 8) (bytes-part s at 8 (λ i. c .before .shared-slice-known .given i .fits)) in
-    let digits = ap (λ (n : ℕ). bitAnd (c .word-at .result) (tops n)) (sym eight) ∙ ap (λ (n : ℕ). bitAnd n (tops (length (part s at 8)))) (c .word-at .ensures) in (
-      λ e i less. rw (getD-part s at 8 i 0 less) at (law .0 (sym digits ∙ eqb-true _ _ e) i (omega arith)),
-      λ plain. eq-eqb _ _ (digits ∙ law .1 (λ i less. rw (getD-part s at 8 i 0 (omega arith)) (plain i (omega arith)))),
+    let bits = ap (λ (n : ℕ). bitAnd (c .word-at .result) (tops n)) (sym eight) ∙ ap (λ (n : ℕ). bitAnd n (tops (length (part s at 8)))) (c .word-at .ensures) in (
+      λ e i less. rw (getD-part s at 8 i 0 less) at (law .0 (sym bits ∙ eqb-true _ _ e) i (omega arith)),
+      λ plain. eq-eqb _ _ (bits ∙ law .1 (λ i less. rw (getD-part s at 8 i 0 (omega arith)) (plain i (omega arith)))),
     )
 
 pub plain-at-spec : {M : Type 1} → statement M
