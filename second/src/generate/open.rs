@@ -63,6 +63,7 @@ pub fn short_text(random: &mut Random) -> Vec<u8> {
     let length = match random.between(0, 9) {
         0 => random.choose(&[1, 127, 128, 254, 255]),
         1 => random.between(1, 255),
+        2 | 3 => texts::around_words(random),
         _ => random.between(1, 9),
     };
     texts::of_length(random, length)
