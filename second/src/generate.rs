@@ -1,5 +1,6 @@
 //! The calls that are compared, in sets: the exhaustive ones are made once, the generated ones again and again.
 
+mod alike;
 mod broken;
 mod bundles;
 mod bytes;
@@ -70,7 +71,9 @@ pub const EXHAUSTIVE: &[Set] = &[
     Set { kind: "Structs of hundreds of keys", make: structs::hundreds_of_keys },
     Set { kind: "long lists and texts", make: structs::long_lists },
     Set { kind: "every pair of small Structs", make: lookups::every_small_pair },
+    Set { kind: "keys that differ at every byte", make: lookups::keys_alike },
     Set { kind: "limits around every boundary", make: limits::every_limit },
+    Set { kind: "keys that differ from the limit's at every byte", make: limits::keys_alike },
     Set { kind: "doubles around powers of two", make: limits::every_limit_bytes },
     Set { kind: "every OPEN frame of a few fields", make: open::every::few_fields },
     Set { kind: "every subset and order of the fields of OPEN", make: open::every::subsets_and_orders },
@@ -86,6 +89,7 @@ pub const EXHAUSTIVE: &[Set] = &[
     Set { kind: "OPEN frames of every limit, written and read", make: open::writers::every_limit },
     Set { kind: "the marked cases and the slips", make: endpoint::marked::cases },
     Set { kind: "OPENs serialized by Google's protobuf", make: endpoint::opens::stored },
+    Set { kind: "OPENs to offers that differ at every byte", make: endpoint::opens::offers },
     Set { kind: "every flow and limit to make", make: endpoint::making::every_flow_and_limit },
     Set { kind: "blocks of every length to make", make: endpoint::making::every_length },
     Set { kind: "blocks of every length", make: endpoint::blocks::every_length },
