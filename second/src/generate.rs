@@ -1,5 +1,6 @@
 //! The calls that are compared, in sets: the exhaustive ones are made once, the generated ones again and again.
 
+mod alike;
 mod broken;
 mod bundles;
 mod bytes;
@@ -52,6 +53,12 @@ pub const EXHAUSTIVE: &[Set] = &[
     Set { kind: "every text of up to two bytes", make: texts::up_to_two_bytes },
     Set { kind: "texts of three boundary bytes", make: texts::three_boundary_bytes },
     Set { kind: "texts of four boundary bytes", make: texts::four_boundary_bytes },
+    Set { kind: "plain texts of every length", make: texts::runs::plain_alone },
+    Set { kind: "plain texts but for one byte", make: texts::runs::one_not_plain },
+    Set { kind: "every sequence among plain bytes", make: texts::runs::every_sequence },
+    Set { kind: "changed sequences among plain bytes", make: texts::runs::changed_sequences },
+    Set { kind: "two sequences among plain bytes", make: texts::runs::two_sequences },
+    Set { kind: "sequences cut behind plain bytes", make: texts::runs::cut_sequences },
     Set { kind: "every form of a tag", make: fields::every_tag },
     Set { kind: "tags around the least and the largest", make: fields::tags_around_the_ends },
     Set { kind: "every form of a varint or length", make: fields::every_payload },
@@ -64,7 +71,9 @@ pub const EXHAUSTIVE: &[Set] = &[
     Set { kind: "Structs of hundreds of keys", make: structs::hundreds_of_keys },
     Set { kind: "long lists and texts", make: structs::long_lists },
     Set { kind: "every pair of small Structs", make: lookups::every_small_pair },
+    Set { kind: "keys that differ at every byte", make: lookups::keys_alike },
     Set { kind: "limits around every boundary", make: limits::every_limit },
+    Set { kind: "keys that differ from the limit's at every byte", make: limits::keys_alike },
     Set { kind: "doubles around powers of two", make: limits::every_limit_bytes },
     Set { kind: "every OPEN frame of a few fields", make: open::every::few_fields },
     Set { kind: "every subset and order of the fields of OPEN", make: open::every::subsets_and_orders },
@@ -80,6 +89,7 @@ pub const EXHAUSTIVE: &[Set] = &[
     Set { kind: "OPEN frames of every limit, written and read", make: open::writers::every_limit },
     Set { kind: "the marked cases and the slips", make: endpoint::marked::cases },
     Set { kind: "OPENs serialized by Google's protobuf", make: endpoint::opens::stored },
+    Set { kind: "OPENs to offers that differ at every byte", make: endpoint::opens::offers },
     Set { kind: "every flow and limit to make", make: endpoint::making::every_flow_and_limit },
     Set { kind: "blocks of every length to make", make: endpoint::making::every_length },
     Set { kind: "blocks of every length", make: endpoint::blocks::every_length },
@@ -129,6 +139,7 @@ pub const GENERATED: &[Set] = &[
     Set { kind: "well-formed texts, cut at every byte", make: texts::good_and_cut },
     Set { kind: "damaged texts", make: texts::damaged },
     Set { kind: "random texts", make: texts::random_texts },
+    Set { kind: "random runs of plain bytes between sequences", make: texts::runs::random_runs },
     Set { kind: "random fields", make: fields::random_fields },
     Set { kind: "random bytes read as a field", make: fields::random_bytes },
     Set { kind: "random varints to store", make: fields::random_stores },

@@ -6,7 +6,7 @@ use second::lookup;
 
 use crate::archive;
 use crate::table::{Group, Table, Work};
-use crate::terms::{self, CLIENT, DEFAULTS};
+use crate::terms::{self, Term, ALIKE, CLIENT, DEFAULTS};
 
 type Lookup = fn(&[u8], &[u8], &[u8]) -> (u64, [u64; 3]);
 
@@ -41,12 +41,21 @@ impl Work for Asking {
     }
 }
 
+/// The key of the last of these terms.
+fn last_key(terms: &[Term; 12]) -> &'static str {
+    terms[terms.len() - 1].0
+}
+
 pub fn add_rows(table: &mut Table) -> Result<(), String> {
-    let (last_of_client, last_of_defaults) = (CLIENT[CLIENT.len() - 1].0, DEFAULTS[DEFAULTS.len() - 1].0);
-    for (place, key) in [("client's parameters", last_of_client), ("defaults", last_of_defaults)] {
-        let (client, defaults) = (terms::structure(&CLIENT), terms::structure(&DEFAULTS));
+    for (title, client, defaults, key) in [
+        ("the last of 12 in the client's parameters", CLIENT, DEFAULTS, last_key(&CLIENT)),
+        ("the last of 12 in the defaults", CLIENT, DEFAULTS, last_key(&DEFAULTS)),
+        ("12 keys alike in the client's parameters", ALIKE, DEFAULTS, last_key(&ALIKE)),
+        ("12 keys alike in the defaults", CLIENT, ALIKE, last_key(&ALIKE)),
+    ] {
+        let (client, defaults) = (terms::structure(&client), terms::structure(&defaults));
         let mut asking = Asking { client, defaults, key, answer: (0, [0; 3]) };
-        let title = format!("lookup, the last of 12 in the {place}");
+        let title = format!("lookup, {title}");
         let (ours, model) =
             (|asking: &mut Asking| asking.call(archive::lookup), |asking: &mut Asking| asking.call(lookup::lookup));
         table.add(Group::Other, &title, &mut asking, ours, ("second", model))?;

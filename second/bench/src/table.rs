@@ -22,6 +22,8 @@ pub enum Group {
     Receive,
     /// A send of 1 MB and more against memcpy.
     LargeSend,
+    /// The test of UTF-8 against the standard library's.
+    Text,
     Other,
 }
 

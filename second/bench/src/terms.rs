@@ -47,6 +47,22 @@ pub const DEFAULTS: [Term; 12] = [
     ("remark", Nothing),
 ];
 
+/// Terms with keys of 40 bytes, of which the last alone differ.
+pub const ALIKE: [Term; 12] = [
+    ("sheets_delivered_by_press_nine_in_hour_a", Number(11_500.0)),
+    ("sheets_delivered_by_press_nine_in_hour_b", Number(11_600.0)),
+    ("sheets_delivered_by_press_nine_in_hour_c", Number(11_700.0)),
+    ("sheets_delivered_by_press_nine_in_hour_d", Number(11_800.0)),
+    ("sheets_delivered_by_press_nine_in_hour_e", Number(11_900.0)),
+    ("sheets_delivered_by_press_nine_in_hour_f", Number(12_000.0)),
+    ("sheets_delivered_by_press_nine_in_hour_g", Number(12_100.0)),
+    ("sheets_delivered_by_press_nine_in_hour_h", Number(12_200.0)),
+    ("sheets_delivered_by_press_nine_in_hour_i", Number(12_300.0)),
+    ("sheets_delivered_by_press_nine_in_hour_j", Number(12_400.0)),
+    ("sheets_delivered_by_press_nine_in_hour_k", Number(12_500.0)),
+    ("sheets_delivered_by_press_nine_in_hour_l", Number(12_600.0)),
+];
+
 /// The Struct of these terms.
 pub fn structure(terms: &[Term]) -> Vec<u8> {
     let mut structure = Vec::new();

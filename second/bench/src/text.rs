@@ -2,6 +2,8 @@
 
 use std::hint::black_box;
 
+use second::open::MOST_TEXT;
+
 use crate::archive;
 use crate::table::{Group, Table, Work};
 
@@ -51,17 +53,21 @@ fn text(line: &str, length: usize) -> String {
     text + &" ".repeat(missing)
 }
 
+/// Texts as long as a usual name, the longest name and the longest OPEN frame, and in between.
 pub fn add_rows(table: &mut Table) -> Result<(), String> {
     for (title, line, length) in [
+        ("UTF-8, 16 bytes of ASCII", ASCII, 16),
         ("UTF-8, 64 bytes of ASCII", ASCII, 64),
         ("UTF-8, 64 bytes of mixed text", MIXED, 64),
+        ("UTF-8, 255 bytes of ASCII", ASCII, MOST_TEXT),
+        ("UTF-8, 255 bytes of mixed text", MIXED, MOST_TEXT),
         ("UTF-8, 4 KB of ASCII", ASCII, 4096),
         ("UTF-8, 4 KB of mixed text", MIXED, 4096),
     ] {
         let mut judging = Judging { text: text(line, length), good: false };
         let ours = |judging: &mut Judging| judging.call(archive::well_formed);
         let peer = |judging: &mut Judging| judging.call(|bytes| std::str::from_utf8(bytes).is_ok());
-        table.add(Group::Other, title, &mut judging, ours, ("from_utf8", peer))?;
+        table.add(Group::Text, title, &mut judging, ours, ("from_utf8", peer))?;
     }
     Ok(())
 }

@@ -1,7 +1,7 @@
 //! Limits: the doubles around every boundary, what is not a number, and limits that do not count.
 
 use super::messages::{Form, Message, Payload};
-use super::{add, trees, Calls};
+use super::{add, alike, trees, Calls};
 use crate::calls::{Limit, LimitBytes, Lookup};
 use crate::limit;
 use crate::random::Random;
@@ -99,6 +99,18 @@ pub fn every_limit(random: &mut Random) -> Calls {
         add(&mut calls, Limit { parameters: parameters.bytes() });
     }
     add(&mut calls, Limit { parameters: Vec::new() });
+    calls
+}
+
+/// A good limit under the limit's key, and under keys that differ from it at every byte.
+pub fn keys_alike(random: &mut Random) -> Calls {
+    let mut calls = Calls::new();
+    for key in alike::like(limit::KEY) {
+        let mut parameters = Message::new(Form::Struct);
+        let value = number(random, 2_000_000f64.to_bits());
+        trees::add_entry(random, &mut parameters, key, value);
+        add(&mut calls, Limit { parameters: parameters.bytes() });
+    }
     calls
 }
 

@@ -1,21 +1,22 @@
-//! Lookups: terms in the client's parameters, in the defaults, in both and in none, and Structs that are unreadable.
+//! Lookups: terms in the client's parameters, in the defaults, in both and in none, and Structs that are unreadable or
+//! have keys that are much alike.
 
 use super::broken::{broken, RULES};
 use super::messages::{Form, Message};
-use super::{add, texts, trees, Calls};
-use crate::calls::Lookup;
+use super::open::other_text;
+use super::structs::struct_of_keys;
+use super::{add, alike, texts, trees, Calls};
+use crate::calls::{Check, Lookup};
 use crate::random::Random;
 
-/// A key to look for: one of a Struct, one that is a little longer or shorter, or any other.
+/// A key to look for: one of a Struct, one that is much like it, or any other.
 fn key(random: &mut Random, keys: &[Vec<u8>]) -> Vec<u8> {
     if keys.is_empty() || random.one_in(4) {
         return if random.one_in(4) { texts::bad(random) } else { trees::key(random) };
     }
-    let mut key = keys[random.between(0, keys.len() - 1)].clone();
-    match random.between(0, 7) {
-        0 => key.truncate(key.len().saturating_sub(1)),
-        1 => key.push(random.choose(&[0, b'a', b'k', 0x80])),
-        _ => {}
+    let key = keys[random.between(0, keys.len() - 1)].clone();
+    if random.one_in(4) {
+        return other_text(random, &key);
     }
     key
 }
@@ -91,6 +92,23 @@ pub fn every_small_pair(random: &mut Random) -> Calls {
             for key in keys {
                 add(&mut calls, Lookup { client: client.clone(), defaults: defaults.clone(), key: key.to_vec() });
             }
+        }
+    }
+    calls
+}
+
+/// Keys to look for that are the same as that of a Struct or differ from it at every byte, and Structs of two such keys.
+pub fn keys_alike(random: &mut Random) -> Calls {
+    let mut calls = Calls::new();
+    for key in alike::every_text(random) {
+        for other in alike::like(&key) {
+            let mut slices = [struct_of_keys(random, std::slice::from_ref(&key)).bytes(), Vec::new()];
+            random.shuffle(&mut slices);
+            let [client, defaults] = slices;
+            add(&mut calls, Lookup { client, defaults, key: other.clone() });
+            let mut keys = [key.clone(), other];
+            random.shuffle(&mut keys);
+            add(&mut calls, Check { bytes: struct_of_keys(random, &keys).bytes(), value: false });
         }
     }
     calls

@@ -7,7 +7,7 @@ pub mod writers;
 
 use super::broken::payload;
 use super::messages::{Form, Message, Payload};
-use super::{add, limits, texts, trees, Calls};
+use super::{add, alike, limits, texts, trees, Calls};
 use crate::calls::ReadOpen;
 use crate::open::{self, Offer, Opening, DEFAULT_LIMIT, FORMAT, MOST_TEXT, NAME, PARAMETERS, SOCKET};
 use crate::random::Random;
@@ -63,12 +63,13 @@ pub fn short_text(random: &mut Random) -> Vec<u8> {
     let length = match random.between(0, 9) {
         0 => random.choose(&[1, 127, 128, 254, 255]),
         1 => random.between(1, 255),
+        2 | 3 => texts::around_words(random),
         _ => random.between(1, 9),
     };
     texts::of_length(random, length)
 }
 
-/// A name or format to offer that is not this one, mostly much like it.
+/// A name or format to offer, or a key to look for, that is not this one, mostly much like it.
 pub fn other_text(random: &mut Random, text: &[u8]) -> Vec<u8> {
     let place = random.between(0, text.len().saturating_sub(1));
     let other = match random.between(0, 8) {
@@ -79,10 +80,7 @@ pub fn other_text(random: &mut Random, text: &[u8]) -> Vec<u8> {
         4 => texts::bad(random),
         5 => text.repeat(1 + MOST_TEXT / text.len().max(1)),
         6 => short_text(random),
-        _ => {
-            let bit = 1 << random.between(0, 7);
-            text.iter().enumerate().map(|(at, byte)| if at == place { byte ^ bit } else { *byte }).collect()
-        }
+        _ => alike::with_bit_changed(text, place, 1 << random.between(0, 7)),
     };
     if other == text {
         return [text, b"x"].concat();

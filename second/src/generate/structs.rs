@@ -183,7 +183,7 @@ pub fn plausible_fields(random: &mut Random) -> Calls {
 
 /// Keys that are much alike: of one length and differing in one byte, or of many lengths and with one prefix.
 pub fn similar_keys(random: &mut Random, count: usize) -> Vec<Vec<u8>> {
-    let length = random.between(4, 24);
+    let length = random.between(4, 40);
     let prefix: Vec<u8> = (0..length).map(|_| b'a' + random.byte() % 26).collect();
     let sort = random.between(0, 2);
     let keys = (0..count).map(|number| match sort {

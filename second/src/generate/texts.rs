@@ -1,4 +1,7 @@
 //! Texts: well-formed UTF-8 of every kind, texts with one bad sequence, and all short byte sequences.
+//! Plain bytes are those below 128.
+
+pub mod runs;
 
 use super::{add, Calls};
 use crate::calls::Text;
@@ -42,10 +45,12 @@ const CHARACTERS: [char; 24] = [
 ];
 
 /// Sequences that are not well-formed, whatever character or end stands behind them.
-const BAD_SEQUENCES: [&[u8]; 28] = [
+const BAD_SEQUENCES: [&[u8]; 31] = [
     &[0x80],
     &[0xBF],
+    &[0xC0],
     &[0xC0, 0x80],
+    &[0xC1],
     &[0xC1, 0xBF],
     &[0xC2],
     &[0xDF],
@@ -66,6 +71,7 @@ const BAD_SEQUENCES: [&[u8]; 28] = [
     &[0xF1, 0x80],
     &[0xF4, 0x8F, 0xBF],
     &[0xF4, 0x90, 0x80, 0x80],
+    &[0xF5],
     &[0xF5, 0x80, 0x80, 0x80],
     &[0xF8, 0x88, 0x80, 0x80, 0x80],
     &[0xFC, 0x84, 0x80, 0x80, 0x80, 0x80],
@@ -86,14 +92,43 @@ fn characters(random: &mut Random, count: usize) -> String {
     (0..count).map(|_| character(random)).collect()
 }
 
+/// So many plain bytes, the least and the largest of them more often than others.
+fn plain(random: &mut Random, length: usize) -> String {
+    let mut byte = || if random.one_in(8) { random.choose(&[0x00, 0x7F]) } else { random.byte() & 0x7F };
+    (0..length).map(|_| char::from(byte())).collect()
+}
+
+/// A text of so many bytes, all of them plain but those of one character at any place.
+fn nearly_plain(random: &mut Random, length: usize) -> String {
+    let mut text = plain(random, length);
+    let character = character(random).to_string();
+    if character.len() <= length {
+        let place = random.between(0, length - character.len());
+        text.replace_range(place..place + character.len(), &character);
+    }
+    text
+}
+
+/// A length of one to four times eight bytes, or one more or less.
+pub fn around_words(random: &mut Random) -> usize {
+    8 * random.between(1, 4) + random.between(0, 2) - 1
+}
+
 /// A well-formed text, mostly short.
 pub fn good(random: &mut Random) -> Vec<u8> {
+    if random.one_in(6) {
+        let length = around_words(random);
+        return nearly_plain(random, length).into_bytes();
+    }
     let count = if random.one_in(30) { random.between(20, 60) } else { random.between(0, 6) };
     characters(random, count).into_bytes()
 }
 
-/// A well-formed text of exactly so many bytes.
+/// A well-formed text of exactly so many bytes, in half of the cases nearly all of them plain.
 pub fn of_length(random: &mut Random, length: usize) -> Vec<u8> {
+    if random.one_in(2) {
+        return nearly_plain(random, length).into_bytes();
+    }
     let mut text = String::new();
     while text.len() < length {
         let next = character(random);
@@ -104,11 +139,17 @@ pub fn of_length(random: &mut Random, length: usize) -> Vec<u8> {
     text.into_bytes()
 }
 
-/// A text with one bad sequence in it.
+/// A text with one bad sequence in it, among a few characters of any kind or many that are plain.
 pub fn bad(random: &mut Random) -> Vec<u8> {
     let sequence = random.choose(&BAD_SEQUENCES);
-    let (before, behind) = (random.between(0, 4), random.between(0, 4));
-    let (before, behind) = (characters(random, before), characters(random, behind));
+    let (before, behind) = if random.one_in(3) {
+        let length = around_words(random);
+        let place = random.between(0, length);
+        (plain(random, place), plain(random, length - place))
+    } else {
+        let (before, behind) = (random.between(0, 4), random.between(0, 4));
+        (characters(random, before), characters(random, behind))
+    };
     [before.as_bytes(), sequence, behind.as_bytes()].concat()
 }
 
@@ -209,6 +250,15 @@ mod tests {
         for _ in 0..5000 {
             assert!(std::str::from_utf8(&good(&mut random)).is_ok());
             assert!(std::str::from_utf8(&bad(&mut random)).is_err());
+        }
+    }
+
+    #[test]
+    fn a_text_of_a_length_has_it_and_is_well_formed() {
+        let mut random = Random::new(9);
+        for length in (0..=300).cycle().take(3000) {
+            let text = String::from_utf8(of_length(&mut random, length));
+            assert_eq!(text.map(|text| text.len()), Ok(length));
         }
     }
 }

@@ -6,9 +6,23 @@ use crate::limit;
 use crate::random::Random;
 use crate::structs::{BOOL, KEY, LIST, NULL, NUMBER, STRUCT, TEXT, VALUE};
 
-/// Keys that are likely to meet again in another Struct; some are prefixes of others.
-const COMMON_KEYS: [&[u8]; 12] =
-    [b"", b"a", b"b", b"ab", b"abc", b"abd", b"bbc", "\u{E9}".as_bytes(), b"a\0", b"max_message", limit::KEY, b"max"];
+/// Keys that are likely to meet again in another Struct; some are prefixes of others, or differ in one byte.
+const COMMON_KEYS: [&[u8]; 14] = [
+    b"",
+    b"a",
+    b"b",
+    b"ab",
+    b"abc",
+    b"abd",
+    b"bbc",
+    "\u{E9}".as_bytes(),
+    b"a\0",
+    b"max_message",
+    limit::KEY,
+    b"max_message_bytez",
+    b"mix_message_bytes",
+    b"max",
+];
 
 /// Doubles of every sort.
 const DOUBLES: [u64; 16] = [

@@ -4,7 +4,7 @@ use super::drafts::Draft;
 use super::{reply_room, sends, REPLY};
 use crate::calls::SendMessage;
 use crate::endpoint::{self, Flow, Phase, Role, Send, State, LIMITS};
-use crate::generate::open::{damaged, offer, opening};
+use crate::generate::open::{damaged, every, offer, opening};
 use crate::generate::{add, Calls};
 use crate::open::{Offer, Opening, OUT_OF_RANGE};
 use crate::random::Random;
@@ -53,6 +53,16 @@ pub fn stored(random: &mut Random) -> Calls {
         if vector.is_written() && good_limit() {
             add_opened(&mut calls, random, &vector.opening(), &offer);
         }
+    }
+    calls
+}
+
+/// OPENs to servers whose offers differ from them at every byte, or not at all.
+pub fn offers(random: &mut Random) -> Calls {
+    let mut calls = Calls::new();
+    for (frame, offer) in every::frames_and_offers(random) {
+        let draft = Draft::open(random, frame, &offer);
+        add(&mut calls, draft.call(REPLY));
     }
     calls
 }

@@ -162,7 +162,7 @@ fn sessions_go_through_every_phase_up_to_every_confirmation() {
 fn sessions_make_both_ends_again_in_every_phase_with_every_flow() {
     let mut random = Random::new(13);
     let mut made_again = BTreeSet::new();
-    for call in (0..40).flat_map(|_| sessions::sessions(&mut random)) {
+    for call in (0..100).flat_map(|_| sessions::sessions(&mut random)) {
         if ["fbdp_make_client", "fbdp_make_server"].contains(&call.function().name()) {
             let (_, before, after) = answered(call.as_ref());
             made_again.extend(State::read(&before).map(|state| (after[0], state.phase as u8, before[1], after[1])));
@@ -213,7 +213,7 @@ fn sessions_carry_data_both_ways_and_have_ends_of_the_same_flow() {
 fn sessions_of_large_data_meet_the_limit() {
     let mut random = Random::new(4);
     let mut numbers = BTreeSet::new();
-    for call in (0..30).flat_map(|_| sessions::of_large_data(&mut random)) {
+    for call in (0..300).flat_map(|_| sessions::of_large_data(&mut random)) {
         let (number, before, _) = answered(call.as_ref());
         let limit = State::read(&before).map_or(0, |state| state.limit as usize);
         let above = lent_to_data(call.as_ref()).filter(|(_, length)| length + 8 > limit);

@@ -1,10 +1,10 @@
 //! OPEN frames of all combinations of a few fields, of all lengths, sockets, limits and places that matter.
 
-use super::{add_frame, other_text};
+use super::add_frame;
 use crate::calls::ReadOpen;
 use crate::generate::messages::{long_varint, Field, Form, Message, Part, Payload};
 use crate::generate::small::{pairs, sequences};
-use crate::generate::{add, limits, structs, texts, trees, Calls};
+use crate::generate::{add, alike, limits, structs, texts, trees, Calls};
 use crate::limit;
 use crate::open::{Offer, FORMAT, INPUT, NAME, OUTPUT, PARAMETERS, SOCKET};
 use crate::random::Random;
@@ -211,27 +211,25 @@ pub fn announced_limits(random: &mut Random) -> Calls {
     calls
 }
 
-/// Names and formats with offers that differ from them at every byte, and that are shorter or longer.
-pub fn offers(random: &mut Random) -> Calls {
-    let mut calls = Calls::new();
-    for length in [1, 2, 7, 8, 9, 31, 32, 33, 255] {
-        let text = texts::of_length(random, length);
-        let mut others: Vec<Vec<u8>> = (0..length).map(|length| text[..length].to_vec()).collect();
-        for place in 0..length {
-            let mut other = text.clone();
-            other[place] ^= 1 << random.between(0, 7);
-            others.push(other);
-        }
-        others.extend((0..20).map(|_| other_text(random, &text)));
-        others.push(text.clone());
+/// Frames of a name and a format, each with offers that are the same or that differ from it at every byte, and that are
+/// shorter or longer.
+pub fn frames_and_offers(random: &mut Random) -> Vec<(Vec<u8>, Offer)> {
+    let mut all = Vec::new();
+    for text in alike::every_text(random) {
         let socket = wire::varint_field(SOCKET, OUTPUT);
         let frame = [wire::delimited_field(NAME, &text), socket, wire::delimited_field(FORMAT, &text)].concat();
-        for other in others {
-            let offer = Offer { producer: true, name: text.clone(), format: other.clone() };
-            add_frame(&mut calls, random, &frame, &offer);
-            let offer = Offer { producer: true, name: other, format: text.clone() };
-            add_frame(&mut calls, random, &frame, &offer);
+        for other in alike::like(&text) {
+            let offer = |name: &[u8], format: &[u8]| Offer { producer: true, name: name.into(), format: format.into() };
+            all.extend([offer(&text, &other), offer(&other, &text)].map(|offer| (frame.clone(), offer)));
         }
+    }
+    all
+}
+
+pub fn offers(random: &mut Random) -> Calls {
+    let mut calls = Calls::new();
+    for (frame, offer) in frames_and_offers(random) {
+        add_frame(&mut calls, random, &frame, &offer);
     }
     calls
 }
