@@ -20,12 +20,6 @@ Run s from to = (from ≤ to) × (to ≤ length s) × ((i : ℕ) → from ≤ i 
 pub no-run : (s : List ℕ) (at : ℕ) → at ≤ length s → Run s at at
 no-run s at inside = (omega arith, inside, λ i low high. absurd (omega arith))
 
-pub run-of : (s : List ℕ) (at count : ℕ) → at + count ≤ length s → ((i : ℕ) → i < count → getD s (at + i) 0 < 128) → Run s at (at + count)
-run-of s at count inside plain = (omega arith, inside, λ i low high. byte i low (plain (i - at) (omega arith)))
-  where
-    byte : (i : ℕ) → at ≤ i → getD s (at + (i - at)) 0 < 128 → getD s i 0 < 128
-    byte i low h = let here : at + (i - at) ≡ i = omega arith in rw here at h
-
 -- one run right behind another
 pub run-then : (s : List ℕ) (from at to : ℕ) → Run s from at → Run s at to → Run s from to
 run-then s from at to front back = (omega (arith, front .0, back .0), back .1, λ i low high. go i (ltb i at) refl low high)
@@ -33,6 +27,17 @@ run-then s from at to front back = (omega (arith, front .0, back .0), back .1, �
     go : (i : ℕ) (t : Bool) → ltb i at ≡ t → from ≤ i → i < to → getD s i 0 < 128
     go i true e low high = front .2 i low (ltb-true i at e)
     go i false e low high = back .2 i (ltb-false i at e) high
+
+-- a run and so many bytes more
+pub run-more : (s : List ℕ) (from at count to : ℕ) → at + count ≡ to → to ≤ length s → ((k : ℕ) → k < count → getD s (at + k) 0 < 128) → Run s from at → Run s from to
+run-more s from at count to end inside plain run = run-then s from at to run (omega arith, inside, λ i low high. byte i low (plain (i - at) (omega arith)))
+  where
+    byte : (i : ℕ) → at ≤ i → getD s (at + (i - at)) 0 < 128 → getD s i 0 < 128
+    byte i low h = let here : at + (i - at) ≡ i = omega arith in rw here at h
+
+-- a run and one byte more
+pub run-one : (s : List ℕ) (from at : ℕ) → at < length s → getD s at 0 < 128 → Run s from at → Run s from (at + 1)
+run-one s from at inside low run = run-then s from at (at + 1) run (omega arith, omega arith, λ i least most. let here : i ≡ at = omega arith in rw here low)
 
 -- behind a run the text comes to what it came to in front of it
 pub run-passed : (s : List ℕ) (from to : ℕ) → Run s from to → wellFormed (drop from s) ≡ wellFormed (drop to s)

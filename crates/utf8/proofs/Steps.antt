@@ -1,16 +1,13 @@
 -- The steps of one pass over a text, which stands at the start of a sequence after each. Assumes nothing.
-use Prim.Native.Nat.{ℕ, suc, _+_, _≤_, _<_}
+use Prim.Native.Nat.{ℕ, _+_, _≤_}
 use mathlib.Core.Path.{_≡_, refl, sym, _∙_}
 use mathlib.Core.List.{List}
 use mathlib.Core.Bool.{Bool, true, false, _&&_}
-use native.Mathlib.Numerals.{add-one}
 use native.Mathlib.Omega.{arith}
 use lib.Dec.{ltb}
-use lib.ListN.{length, getD, drop, drop-of-length-le}
-use lib.Seq.{drop-cons}
+use lib.ListN.{length, drop, drop-of-length-le}
 use borrow.Author.Tests.{lt-ltb}
 use Rattle.utf8.specs.Text.{rest, wellFormed}
-use Rattle.utf8.proofs.Texts.{low-in-front}
 use Rattle.utf8.proofs.Runs.{Run, run-passed}
 
 -- w is what the whole text comes to, and is known to be what comes of it from place i on
@@ -18,9 +15,6 @@ module _ (w : Bool) (s : List ℕ) (i : ℕ) (known : w ≡ wellFormed (drop i s
   pub at-end : length s ≤ i → true ≡ w
   unfolding wellFormed rest
   at-end h = sym (known ∙ rw (drop-of-length-le s {i = i} h) refl)
-
-  pub at-low : i < length s → getD s i 0 < 128 → w ≡ wellFormed (drop (i + 1) s)
-  at-low inside low = known ∙ rw (drop-cons s i 0 inside, add-one) (low-in-front (getD s i 0) (drop (suc i) s) low)
 
   -- the sequence there has so many bytes, or is none
   module _ (size : ℕ) (told : wellFormed (drop i s) ≡ ltb 0 size && wellFormed (drop (i + size) s)) where

@@ -116,68 +116,95 @@ fn plain_at(s: &[u8], at: usize) -> bool
     bytes_be::word_at(s, at) & 0x8080_8080_8080_8080 == 0
 }
 
-// A place behind eight bytes below 128, or `at` itself where they are not there.
-fn behind_eight(s: &[u8], at: usize) -> usize
-    requires { ⌜ at ≤ length (now s) ⌝ }
-    ensures { λ r. ⌜ (at ≤ r) × (r ≤ length (now (s .entry))) × ((i : ℕ) → at ≤ i → i < r → getD (now (s .entry)) i 0 < 128) ⌝ }
-{
-    if s.len() - at < 8 {
-        return at;
-    }
-    if plain_at(s, at) {
-        return at + 8;
-    }
-    at
-}
-
-// A place behind sixteen bytes below 128, and sixteen more, as often as they are there.
-fn behind_sixteens(s: &[u8], from: usize) -> usize
+// A place behind bytes below 128, which are passed over thirty-two at a time, as long as there are so many.
+fn behind_blocks(s: &[u8], from: usize) -> usize
     requires { ⌜ from ≤ length (now s) ⌝ }
     ensures { λ r. ⌜ (from ≤ r) × (r ≤ length (now (s .entry))) × ((i : ℕ) → from ≤ i → i < r → getD (now (s .entry)) i 0 < 128) ⌝ }
 {
-    if s.len() < 16 {
+    if s.len() < 32 {
         return from;
     }
-    let last = s.len() - 16;
+    let last = s.len() - 32;
     let mut i = from;
     while i <= last {
-        let plain = plain_at(s, i) & plain_at(s, i + 8);
+        let plain = plain_at(s, i) & plain_at(s, i + 8) & plain_at(s, i + 16) & plain_at(s, i + 24);
         if !plain {
             return i;
         }
-        i += 16;
+        i += 32;
     }
     i
 }
 
-// A place behind bytes below 128, as far as they are passed over eight at a time. Where eight are not there, no more is tried.
-fn behind_plain(s: &[u8], from: usize) -> usize
+// The same, eight at a time.
+fn behind_eights(s: &[u8], from: usize) -> usize
     requires { ⌜ from ≤ length (now s) ⌝ }
     ensures { λ r. ⌜ (from ≤ r) × (r ≤ length (now (s .entry))) × ((i : ℕ) → from ≤ i → i < r → getD (now (s .entry)) i 0 < 128) ⌝ }
 {
-    let first = behind_eight(s, from);
-    if first == from {
+    if s.len() < 8 {
         return from;
     }
-    let at = behind_sixteens(s, first);
-    behind_eight(s, at)
+    let last = s.len() - 8;
+    let mut i = from;
+    while i <= last {
+        if !plain_at(s, i) {
+            return i;
+        }
+        i += 8;
+    }
+    i
+}
+
+// The same, one by one.
+fn behind_bytes(s: &[u8], from: usize) -> usize
+    requires { ⌜ from ≤ length (now s) ⌝ }
+    ensures { λ r. ⌜ (from ≤ r) × (r ≤ length (now (s .entry))) × ((i : ℕ) → from ≤ i → i < r → getD (now (s .entry)) i 0 < 128) ⌝ }
+{
+    let mut i = from;
+    while i < s.len() {
+        if 128 <= s[i] {
+            return i;
+        }
+        i += 1;
+    }
+    i
+}
+
+// A place behind all bytes below 128 that stand there.
+fn behind_run(s: &[u8], from: usize) -> usize
+    requires { ⌜ from ≤ length (now s) ⌝ }
+    ensures { λ r. ⌜ (from ≤ r) × (r ≤ length (now (s .entry))) × ((i : ℕ) → from ≤ i → i < r → getD (now (s .entry)) i 0 < 128) ⌝ }
+{
+    let blocks = behind_blocks(s, from);
+    let eights = behind_eights(s, blocks);
+    behind_bytes(s, eights)
+}
+
+// The same, where a run is likely to be short: many at a time are tried only behind eight.
+fn behind_short_run(s: &[u8], from: usize) -> usize
+    requires { ⌜ from ≤ length (now s) ⌝ }
+    ensures { λ r. ⌜ (from ≤ r) × (r ≤ length (now (s .entry))) × ((i : ℕ) → from ≤ i → i < r → getD (now (s .entry)) i 0 < 128) ⌝ }
+{
+    if s.len() - from < 8 {
+        return behind_bytes(s, from);
+    }
+    if plain_at(s, from) {
+        return behind_run(s, from);
+    }
+    behind_bytes(s, from)
 }
 
 // Whether the bytes are text, in one pass that ends at the first sequence which is none of the table.
 pub fn well_formed(s: &[u8]) -> bool
     ensures { λ r. ⌜ r ≡ wellFormed (now (s .entry)) ⌝ }
 {
-    let mut i = behind_plain(s, 0);
+    let mut i = behind_run(s, 0);
     while i < s.len() {
-        if s[i] < 128 {
-            i += 1;
-        } else {
-            let size = sequence_at(s, i);
-            if size == 0 {
-                return false;
-            }
-            i = behind_plain(s, i + size);
+        let size = sequence_at(s, i);
+        if size == 0 {
+            return false;
         }
+        i = behind_short_run(s, i + size);
     }
     true
 }

@@ -8,7 +8,7 @@ use denote.Ref.{now}
 use borrow.Author.Needs.{needs}
 use Rattle.utf8.specs.Text.{wellFormed}
 use Rattle.utf8.proofs.Runs.{run-passed}
-use Rattle.utf8.proofs.Steps.{at-end, at-low, at-none, at-sequence}
+use Rattle.utf8.proofs.Steps.{at-end, at-none, at-sequence}
 use Rattle.utf8.proofs.well_formed.Statement.{statement}
 use Rattle.utf8.proofs.well_formed.Tie as tie
 
@@ -18,47 +18,33 @@ Inv-loop s i₀ i = (i ≤ length s) × (wellFormed s ≡ wellFormed (drop i s))
 abbrev μ-loop : tie.MeasureT-loop
 μ-loop s i₀ i = length s - i
 
-behind-plain-requires : tie.Need-behind-plain-requires Inv-loop μ-loop
-behind-plain-requires c κs = omega arith
+behind-run-requires : tie.Need-behind-run-requires Inv-loop μ-loop
+behind-run-requires c κs = omega arith
 
 loop-holds : tie.Need-loop-holds Inv-loop μ-loop
-loop-holds c = (c .behind-plain .ensures .1, run-passed (now (c .before .before .args .s)) 0 (c .behind-plain .result) (c .behind-plain .ensures))
-
-shared-slice-read-if1 : tie.Need-shared-slice-read-if1 Inv-loop μ-loop
-shared-slice-read-if1 c = search needs
-
-add-i : tie.Need-add-i Inv-loop μ-loop
-add-i c = search needs
-
-loop-less : tie.Need-loop-less Inv-loop μ-loop
-loop-less c = omega arith
-
-loop-again : tie.Need-loop-again Inv-loop μ-loop
-loop-again c =
-    let at-loop = c .before .before .before in
-    (omega arith, at-low _ (now (at-loop .before .before .before .args .s)) (at-loop .loop .i) (at-loop .loop .inv .1) (search needs) (c .if1 .taken))
+loop-holds c = (c .behind-run .ensures .1, run-passed (now (c .before .before .args .s)) 0 (c .behind-run .result) (c .behind-run .ensures))
 
 sequence-at-requires : tie.Need-sequence-at-requires Inv-loop μ-loop
 sequence-at-requires c κs = search needs
 
 returns : tie.Need-returns Inv-loop μ-loop
 returns c =
-    let at-loop = c .before .before .before .before .before in
-    at-none _ (now (at-loop .before .before .before .args .s)) (at-loop .loop .i) (at-loop .loop .inv .1) _ (c .before .sequence-at .ensures .1) (c .if2 .taken)
+    let at-loop = c .before .before .before in
+    at-none _ (now (at-loop .before .before .before .args .s)) (at-loop .loop .i) (at-loop .loop .inv .1) _ (c .before .sequence-at .ensures .1) (c .if1 .taken)
 
-add-behind-plain : tie.Need-add-behind-plain Inv-loop μ-loop
-add-behind-plain c = omega (arith, c .before .sequence-at .ensures .0)
+add-behind-short-run : tie.Need-add-behind-short-run Inv-loop μ-loop
+add-behind-short-run c = omega (arith, c .before .sequence-at .ensures .0)
 
-behind-plain-requires-2 : tie.Need-behind-plain-requires-2 Inv-loop μ-loop
-behind-plain-requires-2 c κs = omega (arith, c .before .sequence-at .ensures .0)
+behind-short-run-requires : tie.Need-behind-short-run-requires Inv-loop μ-loop
+behind-short-run-requires c κs = omega (arith, c .before .sequence-at .ensures .0)
 
-loop-less-2 : tie.Need-loop-less-2 Inv-loop μ-loop
-loop-less-2 c = omega (arith, c .behind-plain2 .ensures .0, c .behind-plain2 .ensures .1)
+loop-less : tie.Need-loop-less Inv-loop μ-loop
+loop-less c = omega (arith, c .behind-short-run .ensures .0, c .behind-short-run .ensures .1)
 
-loop-again-2 : tie.Need-loop-again-2 Inv-loop μ-loop
-loop-again-2 c =
-    let at-loop = c .before .before .before .before .before .before in
-    (c .behind-plain2 .ensures .1, at-sequence _ (now (at-loop .before .before .before .args .s)) (at-loop .loop .i) (at-loop .loop .inv .1) _ (c .before .before .sequence-at .ensures .1) (c .before .if2 .left) _ (c .behind-plain2 .ensures))
+loop-again : tie.Need-loop-again Inv-loop μ-loop
+loop-again c =
+    let at-loop = c .before .before .before .before in
+    (c .behind-short-run .ensures .1, at-sequence _ (now (at-loop .before .before .before .args .s)) (at-loop .loop .i) (at-loop .loop .inv .1) _ (c .before .before .sequence-at .ensures .1) (c .before .if1 .left) _ (c .behind-short-run .ensures))
 
 returns-2 : tie.Need-returns-2 Inv-loop μ-loop
 returns-2 c =
@@ -71,16 +57,12 @@ well-formed-spec =
     (tie.spec
     Inv-loop
     μ-loop
-    behind-plain-requires
+    behind-run-requires
     loop-holds
-    shared-slice-read-if1
-    add-i
-    loop-less
-    loop-again
     sequence-at-requires
     returns
-    add-behind-plain
-    behind-plain-requires-2
-    loop-less-2
-    loop-again-2
+    add-behind-short-run
+    behind-short-run-requires
+    loop-less
+    loop-again
     returns-2)

@@ -1,16 +1,14 @@
--- `utf8::behind_sixteens` meets its contract. The invariant of its loop: there is a run up to the place that it has reached. The measure is
+-- `utf8::behind_eights` meets its contract. The invariant of its loop: there is a run up to the place that it has reached. The measure is
 -- the number of bytes from there to the end. Assumes nothing.
 use Prim.Native.Nat.{_+_, _-_}
-use mathlib.Core.Path.{_≡_}
 use native.Mathlib.Omega.{arith}
 use lib.ListN.{length}
 use denote.Ref.{now}
 use borrow.Author.Needs.{needs}
 use borrow.Author.Tests.{not-false}
-use Rattle.bytes_be.proofs.Tests.{both-true}
-use Rattle.utf8.proofs.Runs.{Run, no-run, run-of, run-then}
-use Rattle.utf8.proofs.behind_sixteens.Statement.{statement}
-use Rattle.utf8.proofs.behind_sixteens.Tie as tie
+use Rattle.utf8.proofs.Runs.{Run, no-run, run-more}
+use Rattle.utf8.proofs.behind_eights.Statement.{statement}
+use Rattle.utf8.proofs.behind_eights.Tie as tie
 
 abbrev Inv-loop : tie.InvT-loop
 Inv-loop s from last i₀ i = Run s from i
@@ -30,14 +28,8 @@ loop-holds c = let start = c .before .before in no-run (now (start .args .s)) (s
 plain-at-requires : tie.Need-plain-at-requires Inv-loop μ-loop
 plain-at-requires c κs = omega arith
 
-add-plain-at : tie.Need-add-plain-at Inv-loop μ-loop
-add-plain-at c = omega arith
-
-plain-at-requires-2 : tie.Need-plain-at-requires-2 Inv-loop μ-loop
-plain-at-requires-2 c κs = omega arith
-
 returns-2 : tie.Need-returns-2 Inv-loop μ-loop
-returns-2 c = c .before .before .before .before .loop .inv
+returns-2 c = c .before .before .before .loop .inv
 
 add-i : tie.Need-add-i Inv-loop μ-loop
 add-i c = omega arith
@@ -47,21 +39,16 @@ loop-less c = omega arith
 
 loop-again : tie.Need-loop-again Inv-loop μ-loop
 loop-again c =
-    let at-loop = c .before .before .before .before in
+    let at-loop = c .before .before .before in
     let start = at-loop .before .before .before in
-    let s = now (start .args .s) in
     let i = at-loop .loop .i in
-    let plain = both-true (c .before .before .plain-at .result) (c .before .plain-at2 .result) (not-false _ (c .if2 .left)) in
-    let first = run-of s i 8 (omega arith) (c .before .before .plain-at .ensures .0 (plain .0)) in
-    let second = run-of s (i + 8) 8 (omega arith) (c .before .plain-at2 .ensures .0 (plain .1)) in
-    let far : i + 8 + 8 ≡ i + 16 = omega arith in
-    rw far at (run-then s _ i _ (at-loop .loop .inv) (run-then s i (i + 8) (i + 8 + 8) first second))
+    run-more (now (start .args .s)) (start .args .from) i 8 (i + 8) (omega arith) (omega arith) (c .before .plain-at .ensures .0 (not-false _ (c .if2 .left))) (at-loop .loop .inv)
 
 returns-3 : tie.Need-returns-3 Inv-loop μ-loop
 returns-3 c = c .before .loop .inv
 
-pub behind-sixteens-spec : {M : Type 1} → statement M
-behind-sixteens-spec =
+pub behind-eights-spec : {M : Type 1} → statement M
+behind-eights-spec =
     tie.close
     (tie.spec
     Inv-loop
@@ -70,8 +57,6 @@ behind-sixteens-spec =
     sub-last
     loop-holds
     plain-at-requires
-    add-plain-at
-    plain-at-requires-2
     returns-2
     add-i
     loop-less
