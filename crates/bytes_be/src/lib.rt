@@ -1,6 +1,7 @@
 // Numbers at a place of a slice, and the copy that everything written to an output uses.
 ghost use mathlib.Core.Path.{_≡_};
 ghost use mathlib.Core.List.{reverse};
+ghost use mathlib.Core.Bool.{cond};
 ghost use Prim.Native.Nat.{_+_, _≤_, _<_, _^_};
 ghost use lib.ListN.{length};
 ghost use Rattle.bytes_be.specs.Part.{part, putAt};
@@ -30,7 +31,7 @@ fn wide(byte: u8) -> u64
 }
 
 // The number that the eight bytes at place `at` say, the least significant first: written out, as that is compiled to one load.
-pub fn word_at(s: &[u8], at: usize) -> u64
+fn word(s: &[u8], at: usize) -> u64
     requires { ⌜ at + 8 ≤ length (now s) ⌝ }
     ensures { λ r. ⌜ r ≡ fromBytes (reverse (part (now (s .entry)) at 8)) ⌝ }
 {
@@ -45,6 +46,17 @@ pub fn word_at(s: &[u8], at: usize) -> u64
     let f = e * 256 + wide(bytes[2]);
     let g = f * 256 + wide(bytes[1]);
     g * 256 + wide(bytes[0])
+}
+
+// The same, or 0 where they do not all lie in s.
+pub fn word_at(s: &[u8], at: usize) -> u64
+    ensures { λ r. ⌜ r ≡ cond (Part·holds (length (now (s .entry))) at 8) (fromBytes (reverse (part (now (s .entry)) at 8))) 0 ⌝ }
+{
+    let fits = holds(s.len(), at, 8);
+    if !fits {
+        return 0;
+    }
+    word(s, at)
 }
 
 // Whether two slices of one length have the same bytes, one by one.
@@ -70,12 +82,12 @@ fn same_words(a: &[u8], b: &[u8]) -> bool
     let last = a.len() - 8;
     let mut at = 0;
     while at < last {
-        if word_at(a, at) != word_at(b, at) {
+        if word(a, at) != word(b, at) {
             return false;
         }
         at += 8;
     }
-    word_at(a, last) == word_at(b, last)
+    word(a, last) == word(b, last)
 }
 
 // Whether two slices have the same bytes.

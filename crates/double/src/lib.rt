@@ -16,10 +16,6 @@ pub enum Limit {
 pub fn bits_at(s: &[u8], at: usize) -> u64
     ensures { λ r. ⌜ r ≡ bitsAt (now (s .entry)) at ⌝ }
 {
-    let fits = bytes_be::holds(s.len(), at, 8);
-    if !fits {
-        return 0;
-    }
     bytes_be::word_at(s, at)
 }
 

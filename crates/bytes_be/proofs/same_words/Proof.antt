@@ -27,18 +27,18 @@ sub-last c = search needs
 loop-holds : tie.Need-loop-holds Inv-loop μ-loop
 loop-holds c = (omega arith, refl)
 
-word-at-requires : tie.Need-word-at-requires Inv-loop μ-loop
-word-at-requires c κs = omega arith
+word-requires : tie.Need-word-requires Inv-loop μ-loop
+word-requires c κs = omega arith
 
-word-at-requires-2 : tie.Need-word-at-requires-2 Inv-loop μ-loop
-word-at-requires-2 c κs = omega arith
+word-requires-2 : tie.Need-word-requires-2 Inv-loop μ-loop
+word-requires-2 c κs = omega arith
 
 returns : tie.Need-returns Inv-loop μ-loop
 returns c =
     let at-loop = c .before .before .before .before in
     let a = at-loop .before .before .before .args in
     let says : List ℕ → ℕ = λ l. fromBytes (reverse (part l (at-loop .loop .at) 8)) in
-    not-same (now (a .a)) (now (a .b)) (λ equal. c .if1 .taken (c .before .before .word-at .ensures ∙ ap says equal ∙ sym (c .before .word-at2 .ensures)))
+    not-same (now (a .a)) (now (a .b)) (λ equal. c .if1 .taken (c .before .before .word .ensures ∙ ap says equal ∙ sym (c .before .word2 .ensures)))
 
 add-at : tie.Need-add-at Inv-loop μ-loop
 add-at c = omega arith
@@ -52,14 +52,14 @@ loop-again c =
     let start = at-loop .before .before .before in
     let a-bytes : Bytes (now (start .args .a)) = λ i. at-loop .before .before .shared-slice-known .given i .fits in
     let b-bytes : Bytes (now (start .args .b)) = λ i. at-loop .before .shared-slice-known2 .given i .fits in
-    let alike = sym (c .before .before .word-at .ensures) ∙ c .if1 .left ∙ c .before .word-at2 .ensures in
+    let alike = sym (c .before .before .word .ensures) ∙ c .if1 .left ∙ c .before .word2 .ensures in
     (omega arith, same-further (now (start .args .a)) (now (start .args .b)) a-bytes b-bytes (start .pre .0) (at-loop .loop .at) 8 (at-loop .loop .inv .1) (omega arith) alike)
 
-word-at-requires-3 : tie.Need-word-at-requires-3 Inv-loop μ-loop
-word-at-requires-3 c κs = omega arith
+word-requires-3 : tie.Need-word-requires-3 Inv-loop μ-loop
+word-requires-3 c κs = omega arith
 
-word-at-requires-4 : tie.Need-word-at-requires-4 Inv-loop μ-loop
-word-at-requires-4 c κs = omega arith
+word-requires-4 : tie.Need-word-requires-4 Inv-loop μ-loop
+word-requires-4 c κs = omega arith
 
 returns-2 : tie.Need-returns-2 Inv-loop μ-loop
 returns-2 c =
@@ -68,7 +68,7 @@ returns-2 c =
     let a-bytes : Bytes (now (start .args .a)) = λ i. at-loop .before .before .shared-slice-known .given i .fits in
     let b-bytes : Bytes (now (start .args .b)) = λ i. at-loop .before .shared-slice-known2 .given i .fits in
     let last = length (now (start .args .a)) - 8 in
-    same-last (now (start .args .a)) (now (start .args .b)) a-bytes b-bytes (start .pre .0) (at-loop .loop .at) 8 (at-loop .loop .inv .1) last _ _ (omega arith) (omega arith) (c .before .word-at3 .ensures) (c .word-at4 .ensures)
+    same-last (now (start .args .a)) (now (start .args .b)) a-bytes b-bytes (start .pre .0) (at-loop .loop .at) 8 (at-loop .loop .inv .1) last _ _ (omega arith) (omega arith) (c .before .word3 .ensures) (c .word4 .ensures)
 
 pub same-words-spec : {M : Type 1} → statement M
 same-words-spec =
@@ -78,12 +78,12 @@ same-words-spec =
     μ-loop
     sub-last
     loop-holds
-    word-at-requires
-    word-at-requires-2
+    word-requires
+    word-requires-2
     returns
     add-at
     loop-less
     loop-again
-    word-at-requires-3
-    word-at-requires-4
+    word-requires-3
+    word-requires-4
     returns-2)

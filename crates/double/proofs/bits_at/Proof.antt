@@ -1,31 +1,15 @@
--- `double::bits_at` meets its contract: past the test for room, the eight bytes lie in the slice. Assumes nothing.
-use mathlib.Core.Path.{sym, _∙_}
-use Prim.Native.Nat.{_+_, _≤_}
-use native.Mathlib.Omega.{arith}
-use lib.ListN.{length}
-use borrow.Author.Tests.{le-leb, leb-true, not-true, not-false}
+-- `double::bits_at` meets its contract: it is the number that the eight bytes say. Assumes nothing.
 use Rattle.double.specs.Double.{bitsAt}
 use borrow.Author.Needs.{needs}
 use Rattle.double.proofs.bits_at.Statement.{statement}
 use Rattle.double.proofs.bits_at.Tie as tie
 
-holds-requires : tie.Need-holds-requires
-holds-requires c κs = search needs
+word-at-requires : tie.Need-word-at-requires
+word-at-requires c κs = search needs
 
 returns : tie.Need-returns
 unfolding bitsAt
-returns c = simp (sym (c .before .holds .ensures), not-true (c .before .holds .result) (c .if1 .taken))
-
--- past the test the eight bytes lie in the slice
-inside : (c : tie.Else1) → c .before .before .before .args .at + 8 ≤ length (c .before .before .before .args .s .now)
-inside c = leb-true _ _ (sym (c .before .holds .ensures) ∙ not-false (c .before .holds .result) (c .if1 .left))
-
-word-at-requires : tie.Need-word-at-requires
-word-at-requires c κs = omega (arith, inside c)
-
-returns-2 : tie.Need-returns-2
-unfolding bitsAt
-returns-2 c = c .word-at .ensures ∙ simp (le-leb _ _ (inside (c .before)))
+returns c = c .word-at .ensures
 
 pub bits-at-spec : {M : Type 1} → statement M
-bits-at-spec = tie.close (tie.spec holds-requires returns word-at-requires returns-2)
+bits-at-spec = tie.close (tie.spec word-at-requires returns)
