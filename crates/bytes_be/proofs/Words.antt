@@ -95,13 +95,13 @@ pub same-parts : (xs ys : List ℕ) → Bytes xs → Bytes ys → (at width : �
 same-parts xs ys hx hy at width lx ly =
     same-number (part xs at width) (part ys at width) (bytes-part xs at width hx) (bytes-part ys at width hy) (length-part xs at width lx ∙ sym (length-part ys at width ly))
 
--- a list up to one place and from another before it on is the whole list
+-- lists are the same that are so up to one place, and from another in front of it on
 same-ends : {A : Type 0} (xs ys : List A) (from at : ℕ) → from ≤ at → part xs 0 at ≡ part ys 0 at → drop from xs ≡ drop from ys → xs ≡ ys
 same-ends {A} xs ys from at less front end =
     let short : part xs 0 from ≡ part ys 0 from = sym (part-part xs 0 at 0 from (omega arith)) ∙ ap (λ (l : List A). part l 0 from) front ∙ part-part ys 0 at 0 from (omega arith) in
     sym (take-append-drop from xs) ∙ ap₂ (λ (l m : List A). l ++ m) short end ∙ take-append-drop from ys
 
--- one list after another is compared so many bytes at a time: they are the same up to a place
+-- two lists are compared so many bytes at a time, and are the same up to a place
 module _ (xs ys : List ℕ) (hx : Bytes xs) (hy : Bytes ys) (long : length xs ≡ length ys) (at width : ℕ) (front : part xs 0 at ≡ part ys 0 at) where
   -- they are so behind the next bytes too, if these say the same number
   pub same-further : at + width ≤ length xs → fromBytes (reverse (part xs at width)) ≡ fromBytes (reverse (part ys at width)) → part xs 0 (at + width) ≡ part ys 0 (at + width)
