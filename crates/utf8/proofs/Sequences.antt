@@ -17,7 +17,7 @@ use Rattle.utf8.specs.Text.{_‥_, within, table, dueBehind, ifSome, res
 use Rattle.utf8.specs.Held.{ranges, rangesOf}
 use Rattle.utf8.proofs.Rows.{ranges-some}
 
--- where fewer bytes stand there than are due, they do not
+-- where there are fewer bytes than are due, those due do not all stand there
 too-short : (count from to : ℕ) (text : List ℕ) → length text < count → rest (ranges count from to) text ≡ false
 unfolding rest ranges
 too-short zero from to text short = absurd (omega arith)

@@ -155,10 +155,10 @@ fn behind_eights(s: &[u8], from: usize) -> usize
     i
 }
 
-// The same, one by one.
+// The place behind all bytes below 128 that stand there, which are passed over one by one.
 fn behind_bytes(s: &[u8], from: usize) -> usize
     requires { ⌜ from ≤ length (now s) ⌝ }
-    ensures { λ r. ⌜ (from ≤ r) × (r ≤ length (now (s .entry))) × ((i : ℕ) → from ≤ i → i < r → getD (now (s .entry)) i 0 < 128) ⌝ }
+    ensures { λ r. ⌜ ((from ≤ r) × (r ≤ length (now (s .entry))) × ((i : ℕ) → from ≤ i → i < r → getD (now (s .entry)) i 0 < 128)) × (r < length (now (s .entry)) → 128 ≤ getD (now (s .entry)) r 0) ⌝ }
 {
     let mut i = from;
     while i < s.len() {
@@ -170,20 +170,20 @@ fn behind_bytes(s: &[u8], from: usize) -> usize
     i
 }
 
-// A place behind all bytes below 128 that stand there.
+// The same place, many at a time.
 fn behind_run(s: &[u8], from: usize) -> usize
     requires { ⌜ from ≤ length (now s) ⌝ }
-    ensures { λ r. ⌜ (from ≤ r) × (r ≤ length (now (s .entry))) × ((i : ℕ) → from ≤ i → i < r → getD (now (s .entry)) i 0 < 128) ⌝ }
+    ensures { λ r. ⌜ ((from ≤ r) × (r ≤ length (now (s .entry))) × ((i : ℕ) → from ≤ i → i < r → getD (now (s .entry)) i 0 < 128)) × (r < length (now (s .entry)) → 128 ≤ getD (now (s .entry)) r 0) ⌝ }
 {
     let blocks = behind_blocks(s, from);
     let eights = behind_eights(s, blocks);
     behind_bytes(s, eights)
 }
 
-// The same, where a run is likely to be short: many at a time are tried only behind eight.
+// The same place, where it is likely to be near: many at a time are tried only behind eight.
 fn behind_short_run(s: &[u8], from: usize) -> usize
     requires { ⌜ from ≤ length (now s) ⌝ }
-    ensures { λ r. ⌜ (from ≤ r) × (r ≤ length (now (s .entry))) × ((i : ℕ) → from ≤ i → i < r → getD (now (s .entry)) i 0 < 128) ⌝ }
+    ensures { λ r. ⌜ ((from ≤ r) × (r ≤ length (now (s .entry))) × ((i : ℕ) → from ≤ i → i < r → getD (now (s .entry)) i 0 < 128)) × (r < length (now (s .entry)) → 128 ≤ getD (now (s .entry)) r 0) ⌝ }
 {
     if s.len() - from < 8 {
         return behind_bytes(s, from);

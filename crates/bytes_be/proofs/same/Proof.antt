@@ -1,5 +1,5 @@
 -- `bytes_be::same` meets its contract: slices of two lengths differ, and those of one length are compared. Assumes nothing.
-use mathlib.Core.Path.{ap}
+use mathlib.Core.Path.{_≡_, ap}
 use lib.ListN.{length}
 use denote.Ref.{now}
 use borrow.Author.Needs.{needs}
@@ -8,7 +8,10 @@ use Rattle.bytes_be.proofs.same.Statement.{statement}
 use Rattle.bytes_be.proofs.same.Tie as tie
 
 returns : tie.Need-returns
-returns c = not-same (now (c .before .before .before .args .a)) (now (c .before .before .before .args .b)) (λ equal. c .if1 .taken (ap length equal))
+returns c =
+    let a = c .before .before .before .args in
+    let differ : length (now (a .a)) ≡ length (now (a .b)) → ⊥ = search needs in
+    not-same (now (a .a)) (now (a .b)) (λ equal. differ (ap length equal))
 
 same-bytes-requires : tie.Need-same-bytes-requires
 same-bytes-requires c κs = search needs

@@ -28,7 +28,7 @@ returns : tie.Need-returns Inv-loop μ-loop
 returns c =
     let at-loop = c .before .before .before .before in
     let a = at-loop .before .args in
-    sym (at-loop .loop .inv .1 ∙ same-differ (now (a .a)) (now (a .b)) (at-loop .loop .at) (search needs) (search needs) (c .if1 .taken))
+    sym (at-loop .loop .inv .1 ∙ same-differ (now (a .a)) (now (a .b)) (at-loop .loop .at) (search needs) (search needs) (search needs))
 
 add-at : tie.Need-add-at Inv-loop μ-loop
 add-at c = search needs
@@ -40,7 +40,7 @@ loop-again : tie.Need-loop-again Inv-loop μ-loop
 loop-again c =
     let at-loop = c .before .before .before .before in
     let a = at-loop .before .args in
-    (search needs, at-loop .loop .inv .1 ∙ same-step (now (a .a)) (now (a .b)) (at-loop .loop .at) (search needs) (search needs) (c .if1 .left))
+    (search needs, at-loop .loop .inv .1 ∙ same-step (now (a .a)) (now (a .b)) (at-loop .loop .at) (search needs) (search needs) (search needs))
 
 returns-2 : tie.Need-returns-2 Inv-loop μ-loop
 returns-2 c =

@@ -22,7 +22,7 @@ shared-slice-read-if1 : tie.Need-shared-slice-read-if1 Inv-loop μ-loop
 shared-slice-read-if1 c = search needs
 
 returns : tie.Need-returns Inv-loop μ-loop
-returns c = c .before .before .before .loop .inv
+returns c = (c .before .before .before .loop .inv, λ less. omega (arith, c .if1 .taken))
 
 add-i : tie.Need-add-i Inv-loop μ-loop
 add-i c = search needs
@@ -37,7 +37,7 @@ loop-again c =
     run-one (now (start .args .s)) (start .args .from) (at-loop .loop .i) (search needs) (search needs) (at-loop .loop .inv)
 
 returns-2 : tie.Need-returns-2 Inv-loop μ-loop
-returns-2 c = c .before .loop .inv
+returns-2 c = (c .before .loop .inv, λ less. absurd (omega arith))
 
 pub behind-bytes-spec : {M : Type 1} → statement M
 behind-bytes-spec =

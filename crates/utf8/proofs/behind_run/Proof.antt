@@ -17,7 +17,7 @@ behind-bytes-requires c κs = search needs
 returns : tie.Need-returns
 returns c =
     let s = now (c .before .before .before .before .args .s) in
-    run-then s _ _ _ (c .before .before .behind-blocks .ensures) (run-then s _ _ _ (c .before .behind-eights .ensures) (c .behind-bytes .ensures))
+    (run-then s _ _ _ (c .before .before .behind-blocks .ensures) (run-then s _ _ _ (c .before .behind-eights .ensures) (c .behind-bytes .ensures .0)), c .behind-bytes .ensures .1)
 
 pub behind-run-spec : {M : Type 1} → statement M
 behind-run-spec =

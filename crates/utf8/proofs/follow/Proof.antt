@@ -1,6 +1,6 @@
 -- `utf8::follow` meets its contract. The invariant of its loop: the whole comes to whether those that are left stand from place i on. The
 -- measure is their number. Assumes nothing.
-use Prim.Native.Nat.{_+_, _-_, _≤_}
+use Prim.Native.Nat.{_+_, _≤_}
 use mathlib.Core.Path.{_≡_, refl, sym}
 use native.Mathlib.Omega.{arith}
 use lib.ListN.{length}

@@ -22,7 +22,7 @@ behind-run-requires : tie.Need-behind-run-requires Inv-loop μ-loop
 behind-run-requires c κs = omega arith
 
 loop-holds : tie.Need-loop-holds Inv-loop μ-loop
-loop-holds c = (c .behind-run .ensures .1, run-passed (now (c .before .before .args .s)) 0 (c .behind-run .result) (c .behind-run .ensures))
+loop-holds c = (c .behind-run .ensures .0 .1, run-passed (now (c .before .before .args .s)) 0 (c .behind-run .result) (c .behind-run .ensures .0))
 
 sequence-at-requires : tie.Need-sequence-at-requires Inv-loop μ-loop
 sequence-at-requires c κs = search needs
@@ -39,12 +39,12 @@ behind-short-run-requires : tie.Need-behind-short-run-requires Inv-loop μ-loop
 behind-short-run-requires c κs = omega (arith, c .before .sequence-at .ensures .0)
 
 loop-less : tie.Need-loop-less Inv-loop μ-loop
-loop-less c = omega (arith, c .behind-short-run .ensures .0, c .behind-short-run .ensures .1)
+loop-less c = omega (arith, c .behind-short-run .ensures .0 .0, c .behind-short-run .ensures .0 .1)
 
 loop-again : tie.Need-loop-again Inv-loop μ-loop
 loop-again c =
     let at-loop = c .before .before .before .before in
-    (c .behind-short-run .ensures .1, at-sequence _ (now (at-loop .before .before .before .args .s)) (at-loop .loop .i) (at-loop .loop .inv .1) _ (c .before .before .sequence-at .ensures .1) (c .before .if1 .left) _ (c .behind-short-run .ensures))
+    (c .behind-short-run .ensures .0 .1, at-sequence _ (now (at-loop .before .before .before .args .s)) (at-loop .loop .i) (at-loop .loop .inv .1) _ (c .before .before .sequence-at .ensures .1) (c .before .if1 .left) _ (c .behind-short-run .ensures .0))
 
 returns-2 : tie.Need-returns-2 Inv-loop μ-loop
 returns-2 c =
