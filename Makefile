@@ -46,7 +46,7 @@ build/caller: second/host.c second/probe.h build/fbdp.h build/libfbdp.a build/li
 compare: $(second) build/caller
 	$(second) compare --seed $(SEED) --calls $(CALLS) -- tools/x86 run build/caller
 
-# What must not grow with a body.
+# What must not grow with a body, and what plain text must not take.
 speed: $(second) build/caller
 	$(second) speed -- tools/x86 run build/caller
 

@@ -576,20 +576,20 @@ static void answer_call(struct request *request, struct answer *answer)
     }
 }
 
-/* Times: each function reads a bundle of two frames, a DATA message, once of 100 bytes and once of 50,000,000. The
- * answer holds, for each function and each bundle, the nanoseconds of the best round and the calls in that round, 8
- * bytes each. */
+/* Times: functions read a bundle of two frames, a DATA message, once of 100 bytes and once of 50,000,000; and a text of
+ * 4,096 bytes, once of characters of two bytes and once of one. The answer holds, for each function and each of the
+ * two, the nanoseconds of the best round and the calls in that round, 8 bytes each. */
 
-enum { BUNDLES = 2, TRIALS = 5, ROUNDS = 200 };
+enum { TIMED_INPUTS = 2, TRIALS = 5, ROUNDS = 200, TEXT_BYTES = 4096 };
 
-static const size_t bundle_lengths[BUNDLES] = {100, 50000000};
+static const size_t bundle_lengths[TIMED_INPUTS] = {100, 50000000};
 
 /* Nanoseconds: long beside what reading the clock takes, and so short that on a busy machine some of the rounds are
  * not interrupted. */
 static const uint64_t shortest_round = 200000;
 static const uint64_t most_calls = 1u << 20;
 
-typedef uint32_t timed(const struct input *bundle);
+typedef uint32_t timed(const struct input *input);
 
 static uint32_t timed_frame(const struct input *bundle)
 {
@@ -616,7 +616,23 @@ static uint32_t timed_contents(const struct input *bundle)
     return probe_contents(bundle->bytes, bundle->length, contents);
 }
 
-static timed *const timed_functions[] = {timed_frame, timed_receive, timed_contents};
+static timed *const timed_on_bundles[] = {timed_frame, timed_receive, timed_contents};
+
+static uint32_t timed_text(const struct input *text)
+{
+    return probe_text(text->bytes, text->length) ? 0 : 1;
+}
+
+/* A text of these two bytes again and again. */
+static uint8_t *text_of(uint8_t first, uint8_t second)
+{
+    uint8_t *text = allocate(TEXT_BYTES);
+    for (size_t i = 0; i < TEXT_BYTES; i += 2) {
+        text[i] = first;
+        text[i + 1] = second;
+    }
+    return text;
+}
 
 /* A bundle of a DATA control frame and a body, every byte of it written. */
 static uint8_t *two_frames(size_t length)
@@ -644,12 +660,12 @@ static uint64_t nanoseconds(void)
 }
 
 /* The nanoseconds of so many calls. A clock that was set back meanwhile gives a time that is never the best. */
-static uint64_t time_of(timed *function, const struct input *bundle, uint64_t count)
+static uint64_t time_of(timed *function, const struct input *input, uint64_t count)
 {
     uint64_t refused = 0;
     const uint64_t start = nanoseconds();
     for (uint64_t i = 0; i < count; i++) {
-        refused += function(bundle);
+        refused += function(input);
     }
     const uint64_t end = nanoseconds();
     if (refused != 0) {
@@ -660,12 +676,12 @@ static uint64_t time_of(timed *function, const struct input *bundle, uint64_t co
 
 /* The calls that make a round. An interruption lengthens a time and never shortens it: the least of some trials says
  * whether so many calls are enough. */
-static uint64_t calls_of_round(timed *function, const struct input *bundle)
+static uint64_t calls_of_round(timed *function, const struct input *input)
 {
     for (uint64_t count = 1; count < most_calls; count *= 2) {
         uint64_t least = UINT64_MAX;
         for (size_t trial = 0; trial < TRIALS; trial++) {
-            const uint64_t time = time_of(function, bundle, count);
+            const uint64_t time = time_of(function, input, count);
             least = time < least ? time : least;
         }
         if (least >= shortest_round) {
@@ -675,22 +691,22 @@ static uint64_t calls_of_round(timed *function, const struct input *bundle)
     return most_calls;
 }
 
-/* The rounds of the bundles take turns, so that all of them meet the same machine. */
-static void answer_times(timed *function, const struct input bundles[BUNDLES], struct answer *answer)
+/* The rounds of the two inputs take turns, so that both meet the same machine. */
+static void answer_times(timed *function, const struct input inputs[TIMED_INPUTS], struct answer *answer)
 {
-    uint64_t count[BUNDLES];
-    uint64_t best[BUNDLES];
-    for (size_t i = 0; i < BUNDLES; i++) {
-        count[i] = calls_of_round(function, &bundles[i]);
+    uint64_t count[TIMED_INPUTS];
+    uint64_t best[TIMED_INPUTS];
+    for (size_t i = 0; i < TIMED_INPUTS; i++) {
+        count[i] = calls_of_round(function, &inputs[i]);
         best[i] = UINT64_MAX;
     }
     for (size_t round = 0; round < ROUNDS; round++) {
-        for (size_t i = 0; i < BUNDLES; i++) {
-            const uint64_t time = time_of(function, &bundles[i], count[i]);
+        for (size_t i = 0; i < TIMED_INPUTS; i++) {
+            const uint64_t time = time_of(function, &inputs[i], count[i]);
             best[i] = time < best[i] ? time : best[i];
         }
     }
-    for (size_t i = 0; i < BUNDLES; i++) {
+    for (size_t i = 0; i < TIMED_INPUTS; i++) {
         put_number(answer, 8, best[i]);
         put_number(answer, 8, count[i]);
     }
@@ -698,20 +714,24 @@ static void answer_times(timed *function, const struct input bundles[BUNDLES], s
 
 static uint32_t answer_speed(struct answer *answer)
 {
-    uint8_t *bytes[BUNDLES];
-    struct input bundles[BUNDLES];
-    for (size_t i = 0; i < BUNDLES; i++) {
+    uint8_t *bytes[TIMED_INPUTS];
+    struct input bundles[TIMED_INPUTS];
+    for (size_t i = 0; i < TIMED_INPUTS; i++) {
         bytes[i] = two_frames(bundle_lengths[i]);
         bundles[i] = (struct input){bytes[i], bundle_lengths[i]};
     }
-    const uint32_t functions = sizeof timed_functions / sizeof timed_functions[0];
+    const uint32_t functions = sizeof timed_on_bundles / sizeof timed_on_bundles[0];
     for (size_t i = 0; i < functions; i++) {
-        answer_times(timed_functions[i], bundles, answer);
+        answer_times(timed_on_bundles[i], bundles, answer);
     }
-    for (size_t i = 0; i < BUNDLES; i++) {
+    uint8_t *of_two = text_of(0xC3, 0xBC), *of_one = text_of('o', 'k');
+    answer_times(timed_text, (struct input[]){{of_two, TEXT_BYTES}, {of_one, TEXT_BYTES}}, answer);
+    free(of_two);
+    free(of_one);
+    for (size_t i = 0; i < TIMED_INPUTS; i++) {
         free(bytes[i]);
     }
-    return functions;
+    return functions + 1;
 }
 
 /* Messages. */

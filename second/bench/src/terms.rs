@@ -47,7 +47,7 @@ pub const DEFAULTS: [Term; 12] = [
     ("remark", Nothing),
 ];
 
-/// Terms with keys of 40 bytes, of which the last alone differ.
+/// Terms with keys of 40 bytes, of which the last alone differs.
 pub const ALIKE: [Term; 12] = [
     ("sheets_delivered_by_press_nine_in_hour_a", Number(11_500.0)),
     ("sheets_delivered_by_press_nine_in_hour_b", Number(11_600.0)),

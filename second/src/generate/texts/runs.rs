@@ -10,10 +10,10 @@ use crate::random::Random;
 use crate::structs::{ENTRY, KEY, TEXT};
 use crate::wire;
 
-/// The most plain bytes in front of a sequence and behind it: more than twice and once the sixteen that may be passed
+/// The most plain bytes in front of a sequence and behind it: more than twice and once the thirty-two that may be passed
 /// over at a time.
-const MOST_BEFORE: usize = 40;
-const MOST_BEHIND: usize = 17;
+const MOST_BEFORE: usize = 72;
+const MOST_BEHIND: usize = 33;
 
 /// Plain bytes; there are seven of them, so that each comes to stand at each place of eight.
 const PLAIN: [u8; 7] = [b'p', 0x00, b'7', 0x7F, b' ', 0x01, b'~'];
@@ -60,7 +60,7 @@ fn asked(texts: &[Vec<u8>]) -> Calls {
 /// Plain texts of every length, mixed and of the least and the largest plain byte alone.
 pub fn plain_alone(_: &mut Random) -> Calls {
     let mut calls = Calls::new();
-    for length in 0..=2 * MOST_BEFORE {
+    for length in 0..=MOST_BEFORE + MOST_BEHIND {
         for first in 0..PLAIN.len() {
             add_text(&mut calls, &plain_from(first, length));
         }
@@ -74,7 +74,7 @@ pub fn plain_alone(_: &mut Random) -> Calls {
 /// Plain texts of every length with one byte at every place that is not plain.
 pub fn one_not_plain(_: &mut Random) -> Calls {
     let mut calls = Calls::new();
-    for length in 1..=48 {
+    for length in 1..=MOST_BEFORE + 8 {
         for place in 0..length {
             for byte in [0x80, 0xFF] {
                 let (before, behind) = (plain_from(place, place), plain_from(length, length - 1 - place));
@@ -99,11 +99,12 @@ pub fn changed_sequences(_: &mut Random) -> Calls {
 }
 
 /// A character of each width with another behind it that is good, begun or ended alone, and runs of plain bytes of every
-/// length between them.
+/// length between them, at the end of a text and with plain bytes behind.
 pub fn two_sequences(_: &mut Random) -> Calls {
     let first = ["\u{7FF}", "\u{800}", "\u{10FFFF}"].map(|character| character.as_bytes().to_vec());
     let second = [vec![0xC2, 0x80], vec![0xC2], vec![0x80]];
-    asked(&pairs(&pairs(&runs(7), &first), &pairs(&runs(MOST_BEFORE), &second)))
+    let ends = [Vec::new(), plain_from(0, MOST_BEHIND)];
+    asked(&pairs(&pairs(&pairs(&runs(7), &first), &pairs(&runs(MOST_BEFORE), &second)), &ends))
 }
 
 /// Texts that end inside a sequence, behind runs of plain bytes of every length: alone, and as a name, a key and a Value
