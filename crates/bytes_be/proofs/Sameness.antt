@@ -1,15 +1,17 @@
--- Lists that are the same: what the test says, and how it goes on from a place. Assumes nothing.
+-- Lists that are the same: what the test says, and how lists that are so up to a place go on. Assumes nothing.
 use Prim.Native.Nat.{ℕ, _+_, _≤_, _<_}
-use mathlib.Core.Path.{_≡_, refl, ap₂}
-use mathlib.Core.List.{List, [], _∷_}
+use mathlib.Core.Path.{_≡_, refl, sym, ap₂, _∙_}
+use mathlib.Core.List.{List, [], _∷_, _++_}
 use mathlib.Core.Bool.{Bool, true, false}
-use lib.ListN.{length, getD, drop, drop-of-length-le}
-use lib.Seq.{drop-cons}
+use native.Mathlib.Nat.{zero-add}
+use native.Mathlib.Omega.{arith}
+use lib.ListN.{length, getD}
+use lib.Seq.{take-all}
 use lib.Dec.{eqb}
-use native.Mathlib.Numerals.{add-one}
-use borrow.Author.Tests.{eq-eqb, ne-eqb, eqb-true}
-use Rattle.bytes_be.specs.Part.{same}
+use borrow.Author.Tests.{eq-eqb, eqb-true}
+use Rattle.bytes_be.specs.Part.{part, same}
 use Rattle.bytes_be.proofs.Tests.{both-true, clash}
+use Rattle.bytes_be.proofs.Parts.{part-more}
 
 false-not-true : {A : Type 0} → false ≡ true → A
 false-not-true e = clash cc
@@ -37,15 +39,16 @@ not-same xs ys other = go (same xs ys) (same-equal xs ys)
     go false f = refl
     go true f = absurd (other (f refl))
 
-module _ (xs ys : List ℕ) (i : ℕ) (lx : i < length xs) (ly : i < length ys) where
-  pub same-step : getD xs i 0 ≡ getD ys i 0 → same (drop i xs) (drop i ys) ≡ same (drop (i + 1) xs) (drop (i + 1) ys)
-  unfolding same
-  same-step e = rw (drop-cons xs i 0 lx, drop-cons ys i 0 ly) (simp (eq-eqb (getD xs i 0) (getD ys i 0) e, add-one))
+-- two lists are the same up to a place
+module _ (xs ys : List ℕ) (at : ℕ) (front : part xs 0 at ≡ part ys 0 at) where
+  -- they are so behind the next element too, if it is the same
+  pub same-one : at < length xs → at < length ys → getD xs at 0 ≡ getD ys at 0 → part xs 0 (at + 1) ≡ part ys 0 (at + 1)
+  same-one lx ly e =
+      let next : getD xs (0 + at) 0 ≡ getD ys (0 + at) 0 = rw zero-add e in
+      part-more xs 0 at 0 (omega arith) ∙ ap₂ (λ (l : List ℕ) (b : ℕ). l ++ (b ∷ [])) front next ∙ sym (part-more ys 0 at 0 (omega arith))
 
-  pub same-differ : (getD xs i 0 ≡ getD ys i 0 → ⊥) → same (drop i xs) (drop i ys) ≡ false
-  unfolding same
-  same-differ n = rw (drop-cons xs i 0 lx, drop-cons ys i 0 ly) (simp (ne-eqb (getD xs i 0) (getD ys i 0) n))
-
-pub same-behind : (xs ys : List ℕ) (i : ℕ) → length xs ≤ i → length ys ≤ i → same (drop i xs) (drop i ys) ≡ true
-unfolding same
-same-behind xs ys i h k = rw (drop-of-length-le xs h, drop-of-length-le ys k)
+  -- and so are the whole lists, if nothing is behind it
+  pub same-whole : length xs ≤ at → length ys ≤ at → true ≡ same xs ys
+  same-whole h k =
+      let equal : xs ≡ ys = sym (take-all at xs h) ∙ front ∙ take-all at ys k in
+      sym (rw equal (equal-same ys))

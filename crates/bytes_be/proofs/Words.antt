@@ -58,10 +58,6 @@ low-byte b byte = (λ e. omega (arith, top), λ low. omega (arith, top))
 abbrev pub Low : List ℕ → Type 0
 Low bytes = (i : ℕ) → i < length bytes → getD bytes i 0 < 128
 
--- the bits that two numbers have in common are those of their last bytes, and those of what stands in front
-in-common : (b n m : ℕ) → b < 256 → bitAnd (n * 256 + b) (m * 256 + 128) ≡ bitAnd n m * 256 + bitAnd b 128
-in-common b n m byte = and-block 8 n m b 128 byte (lit< tt)
-
 low-cons : (b : ℕ) (rest : List ℕ) → b < 128 → Low rest → Low (b ∷ rest)
 low-cons b rest first others zero less = first
 low-cons b rest first others (suc i) less = others i (omega arith)
@@ -73,7 +69,7 @@ low-bytes [] h = (λ e i less. absurd (omega arith), λ low. refl)
 low-bytes (b ∷ rest) h =
     let first = low-byte b (h 0) in
     let others = low-bytes rest (λ i. h (suc i)) in
-    let apart = ap (λ (n : ℕ). bitAnd n (tops (length rest) * 256 + 128)) (from-backwards b rest) ∙ in-common b (fromBytes (reverse rest)) (tops (length rest)) (h 0) in (
+    let apart = ap (λ (n : ℕ). bitAnd n (tops (length rest) * 256 + 128)) (from-backwards b rest) ∙ and-block 8 (fromBytes (reverse rest)) (tops (length rest)) b 128 (h 0) (lit< tt) in (
       λ e. low-cons b rest (first .0 (omega (arith, apart))) (others .0 (omega (arith, apart))),
       λ low. omega (arith, apart, first .1 (low 0 (omega arith)), others .1 (λ i less. low (suc i) (omega arith))),
     )

@@ -37,7 +37,7 @@ run-more s from at count to end inside plain run = run-then s from at to run (om
 
 -- a run and one byte more
 pub run-one : (s : List ℕ) (from at : ℕ) → at < length s → getD s at 0 < 128 → Run s from at → Run s from (at + 1)
-run-one s from at inside low run = run-then s from at (at + 1) run (omega arith, omega arith, λ i least most. let here : i ≡ at = omega arith in rw here low)
+run-one s from at inside low = run-more s from at 1 (at + 1) refl (omega arith) (λ k less. let here : at + k ≡ at = omega arith in rw here low)
 
 -- behind a run the text comes to what it came to in front of it
 pub run-passed : (s : List ℕ) (from to : ℕ) → Run s from to → wellFormed (drop from s) ≡ wellFormed (drop to s)

@@ -5,7 +5,7 @@ use mathlib.Core.List.{List, [], _∷_, _++_}
 use mathlib.Core.Bool.{Bool, true, false, _&&_, cond}
 use mathlib.Core.Option.{Option, none, some}
 use native.Mathlib.Omega.{arith}
-use lib.ListN.{length, getD}
+use Rattle.bytes_be.proofs.Words.{Low}
 use Rattle.utf8.specs.Text.{Range, within, table, dueBehind, ifSome, rest, wellFormed}
 use Rattle.utf8.specs.Held.{dueAfter}
 use Rattle.utf8.proofs.Rows.{within-low}
@@ -16,7 +16,7 @@ low-in-front b l h =
     let low : b ≤ 0x7F = omega arith in
     simp (within-low low)
 
-pub low-run-in-front : (xs l : List ℕ) → ((i : ℕ) → i < length xs → getD xs i 0 < 128) → wellFormed (xs ++ l) ≡ wellFormed l
+pub low-run-in-front : (xs l : List ℕ) → Low xs → wellFormed (xs ++ l) ≡ wellFormed l
 low-run-in-front [] l h = refl
 low-run-in-front (b ∷ xs) l h =
     low-in-front b (xs ++ l) (h 0 (omega arith)) ∙ low-run-in-front xs l (λ i less. h (suc i) (omega arith))

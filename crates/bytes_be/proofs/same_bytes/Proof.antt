@@ -1,16 +1,18 @@
--- `bytes_be::same_bytes` meets its contract: in front of the place that the loop has reached the bytes are the same. Assumes nothing.
-use Prim.Native.Nat.{_-_, _≤_}
-use mathlib.Core.Path.{_≡_, refl, sym, _∙_}
-use lib.ListN.{length, drop}
+-- `bytes_be::same_bytes` meets its contract. The invariant of its loop: the bytes in front of the place that it has reached are the same. The
+-- measure is the number of bytes from there to the end. Assumes nothing.
+use Prim.Native.Nat.{ℕ, _-_, _≤_}
+use mathlib.Core.Path.{_≡_, refl, ap}
+use mathlib.Core.List.{List}
+use lib.ListN.{length, getD}
 use denote.Ref.{now}
 use borrow.Author.Needs.{needs}
-use Rattle.bytes_be.specs.Part.{same}
-use Rattle.bytes_be.proofs.Sameness.{same-step, same-differ, same-behind}
+use Rattle.bytes_be.specs.Part.{part}
+use Rattle.bytes_be.proofs.Sameness.{not-same, same-one, same-whole}
 use Rattle.bytes_be.proofs.same_bytes.Statement.{statement}
 use Rattle.bytes_be.proofs.same_bytes.Tie as tie
 
 abbrev Inv-loop : tie.InvT-loop
-Inv-loop a b at₀ at = (at ≤ length a) × (same a b ≡ same (drop at a) (drop at b))
+Inv-loop a b at₀ at = (at ≤ length a) × (part a 0 at ≡ part b 0 at)
 
 abbrev μ-loop : tie.MeasureT-loop
 μ-loop a b at₀ at = length a - at
@@ -28,7 +30,9 @@ returns : tie.Need-returns Inv-loop μ-loop
 returns c =
     let at-loop = c .before .before .before .before in
     let a = at-loop .before .args in
-    sym (at-loop .loop .inv .1 ∙ same-differ (now (a .a)) (now (a .b)) (at-loop .loop .at) (search needs) (search needs) (search needs))
+    let at = at-loop .loop .at in
+    let differ : getD (now (a .a)) at 0 ≡ getD (now (a .b)) at 0 → ⊥ = search needs in
+    not-same (now (a .a)) (now (a .b)) (λ equal. differ (ap (λ (l : List ℕ). getD l at 0) equal))
 
 add-at : tie.Need-add-at Inv-loop μ-loop
 add-at c = search needs
@@ -40,13 +44,13 @@ loop-again : tie.Need-loop-again Inv-loop μ-loop
 loop-again c =
     let at-loop = c .before .before .before .before in
     let a = at-loop .before .args in
-    (search needs, at-loop .loop .inv .1 ∙ same-step (now (a .a)) (now (a .b)) (at-loop .loop .at) (search needs) (search needs) (search needs))
+    (search needs, same-one (now (a .a)) (now (a .b)) (at-loop .loop .at) (at-loop .loop .inv .1) (search needs) (search needs) (search needs))
 
 returns-2 : tie.Need-returns-2 Inv-loop μ-loop
 returns-2 c =
     let at-loop = c .before in
     let a = at-loop .before .args in
-    sym (at-loop .loop .inv .1 ∙ same-behind (now (a .a)) (now (a .b)) (at-loop .loop .at) (search needs) (search needs))
+    same-whole (now (a .a)) (now (a .b)) (at-loop .loop .at) (at-loop .loop .inv .1) (search needs) (search needs)
 
 pub same-bytes-spec : {M : Type 1} → statement M
 same-bytes-spec =
