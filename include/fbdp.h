@@ -4,7 +4,7 @@
  * writes on the transport, lend each message that arrives to fbdp_receive, and send the reply that this may leave. The
  * block moves with the call, so whatever was written has to reach the other end, once and in order.
  *
- * Every function of the archive takes any bytes, any block and any order of calls. All but fbdp_interface_2 return
+ * Every function of the archive takes any bytes, any block and any order of calls. All but fbdp_interface_3 return
  * FBDP_ACCEPTED, or the number of the refusal that applies first, which fbdp_meaning says in words. None keeps a
  * pointer, allocates, or calls anything but memcpy, so calls on different blocks may run at the same time.
  *
@@ -24,10 +24,10 @@ extern "C" {
 /* The number of this interface, which goes up with every change that a host has to follow; docs/CHANGES.md says what to
  * change. The archive has one function with the number in its name, which answers it, and every object that includes
  * this header refers to that function. So each of them wants the archive behind it, and one that was compiled with the
- * header of another interface does not link: "undefined reference to `fbdp_interface_N'". The interface before this one
- * had no number, and what was compiled with its header links all the same: compile it anew. */
-#define FBDP_INTERFACE 2
-uint32_t fbdp_interface_2(void);
+ * header of another interface does not link: "undefined reference to `fbdp_interface_N'". Interface 1 had no number,
+ * and what was compiled with its header links all the same: compile it anew. */
+#define FBDP_INTERFACE 3
+uint32_t fbdp_interface_3(void);
 
 /* The numbers answered: name, number, meaning. */
 #define FBDP_NUMBERS(ROW)                                                                                              \
@@ -157,6 +157,11 @@ static inline uint8_t fbdp_phase(const uint8_t *block) { return block[2]; }
 
 /* How many confirmations are awaited, at most 16. */
 static inline uint8_t fbdp_awaited(const uint8_t *block) { return block[3]; }
+
+/* How many of them belong to DATA: so many of the reports that were sent with FBDP_ASK, the newest ones, are not
+ * confirmed yet. A close clears this with all else that is awaited, so a host that wants to know what was in doubt then
+ * asks before each call that may close. */
+static inline uint8_t fbdp_unconfirmed(const uint8_t *block) { return block[6]; }
 
 /* The count that is offered in FBDP_PHASE_OFFER, and that is left in FBDP_PHASE_BATCH; else 0. */
 static inline uint16_t fbdp_count(const uint8_t *block) { return (uint16_t)(block[4] << 8 | block[5]); }
@@ -296,7 +301,7 @@ struct fbdp_term_place {
 uint32_t fbdp_lookup(const uint8_t *client, size_t client_length, const uint8_t *defaults, size_t defaults_length,
                      const uint8_t *key, size_t key_length, struct fbdp_term_place *place);
 
-/* What refers to fbdp_interface_2: a constant that stays where a linker leaves out what nothing uses, and of a compiler
+/* What refers to fbdp_interface_3: a constant that stays where a linker leaves out what nothing uses, and of a compiler
  * that has no such constants a function that is called before main. */
 #if defined(__has_attribute)
 #if __has_attribute(used) && __has_attribute(retain)
@@ -304,12 +309,12 @@ uint32_t fbdp_lookup(const uint8_t *client, size_t client_length, const uint8_t 
 #endif
 #endif
 #ifdef FBDP_RETAINED
-__attribute__((used, retain)) static uint32_t (*const fbdp_interface_linked)(void) = fbdp_interface_2;
+__attribute__((used, retain)) static uint32_t (*const fbdp_interface_linked)(void) = fbdp_interface_3;
 #undef FBDP_RETAINED
 #elif defined(__GNUC__)
-__attribute__((constructor)) static void fbdp_interface_linked(void) { (void)fbdp_interface_2(); }
+__attribute__((constructor)) static void fbdp_interface_linked(void) { (void)fbdp_interface_3(); }
 #else
-static uint32_t (*const fbdp_interface_linked)(void) = fbdp_interface_2;
+static uint32_t (*const fbdp_interface_linked)(void) = fbdp_interface_3;
 #endif
 
 #ifdef __cplusplus
