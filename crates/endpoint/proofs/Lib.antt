@@ -2,6 +2,7 @@
 -- `StaysGood` that it stays good, `Round` that loading and storing undo each other, `Awaited` that the entries are a queue.
 pub mod Stored
 pub mod Entries
+pub mod Reports
 pub mod Told
 pub mod StaysGood
 pub mod Round

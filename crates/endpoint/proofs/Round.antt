@@ -16,8 +16,9 @@ use Rattle.bytes_be.proofs.Tests.{both-true}
 use Rattle.double.specs.Limit.{leastLimit, mostLimit}
 use Rattle.endpoint.specs.declared.Endpoint.{Endpoint}
 use Rattle.endpoint.specs.Block.{bytesOf, headBytes, holdsEndpoint, isGood, loadOf, recordIn, spareIsZero}
-use Rattle.endpoint.specs.Record.{freshOf, good, inRanges, producer, batch, client, consumer, countFits, offer, server, noEndpoint}
+use Rattle.endpoint.specs.Record.{freshOf, good, inRanges, producer, batch, client, consumer, countFits, entryAt, offer, server, noEndpoint}
 use Rattle.endpoint.specs.Round.{Sized, LoadedGood, LoadedStores, StoredLoads}
+use Rattle.endpoint.proofs.Reports.{reports-few}
 use Rattle.endpoint.proofs.Stored.{length-block, length-head}
 use Rattle.endpoint.proofs.StaysGood.{fresh-sized}
 use Rattle.endpoint.proofs.Told.{good-told}
@@ -69,17 +70,15 @@ module _ (e : Endpoint) (sized : Sized e) (g : good e ≡ true) where
       let phase = byte-back 2 (e .phase) (omega arith) (omega (arith, told .phases)) refl in
       let w = byte-back 3 (e .w) (omega arith) (omega (arith, told .waits)) refl in
       let n = number-back 2 4 (e .n) (omega arith) (count-small (eqb (e .phase) offer || eqb (e .phase) batch) (e .n) (told .counted)) refl in
+      let few = reports-few (entryAt (e .entries)) (e .w) in
+      let unconfirmed = byte-back 6 (e .unconfirmed) (omega arith) (omega (arith, told .tallied, few, told .waits)) refl in
       let limit = number-back 4 8 (e .limit) (omega arith) (omega (arith, at-most leastLimit (e .limit) mostLimit (told .bounded))) refl in
-      λ i. record { role = role i; flow = flow i; phase = phase i; w = w i; n = n i; limit = limit i; entries = entries-back i }
+      λ i. record { role = role i; flow = flow i; phase = phase i; w = w i; n = n i; unconfirmed = unconfirmed i; limit = limit i; entries = entries-back i }
 
   spare-back : spareIsZero (bytesOf e) ≡ true
   unfolding spareIsZero headBytes toBytes
   spare-back =
-      simp (
-        byte-back 6 0 (omega arith) (omega arith) refl,
-        byte-back 7 0 (omega arith) (omega arith) refl,
-        number-back 4 12 0 (omega arith) (omega arith) refl,
-      )
+      simp (byte-back 7 0 (omega arith) (omega arith) refl, number-back 4 12 0 (omega arith) (omega arith) refl)
 
 -- the block of a good record holds that record: what was stored is loaded
 pub stored-loads : StoredLoads
@@ -98,8 +97,7 @@ loaded-good block = go (holdsEndpoint block)
 -- what a good block says
 pub record BlockTold (block : List ℕ) : Type 0 where
   pub full : length block ≡ 64
-  pub spare-six : numberAt 1 block 6 ≡ 0
-  pub spare-seven : numberAt 1 block 7 ≡ 0
+  pub spare-byte : numberAt 1 block 7 ≡ 0
   pub spare-last : numberAt 4 block 12 ≡ 0
   pub held : loadOf block ≡ recordIn block
 
@@ -108,12 +106,10 @@ unfolding isGood loadOf spareIsZero
 block-told block g =
     let p = both-true (holdsEndpoint block) (good (recordIn block)) g in
     let q = both-true (eqb (length block) 64) (spareIsZero block) (p .0) in
-    let r = both-true (eqb (numberAt 1 block 6) 0 && eqb (numberAt 1 block 7) 0) (eqb (numberAt 4 block 12) 0) (q .1) in
-    let s = both-true (eqb (numberAt 1 block 6) 0) (eqb (numberAt 1 block 7) 0) (r .0) in
+    let r = both-true (eqb (numberAt 1 block 7) 0) (eqb (numberAt 4 block 12) 0) (q .1) in
     record {
       full = eqb-true _ _ (q .0);
-      spare-six = eqb-true _ _ (s .0);
-      spare-seven = eqb-true _ _ (s .1);
+      spare-byte = eqb-true _ _ (r .0);
       spare-last = eqb-true _ _ (r .1);
       held = simp (p .0);
     }
@@ -144,17 +140,13 @@ module _ (block : List ℕ) (bytes : Bytes block) where
         let byte : numberAt 1 block at ≡ numberAt 1 block at % 256 = omega (arith, number-below 1 block at bytes) in
         ap (λ (k : ℕ). k ∷ []) byte ∙ bytes-at 1 at (omega arith)
 
-    zero-at : (at : ℕ) → at < 64 → numberAt 1 block at ≡ 0 → 0 ∷ [] ≡ part block at 1
-    zero-at at inside zero = ap (λ (k : ℕ). k ∷ []) (sym zero) ∙ byte-at at inside
-
-    head-there : numberAt 1 block 6 ≡ 0 → numberAt 1 block 7 ≡ 0 → numberAt 4 block 12 ≡ 0 → headBytes (recordIn block) ≡ part block 0 16
+    head-there : numberAt 1 block 7 ≡ 0 → numberAt 4 block 12 ≡ 0 → headBytes (recordIn block) ≡ part block 0 16
     unfolding headBytes recordIn
-    head-there spare-six spare-seven spare-last =
-        let six = zero-at 6 (omega arith) spare-six in
-        let seven = zero-at 7 (omega arith) spare-seven in
+    head-there spare-byte spare-last =
+        let seven : 0 ∷ [] ≡ part block 7 1 = ap (λ (k : ℕ). k ∷ []) (sym spare-byte) ∙ byte-at 7 (omega arith) in
         let last : toBytes 4 0 ≡ part block 12 4 = ap (toBytes 4) (sym spare-last) ∙ bytes-at 4 12 (omega arith) in
         (λ i. (byte-at 0 (omega arith) i ++ byte-at 1 (omega arith) i ++ byte-at 2 (omega arith) i ++ byte-at 3 (omega arith) i)
-        ++ bytes-at 2 4 (omega arith) i ++ (six i ++ seven i) ++ bytes-at 4 8 (omega arith) i ++ last i)
+        ++ bytes-at 2 4 (omega arith) i ++ (byte-at 6 (omega arith) i ++ seven i) ++ bytes-at 4 8 (omega arith) i ++ last i)
         ∙ simp (
           part-then block 0 1 1 1 refl,
           part-then block 0 2 1 2 refl,
@@ -172,6 +164,6 @@ unfolding bytesOf recordIn
 loaded-stores block bytes g =
     let told = block-told block g in
     ap bytesOf (told .held)
-    ∙ ap (λ (head : List ℕ). head ++ part block 16 48) (head-there block bytes (told .full) (told .spare-six) (told .spare-seven) (told .spare-last))
+    ∙ ap (λ (head : List ℕ). head ++ part block 16 48) (head-there block bytes (told .full) (told .spare-byte) (told .spare-last))
     ∙ part-then block 0 16 48 16 refl
     ∙ take-all 64 block (omega (arith, told .full))

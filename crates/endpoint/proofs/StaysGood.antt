@@ -14,9 +14,10 @@ use Rattle.bytes_be.proofs.Tests.{both-true}
 use Rattle.double.specs.Limit.{inLimits}
 use Rattle.endpoint.specs.declared.Endpoint.{Endpoint}
 use Rattle.endpoint.specs.declared.Entry.{Entry}
-use Rattle.endpoint.specs.Record.{atPhase, awaitable, capacity, client, closed, confirmed, countFits, entriesFit, entryFits, freshOf, good, goodFlow, isNone, limited, producer, server, shut, waitFits, asked, batch, entryAt, entryBytes, fresh, idle, noEntries, opening, without, withoutEntry}
+use Rattle.endpoint.specs.Record.{atPhase, awaitable, capacity, client, closed, confirmed, countFits, entriesFit, entryFits, freshOf, good, goodFlow, isNone, limited, producer, server, shut, waitFits, asked, batch, entryAt, entryBytes, entryOf, fresh, idle, noEntries, opening, unconfirmedWith, unconfirmedWithout, without, withoutEntry}
 use Rattle.endpoint.specs.Round.{Sized}
 use Rattle.endpoint.proofs.Entries.{bytes-entry, bytes-without, kept-before, kept-behind, kept-without, length-without, moved-up, type-put, zero-everywhere}
+use Rattle.endpoint.proofs.Reports.{reports-with, reports-without}
 use Rattle.endpoint.proofs.Told.{awaitable-small, every-from, fits-at, fits-before, fits-behind, good-told, told-good}
 
 -- where W must be 0, one less is 0 too
@@ -27,12 +28,12 @@ fewer-wait false w e = refl
 -- the record without entry i, which is one of the sixteen
 abbrev fewer : Endpoint → ℕ → Endpoint
 fewer e i =
-    record { role = e .role; flow = e .flow; phase = e .phase; w = e .w - 1; n = e .n; limit = e .limit; entries = withoutEntry (e .entries) i }
+    record { role = e .role; flow = e .flow; phase = e .phase; w = e .w - 1; n = e .n; unconfirmed = unconfirmedWithout (e .unconfirmed) (entryOf e i); limit = e .limit; entries = withoutEntry (e .entries) i }
 
 -- the record with an entry more behind the first W
 abbrev more : Endpoint → Entry → Endpoint
 more e entry =
-    record { role = e .role; flow = e .flow; phase = e .phase; w = e .w + 1; n = e .n; limit = e .limit; entries = putAt (e .entries) (3 * e .w) (entryBytes entry) }
+    record { role = e .role; flow = e .flow; phase = e .phase; w = e .w + 1; n = e .n; unconfirmed = unconfirmedWith (e .unconfirmed) entry; limit = e .limit; entries = putAt (e .entries) (3 * e .w) (entryBytes entry) }
 
 -- a fresh endpoint is good where role, flow and limit are in their ranges
 pub fresh-good : (role flow limit : ℕ) → leb client role && leb role server ≡ true → goodFlow flow && inLimits limit ≡ true →
@@ -49,6 +50,7 @@ fresh-good role flow limit acts given =
       counted = refl;
       waiting = refl;
       fitting = refl;
+      tallied = refl;
       bounded = both .1;
     })
 
@@ -67,6 +69,7 @@ module _ (e : Endpoint) (g : good e ≡ true) where
         counted = refl;
         waiting = refl;
         fitting = refl;
+        tallied = refl;
         bounded = told .bounded;
       })
 
@@ -85,6 +88,7 @@ module _ (e : Endpoint) (g : good e ≡ true) where
         counted = counted;
         waiting = waiting;
         fitting = told .fitting;
+        tallied = told .tallied;
         bounded = told .bounded;
       })
 
@@ -102,6 +106,7 @@ module _ (e : Endpoint) (g : good e ≡ true) where
         counted = told .counted;
         waiting = told .waiting;
         fitting = told .fitting;
+        tallied = told .tallied;
         bounded = bounded;
       })
 
@@ -146,6 +151,9 @@ module _ (e : Endpoint) (full : length (e .entries) ≡ 48) (g : good e ≡ true
           counted = told .counted;
           waiting = fewer-wait (eqb (e .phase) fresh || eqb (e .phase) opening || eqb (e .phase) shut) (e .w) (told .waiting);
           fitting = every-from capacity (entryFits (fewer e i)) (λ k h. fewer-fits k);
+          tallied =
+              reports-without (entryAt (e .entries)) (entryAt (withoutEntry (e .entries) i)) i (kept-without (e .entries) i full inside)
+              (moved-up (e .entries) i full inside) (e .w) (e .unconfirmed) waits (told .tallied);
           bounded = told .bounded;
         })
 
@@ -200,6 +208,9 @@ module _ (e : Endpoint) (full : length (e .entries) ≡ 48) (g : good e ≡ true
           counted = told .counted;
           waiting = more-waits;
           fitting = every-from capacity (entryFits (more e entry)) (λ i h. more-fits room i);
+          tallied =
+              reports-with (entryAt (e .entries)) (entryAt (more e entry .entries)) entry (e .w) (e .unconfirmed) room
+              (kept-before (e .entries) full (e .w) room entry) (type-put (e .entries) full (e .w) room entry) (told .tallied);
           bounded = told .bounded;
         })
 

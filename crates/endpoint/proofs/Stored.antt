@@ -31,11 +31,11 @@ with-last block = putAt block 12 (toBytes 4 0)
 
 -- the first 16 bytes, where n was told in two
 pub stored-head : (block : List ℕ) (e : Endpoint) (told : List ℕ) → 64 ≤ length block → told ≡ toBytes 2 (e .n) →
-    with-last (with-limit e (putAt block 0 (e .role ∷ e .flow ∷ e .phase ∷ e .w ∷ getD told 0 0 ∷ getD told 1 0 ∷ 0 ∷ 0 ∷ [])))
+    with-last (with-limit e (putAt block 0 (e .role ∷ e .flow ∷ e .phase ∷ e .w ∷ getD told 0 0 ∷ getD told 1 0 ∷ e .unconfirmed ∷ 0 ∷ [])))
     ≡ putAt block 0 (headBytes e)
 unfolding headBytes toBytes
 stored-head block e told room same =
-    let first : List ℕ → List ℕ = λ n. e .role ∷ e .flow ∷ e .phase ∷ e .w ∷ getD n 0 0 ∷ getD n 1 0 ∷ 0 ∷ 0 ∷ [] in
+    let first : List ℕ → List ℕ = λ n. e .role ∷ e .flow ∷ e .phase ∷ e .w ∷ getD n 0 0 ∷ getD n 1 0 ∷ e .unconfirmed ∷ 0 ∷ [] in
     let front : List ℕ = first (toBytes 2 (e .n)) in
     ap (λ (n : List ℕ). with-last (with-limit e (putAt block 0 (first n)))) same
     ∙ ap with-last (put-then block 0 front (toBytes 4 (e .limit)) 8 refl (omega arith))

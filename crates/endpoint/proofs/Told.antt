@@ -1,18 +1,20 @@
 -- What a good record says, test by test, and of each of its entries. Assumes nothing.
-use mathlib.Core.Path.{_∙_, _≡_, ap, refl}
-use Prim.Native.Nat.{_<_, _≤_, suc, zero, ℕ}
+use mathlib.Core.Path.{_∙_, _≡_, ap, refl, sym}
+use Prim.Native.Nat.{_+_, _-_, _<_, _≤_, suc, zero, ℕ}
 use mathlib.Core.Bool.{Bool, _&&_, _||_, false, true}
 use native.Mathlib.Omega.{arith}
 use lib.Dec.{eqb, leb, ltb}
 use lib.ListN.{length}
 use borrow.Author.Count.{below-more}
-use borrow.Author.Tests.{eqb-true, le-leb, le-ltb, leb-true, lt-ltb, ltb-false, ltb-true}
+use borrow.Author.Tests.{eq-eqb, eqb-true, le-leb, le-ltb, leb-false, leb-true, lt-ltb, ltb-false, ltb-true, ne-eqb}
+use Rattle.bytes_be.specs.Part.{tabulate}
 use Rattle.bytes_be.proofs.Tests.{both-true}
 use Rattle.double.specs.Limit.{inLimits}
 use Rattle.endpoint.specs.declared.Endpoint.{Endpoint}
 use Rattle.endpoint.specs.declared.Entry.{Entry}
-use Rattle.endpoint.specs.Record.{awaitable, capacity, client, countFits, entriesFit, entryAt, entryFits, every, good, goodFlow, inRanges, isNone, producer, server, shut, waitFits}
+use Rattle.endpoint.specs.Record.{awaitable, awaited, capacity, client, countFits, entriesFit, entryAt, entryFits, every, good, goodFlow, inRanges, isNone, ofData, producer, reportsIn, server, shut, unconfirmedFits, waitFits}
 use Rattle.endpoint.proofs.Entries.{entry-past}
+use Rattle.endpoint.proofs.Reports.{reports, reports-none}
 
 -- the tests of a good record
 pub record Told (e : Endpoint) : Type 0 where
@@ -23,15 +25,17 @@ pub record Told (e : Endpoint) : Type 0 where
   pub counted : countFits e ≡ true
   pub waiting : waitFits e ≡ true
   pub fitting : entriesFit e ≡ true
+  pub tallied : e .unconfirmed ≡ length (reportsIn (awaited e))
   pub bounded : inLimits (e .limit) ≡ true
 
 -- a good record passes each of them
 pub good-told : (e : Endpoint) → good e ≡ true → Told e
-unfolding good inRanges
+unfolding good inRanges unconfirmedFits
 good-told e g =
     let three : Bool = leb client (e .role) && leb (e .role) server && goodFlow (e .flow) && leb (e .phase) shut in
-    let p = both-true (inRanges e && countFits e && waitFits e && entriesFit e) (inLimits (e .limit)) g in
-    let q = both-true (inRanges e && countFits e && waitFits e) (entriesFit e) (p .0) in
+    let p = both-true (inRanges e && countFits e && waitFits e && entriesFit e && unconfirmedFits e) (inLimits (e .limit)) g in
+    let o = both-true (inRanges e && countFits e && waitFits e && entriesFit e) (unconfirmedFits e) (p .0) in
+    let q = both-true (inRanges e && countFits e && waitFits e) (entriesFit e) (o .0) in
     let r = both-true (inRanges e && countFits e) (waitFits e) (q .0) in
     let s = both-true (inRanges e) (countFits e) (r .0) in
     let t = both-true three (leb (e .w) capacity) (s .0) in
@@ -45,14 +49,16 @@ good-told e g =
       counted = s .1;
       waiting = r .1;
       fitting = q .1;
+      tallied = eqb-true _ _ (o .1);
       bounded = p .1;
     }
 
 -- and one that passes each of them is good
 pub told-good : (e : Endpoint) → Told e → good e ≡ true
-unfolding good inRanges
+unfolding good inRanges unconfirmedFits
 told-good e told =
-    simp (told .roles, told .flows, le-leb (e .phase) shut (told .phases), le-leb (e .w) capacity (told .waits), told .counted, told .waiting, told .fitting, told .bounded)
+    let tallied = eq-eqb (e .unconfirmed) (length (reportsIn (awaited e))) (told .tallied) in
+    simp (told .roles, told .flows, le-leb (e .phase) shut (told .phases), le-leb (e .w) capacity (told .waits), told .counted, told .waiting, told .fitting, tallied, told .bounded)
 
 -- a test that holds of every number below k, and the other way round
 pub every-at : (k : ℕ) (test : ℕ → Bool) → every k test ≡ true → (i : ℕ) → i < k → test i ≡ true
@@ -98,3 +104,39 @@ fits-at e full g i = go (ltb i capacity) refl
     go false outside =
         let past : 16 ≤ i = ltb-false i capacity outside in
         fits-behind e i (omega (arith, told .waits)) ∙ ap isNone (entry-past (e .entries) full i past)
+
+-- an entry behind the first W is none of DATA, and neither is one behind the sixteenth
+module _ (e : Endpoint) (full : length (e .entries) ≡ 48) where
+  past-reports : (i : ℕ) → 16 ≤ i → ofData (entryAt (e .entries) i) ≡ false
+  past-reports i past = ap ofData (entry-past (e .entries) full i past)
+
+  behind-reports : entriesFit e ≡ true → (i : ℕ) → e .w ≤ i → i < 16 → ofData (entryAt (e .entries) i) ≡ false
+  unfolding entriesFit isNone
+  behind-reports fits i behind inside =
+      let entry : Entry = entryAt (e .entries) i in
+      let none = sym (fits-behind e i behind) ∙ every-at capacity (entryFits e) fits i inside in
+      let zero = eqb-true (entry .message) 0 (both-true (eqb (entry .message) 0) (eqb (entry .«type_data») 0) none .0) in
+      ne-eqb (entry .message) 4 (λ four. omega (arith, zero, four))
+
+  -- so the first W have as many as all sixteen
+  sixteen-reports : entriesFit e ≡ true → reports (tabulate 0 16 (entryAt (e .entries))) ≡ reports (awaited e)
+  sixteen-reports fits = go (leb (e .w) capacity) refl
+    where
+      go : (t : Bool) → leb (e .w) capacity ≡ t → reports (tabulate 0 16 (entryAt (e .entries))) ≡ reports (awaited e)
+      go true within =
+          let few : e .w ≤ 16 = leb-true (e .w) capacity within in
+          let all : e .w + (16 - e .w) ≡ 16 = omega arith in
+          rw all at (reports-none (entryAt (e .entries)) (e .w) (16 - e .w) (λ i behind inside. behind-reports fits i behind (omega arith)))
+      go false beyond =
+          let many : 16 < e .w = leb-false (e .w) capacity beyond in
+          let all : 16 + (e .w - 16) ≡ e .w = omega arith in
+          sym (rw all at (reports-none (entryAt (e .entries)) 16 (e .w - 16) (λ i behind inside. past-reports i behind)))
+
+  -- and both tests of the entries may look at all sixteen
+  pub both-tested : entriesFit e && eqb (e .unconfirmed) (reports (tabulate 0 16 (entryAt (e .entries)))) ≡ entriesFit e && unconfirmedFits e
+  unfolding unconfirmedFits
+  both-tested = go (entriesFit e) refl
+    where
+      go : (t : Bool) → entriesFit e ≡ t → t && eqb (e .unconfirmed) (reports (tabulate 0 16 (entryAt (e .entries)))) ≡ t && unconfirmedFits e
+      go true fits = ap (eqb (e .unconfirmed)) (sixteen-reports fits)
+      go false _ = refl

@@ -1,5 +1,5 @@
--- "0 role ..; 1 flow ..; 2 phase ..; 3 W, confirmations awaited, 0..16; 4-5 n, big-endian; 6-7 zero; 8-11 limit, big-endian; 12-15 zero;
--- 16-63 sixteen entries of 3 bytes (type, type-data), oldest first."
+-- "0 role ..; 1 flow ..; 2 phase ..; 3 W, confirmations awaited, 0..16; 4-5 n, big-endian"; C-14: "in byte 6" the count of those that belong to DATA;
+-- "7 zero; 8-11 limit, big-endian; 12-15 zero; 16-63 sixteen entries of 3 bytes (type, type-data), oldest first."
 use Prim.Native.Nat.{ℕ}
 use mathlib.Core.List.{List, [], _∷_, _++_}
 use mathlib.Core.Bool.{Bool, cond, _&&_}
@@ -14,7 +14,7 @@ use Rattle.endpoint.specs.Record.{good, noEndpoint}
 unfoldable pub headBytes : Endpoint → List ℕ
 headBytes e =
     (e .role ∷ e .flow ∷ e .phase ∷ e .w ∷ [])
-    ++ toBytes 2 (e .n) ++ (0 ∷ 0 ∷ [])
+    ++ toBytes 2 (e .n) ++ (e .unconfirmed ∷ 0 ∷ [])
     ++ toBytes 4 (e .limit) ++ toBytes 4 0
 
 -- the block of a record
@@ -30,13 +30,14 @@ recordIn block =
       phase = numberAt 1 block 2;
       w = numberAt 1 block 3;
       n = numberAt 2 block 4;
+      unconfirmed = numberAt 1 block 6;
       limit = numberAt 4 block 8;
       entries = part block 16 48;
     }
 
--- "6-7 zero", "12-15 zero"
+-- "7 zero", "12-15 zero"
 unfoldable pub spareIsZero : List ℕ → Bool
-spareIsZero block = eqb (numberAt 1 block 6) 0 && eqb (numberAt 1 block 7) 0 && eqb (numberAt 4 block 12) 0
+spareIsZero block = eqb (numberAt 1 block 7) 0 && eqb (numberAt 4 block 12) 0
 
 -- whether a block holds an endpoint, good or not: "64 bytes", and zeros where they must be
 abbrev pub holdsEndpoint : List ℕ → Bool

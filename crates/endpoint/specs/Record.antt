@@ -2,7 +2,7 @@
 use Prim.Native.Nat.{ℕ, zero, suc, _+_, _-_, _*_}
 use mathlib.Core.List.{List, [], _∷_, _++_}
 use mathlib.Core.Bool.{Bool, true, cond, _&&_, _||_}
-use lib.ListN.{drop, replicate, take}
+use lib.ListN.{drop, length, replicate, take}
 use lib.Dec.{ltb, leb, eqb}
 use Rattle.bytes_be.specs.Part.{tabulate, putAt}
 use Rattle.bytes_be.specs.Number.{numberAt, toBytes}
@@ -65,6 +65,14 @@ noEntries = replicate 48 0
 abbrev pub awaited : Endpoint → List Entry
 awaited e = tabulate 0 (e .w) (entryAt (e .entries))
 
+-- C-14: "how many of the awaited confirmations belong to DATA": the type-data of those of "type-4", in their order
+abbrev pub ofData : Entry → Bool
+ofData entry = eqb (entry .message) 4
+
+abbrev pub reportsIn : List Entry → List ℕ
+reportsIn [] = []
+reportsIn (entry ∷ rest) = cond (ofData entry) (entry .«type_data» ∷ reportsIn rest) (reportsIn rest)
+
 -- "A block is good if these ranges hold"
 abbrev pub goodFlow : ℕ → Bool
 goodFlow flow = leb producer flow && leb flow consumer
@@ -108,9 +116,13 @@ every (suc k) test = every k test && test k
 unfoldable pub entriesFit : Endpoint → Bool
 entriesFit e = every capacity (entryFits e)
 
+-- C-14: "the count of type-4 entries among the first W"
+unfoldable pub unconfirmedFits : Endpoint → Bool
+unconfirmedFits e = eqb (e .unconfirmed) (length (reportsIn (awaited e)))
+
 -- "A block is good if .."; "limit is 1,000,000..50,000,000"
 unfoldable pub good : Endpoint → Bool
-good e = inRanges e && countFits e && waitFits e && entriesFit e && inLimits (e .limit)
+good e = inRanges e && countFits e && waitFits e && entriesFit e && unconfirmedFits e && inLimits (e .limit)
 
 -- "Making tests .. 34": "bad .. flow or limit given"
 unfoldable pub givenOf : ℕ → ℕ → Given
@@ -123,7 +135,7 @@ givenNumber Bad = 34
 -- "Both give phase 0 and zeros."
 unfoldable pub freshOf : ℕ → ℕ → ℕ → Endpoint
 freshOf role flow limit =
-    record { role = role; flow = flow; phase = fresh; w = 0; n = 0; limit = limit; entries = noEntries }
+    record { role = role; flow = flow; phase = fresh; w = 0; n = 0; unconfirmed = 0; limit = limit; entries = noEntries }
 
 -- "Making a client takes flow and limit; making a server takes flow, with limit 50,000,000."
 abbrev pub freshClient : ℕ → ℕ → Endpoint
@@ -144,21 +156,37 @@ madeOf before made =
       next = cond (eqb (givenNumber (givenOf (made .flow) (made .limit))) 0) made before;
     }
 
--- "Phase becomes 5; n, W and entries zero."
+-- "Phase becomes 5; n, W and entries zero."; so is the count of C-14
 unfoldable pub closed : Endpoint → Endpoint
 closed e =
-    record { role = e .role; flow = e .flow; phase = shut; w = 0; n = 0; limit = e .limit; entries = noEntries }
+    record { role = e .role; flow = e .flow; phase = shut; w = 0; n = 0; unconfirmed = 0; limit = e .limit; entries = noEntries }
 
 -- the same endpoint in another phase, with another n
 unfoldable pub atPhase : Endpoint → ℕ → ℕ → Endpoint
 atPhase e phase n =
-    record { role = e .role; flow = e .flow; phase = phase; w = e .w; n = n; limit = e .limit; entries = e .entries }
+    record { role = e .role; flow = e .flow; phase = phase; w = e .w; n = n; unconfirmed = e .unconfirmed; limit = e .limit; entries = e .entries }
+
+-- C-14, with an entry more and with one less: an entry of DATA counts, where fewer than sixteen do
+unfoldable pub unconfirmedWith : ℕ → Entry → ℕ
+unconfirmedWith unconfirmed entry = cond (ofData entry && ltb unconfirmed capacity) (unconfirmed + 1) unconfirmed
+
+unfoldable pub unconfirmedWithout : ℕ → Entry → ℕ
+unconfirmedWithout unconfirmed entry = cond (ofData entry) (unconfirmed - 1) unconfirmed
 
 -- "An ask adds an entry", where there is room for one more
 unfoldable pub asked : Endpoint → Entry → Endpoint
 asked e entry =
     cond (ltb (e .w) capacity)
-    (record { role = e .role; flow = e .flow; phase = e .phase; w = e .w + 1; n = e .n; limit = e .limit; entries = putAt (e .entries) (3 * e .w) (entryBytes entry) })
+    (record {
+      role = e .role;
+      flow = e .flow;
+      phase = e .phase;
+      w = e .w + 1;
+      n = e .n;
+      unconfirmed = unconfirmedWith (e .unconfirmed) entry;
+      limit = e .limit;
+      entries = putAt (e .entries) (3 * e .w) (entryBytes entry);
+    })
     e
 
 -- entry i of the record, of three zeros where i is 16 or more
@@ -177,7 +205,16 @@ withoutEntry entries i = take (3 * i) entries ++ drop (3 * i + 3) entries ++ (0 
 abbrev pub without : Endpoint → ℕ → Endpoint
 without e i =
     cond (ltb i capacity)
-    (record { role = e .role; flow = e .flow; phase = e .phase; w = e .w - 1; n = e .n; limit = e .limit; entries = withoutEntry (e .entries) i })
+    (record {
+      role = e .role;
+      flow = e .flow;
+      phase = e .phase;
+      w = e .w - 1;
+      n = e .n;
+      unconfirmed = unconfirmedWithout (e .unconfirmed) (entryOf e i);
+      limit = e .limit;
+      entries = withoutEntry (e .entries) i;
+    })
     e
 
 -- "it removes it", the oldest
@@ -187,4 +224,4 @@ confirmed e = without e 0
 -- the same endpoint with another limit
 unfoldable pub limited : Endpoint → ℕ → Endpoint
 limited e limit =
-    record { role = e .role; flow = e .flow; phase = e .phase; w = e .w; n = e .n; limit = limit; entries = e .entries }
+    record { role = e .role; flow = e .flow; phase = e .phase; w = e .w; n = e .n; unconfirmed = e .unconfirmed; limit = limit; entries = e .entries }

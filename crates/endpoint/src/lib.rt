@@ -1,12 +1,13 @@
 // One endpoint: its record, what a good one is, how it changes, and its block of 64 bytes.
 ghost use mathlib.Core.Path.{_≡_};
 ghost use Prim.Native.Nat.{_+_, _-_, _*_, _<_};
-ghost use mathlib.Core.Bool.{cond};
+ghost use mathlib.Core.List.{[], _∷_};
+ghost use mathlib.Core.Bool.{cond, _&&_};
 ghost use lib.ListN.{length};
 ghost use lib.Dec.{leb};
 ghost use Rattle.bytes_be.specs.Part.{part, putAt};
 ghost use Rattle.double.specs.Limit.{inLimits};
-ghost use Rattle.endpoint.specs.Record.{entryBytes, entryAt, noEntries, inRanges, countFits, waitFits, isNone, awaitable, fits, every, entriesFit, good as Record·good, givenOf, givenNumber, freshOf, freshClient, freshServer, noEndpoint, madeOf, closed as Record·closed, atPhase, asked as Record·asked, entryOf, withoutEntry, without as Record·without, confirmed as Record·confirmed, limited as Record·limited, oldest as Record·oldest};
+ghost use Rattle.endpoint.specs.Record.{entryBytes, entryAt, noEntries, inRanges, countFits, waitFits, isNone, awaitable, fits, every, entriesFit, reportsIn, unconfirmedFits, unconfirmedWith, unconfirmedWithout, good as Record·good, givenOf, givenNumber, freshOf, freshClient, freshServer, noEndpoint, madeOf, closed as Record·closed, atPhase, asked as Record·asked, entryOf, withoutEntry, without as Record·without, confirmed as Record·confirmed, limited as Record·limited, oldest as Record·oldest};
 ghost use Rattle.endpoint.specs.Block.{headBytes, bytesOf, recordIn, spareIsZero, loadOf};
 
 // A confirmation that is awaited.
@@ -27,6 +28,8 @@ pub struct Endpoint {
     pub w: u8,
     // The count that is offered, or that is left of the batch.
     pub n: u16,
+    // How many of the confirmations awaited belong to DATA.
+    pub unconfirmed: u8,
     pub limit: u32,
     // The confirmations awaited, oldest first: sixteen times type and type-data, as in the block.
     pub entries: [u8; 48],
@@ -103,21 +106,34 @@ fn entry_fits(flow: u8, w: u8, entry: Entry, i: usize) -> bool
     is_none(entry)
 }
 
+// 1 for an entry of DATA, and else 0.
+fn report_in(entry: Entry) -> u8
+    ensures { λ r. ⌜ r ≡ length (reportsIn (entry ∷ [])) ⌝ }
+{
+    if entry.message == 4 {
+        return 1;
+    }
+    0
+}
+
+// Behind the first W an entry that fits is none of DATA, so that all sixteen may be counted.
 fn each_fits(e: Endpoint) -> bool
-    ensures { λ r. ⌜ r ≡ entriesFit e ⌝ }
+    ensures { λ r. ⌜ r ≡ entriesFit e && unconfirmedFits e ⌝ }
 {
     let entries = e.entries;
     let flow = e.flow;
     let w = e.w;
     let mut fit = true;
+    let mut reports = 0;
     let mut i = 0;
     while i < 16 {
         let at = 3 * i;
         let entry = entry_from(entries[at], entries[at + 1], entries[at + 2]);
         fit = fit & entry_fits(flow, w, entry, i);
+        reports += report_in(entry);
         i += 1;
     }
-    fit
+    fit & (e.unconfirmed == reports)
 }
 
 // Whether all entries are zero.
@@ -134,11 +150,11 @@ fn none_awaited(entries: [u8; 48]) -> bool
 }
 
 fn entries_fit(e: Endpoint) -> bool
-    ensures { λ r. ⌜ r ≡ entriesFit e ⌝ }
+    ensures { λ r. ⌜ r ≡ entriesFit e && unconfirmedFits e ⌝ }
 {
     if e.w == 0 {
         let entries = e.entries;
-        return none_awaited(entries);
+        return none_awaited(entries) & (e.unconfirmed == 0);
     }
     each_fits(e)
 }
@@ -193,6 +209,7 @@ fn fresh(role: u8, flow: u8, limit: u32) -> Endpoint
         phase: 0,
         w: 0,
         n: 0,
+        unconfirmed: 0,
         limit: limit,
         entries: no_entries(),
     }
@@ -247,6 +264,7 @@ pub fn closed(e: Endpoint) -> Endpoint
         phase: 5,
         w: 0,
         n: 0,
+        unconfirmed: 0,
         limit: e.limit,
         entries: no_entries(),
     }
@@ -283,6 +301,24 @@ fn with_entry(entries: [u8; 48], w: u8, entry: Entry) -> [u8; 48]
     next
 }
 
+fn unconfirmed_with(unconfirmed: u8, entry: Entry) -> u8
+    ensures { λ r. ⌜ r ≡ unconfirmedWith unconfirmed entry ⌝ }
+{
+    if (entry.message == 4) & (unconfirmed < 16) {
+        return unconfirmed + 1;
+    }
+    unconfirmed
+}
+
+fn unconfirmed_without(unconfirmed: u8, entry: Entry) -> u8
+    ensures { λ r. ⌜ r ≡ unconfirmedWithout unconfirmed entry ⌝ }
+{
+    if entry.message == 4 {
+        return less_one(unconfirmed);
+    }
+    unconfirmed
+}
+
 // The endpoint with one confirmation more that is awaited, where there is room for it.
 pub fn asked(e: Endpoint, entry: Entry) -> Endpoint
     ensures { λ r. ⌜ r ≡ Record·asked e entry ⌝ }
@@ -295,6 +331,7 @@ pub fn asked(e: Endpoint, entry: Entry) -> Endpoint
             phase: e.phase,
             w: e.w + 1,
             n: e.n,
+            unconfirmed: unconfirmed_with(e.unconfirmed, entry),
             limit: e.limit,
             entries: with_entry(entries, e.w, entry),
         };
@@ -350,6 +387,7 @@ pub fn without(e: Endpoint, i: usize) -> Endpoint
             phase: e.phase,
             w: less_one(e.w),
             n: e.n,
+            unconfirmed: unconfirmed_without(e.unconfirmed, entry_of(e, i)),
             limit: e.limit,
             entries: without_entry(entries, i),
         };
@@ -373,13 +411,13 @@ pub fn limited(e: Endpoint, limit: u32) -> Endpoint
     next
 }
 
-fn less_one(w: u8) -> u8
-    ensures { λ r. ⌜ r ≡ w - 1 ⌝ }
+fn less_one(count: u8) -> u8
+    ensures { λ r. ⌜ r ≡ count - 1 ⌝ }
 {
-    if w == 0 {
+    if count == 0 {
         return 0;
     }
-    w - 1
+    count - 1
 }
 
 // The entries of a block of 64 bytes.
@@ -406,6 +444,7 @@ fn record_in(block: &[u8]) -> Endpoint
         phase: bytes_be::read8(block, 2),
         w: bytes_be::read8(block, 3),
         n: bytes_be::read16(block, 4),
+        unconfirmed: bytes_be::read8(block, 6),
         limit: bytes_be::read32(block, 8),
         entries: entries_in(block),
     }
@@ -415,7 +454,7 @@ fn spare_is_zero(block: &[u8]) -> bool
     requires { ⌜ length (now block) ≡ 64 ⌝ }
     ensures { λ r. ⌜ r ≡ spareIsZero (now (block .entry)) ⌝ }
 {
-    (block[6] == 0) & (block[7] == 0) & (bytes_be::read32(block, 12) == 0)
+    (block[7] == 0) & (bytes_be::read32(block, 12) == 0)
 }
 
 // The record that a block holds, which is good where the block is.
@@ -440,7 +479,11 @@ fn store_head(e: Endpoint, block: &mut [u8])
     let room = 64 <= block.len();
     if room {
         let n = bytes_be::bytes16(e.n);
-        bytes_be::copy_at(block, 0, &[e.role, e.flow, e.phase, e.w, n[0], n[1], 0, 0]);
+        bytes_be::copy_at(
+            block,
+            0,
+            &[e.role, e.flow, e.phase, e.w, n[0], n[1], e.unconfirmed, 0],
+        );
         bytes_be::store32(block, 8, e.limit);
         bytes_be::store32(block, 12, 0);
     }

@@ -22,8 +22,8 @@ use Rattle.open.specs.Frame.{oversized, frameWire, isThere, frameText, frameRul
 use Rattle.open.specs.Open.{openingOf, readable, outOfRange, inRange, knownSocket, offeredPipe, offeredFormat, openOf, offered}
 use Rattle.open_write.specs.Frame.{goodName, goodFormat, isGood, formatField, parametersField, frameFor}
 use Rattle.message.specs.Reading.{strangeFlags, bodyOf, readAs, readingOf}
-use Rattle.endpoint.specs.Record.{entryBytes, entryAt, inRanges, countFits, waitFits, awaitable, isNone, entryFits, entriesFit, good as Record·good}
-use Rattle.endpoint.specs.Record.{givenOf, freshOf, madeOf, closed, atPhase, asked, confirmed, limited}
+use Rattle.endpoint.specs.Record.{entryBytes, entryAt, inRanges, countFits, waitFits, awaitable, isNone, entryFits, entriesFit, unconfirmedFits, good as Record·good}
+use Rattle.endpoint.specs.Record.{givenOf, freshOf, madeOf, closed, atPhase, unconfirmedWith, unconfirmedWithout, asked, confirmed, limited}
 use Rattle.endpoint.specs.Block.{headBytes, bytesOf as Block·bytesOf, recordIn, spareIsZero, loadOf}
 use Rattle.table.specs.Table.{begun, openRow, readyRow, dataRow, noopRow, closeRow, atRow}
 use Rattle.receiving.specs.Hearing.{movesAs, hearRow, forbidden, tooLarge, openAt, carriedBy, matchesOldest, unmatched, confirmedBy, replyTo, accepted}
@@ -59,8 +59,8 @@ opening = tt
 
 -- the endpoint, its block and its rows
 unfoldable pub endpoints : Unit {0}
-unfolding entryBytes entryAt inRanges countFits waitFits awaitable isNone entryFits entriesFit Record·good givenOf freshOf madeOf closed atPhase asked
-    confirmed limited headBytes Block·bytesOf recordIn spareIsZero loadOf begun openRow readyRow dataRow noopRow closeRow atRow
+unfolding entryBytes entryAt inRanges countFits waitFits awaitable isNone entryFits entriesFit unconfirmedFits Record·good givenOf freshOf madeOf closed
+    atPhase unconfirmedWith unconfirmedWithout asked confirmed limited headBytes Block·bytesOf recordIn spareIsZero loadOf begun openRow readyRow dataRow noopRow closeRow atRow
 endpoints = tt
 
 unfoldable pub computing : Unit {0}

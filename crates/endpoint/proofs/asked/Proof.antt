@@ -1,4 +1,4 @@
--- `endpoint::asked` meets its contract: the entry is put behind the first W where W is below 16.
+-- `endpoint::asked` meets its contract: the entry is put behind the first W, and counted, where W is below 16.
 -- Assumes nothing.
 use Prim.Native.Nat.{_<_}
 use borrow.Author.Needs.{needs}
@@ -10,19 +10,22 @@ use Rattle.endpoint.proofs.asked.Tie as tie
 add-t5 : tie.Need-add-t5
 add-t5 c = search needs
 
+unconfirmed-with-requires : tie.Need-unconfirmed-with-requires
+unconfirmed-with-requires c κs = search needs
+
 with-entry-requires : tie.Need-with-entry-requires
 with-entry-requires c κs = search needs
 
 returns : tie.Need-returns
 unfolding asked
 returns c =
-    let e = c .before .before .before .before .before .args .e in
+    let e = c .before .before .before .before .before .before .args .e in
     let room : e .w < capacity = search needs in
-    simp (lt-ltb (e .w) capacity room, c .with-entry .ensures)
+    simp (lt-ltb (e .w) capacity room, c .before .unconfirmed-with .ensures, c .with-entry .ensures)
 
 returns-2 : tie.Need-returns-2
 unfolding asked
 returns-2 c = simp (le-ltb _ _ (c .if1 .left))
 
 pub asked-spec : {M : Type 1} → statement M
-asked-spec = tie.close (tie.spec add-t5 with-entry-requires returns returns-2)
+asked-spec = tie.close (tie.spec add-t5 unconfirmed-with-requires with-entry-requires returns returns-2)

@@ -1,7 +1,10 @@
 -- `endpoint::good` meets its contract: the tests are those of the definition, in its order.
 -- Assumes nothing.
+use mathlib.Core.Path.{ap, sym}
+use mathlib.Core.Bool.{Bool, _&&_, and-assoc}
 use borrow.Author.Needs.{needs}
-use Rattle.endpoint.specs.Record.{good}
+use Rattle.double.specs.Limit.{inLimits}
+use Rattle.endpoint.specs.Record.{countFits, entriesFit, good, inRanges, unconfirmedFits, waitFits}
 use Rattle.endpoint.proofs.good.Statement.{statement}
 use Rattle.endpoint.proofs.good.Tie as tie
 
@@ -22,7 +25,10 @@ in-limits-requires c κs = search needs
 
 returns : tie.Need-returns
 unfolding good
-returns c = cc
+returns c =
+    let e = c .before .before .before .before .before .args .e in
+    simp (c .in-limits .ensures, c .before .entries-fit .ensures, c .before .before .wait-fits .ensures, c .before .before .before .count-fits .ensures, c .before .before .before .before .in-ranges .ensures)
+    (ap (λ (t : Bool). t && inLimits (e .limit)) (sym (and-assoc (inRanges e && countFits e && waitFits e) (entriesFit e) (unconfirmedFits e))))
 
 pub good-spec : {M : Type 1} → statement M
 good-spec =

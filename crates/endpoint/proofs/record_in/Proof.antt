@@ -20,6 +20,9 @@ read8-requires-4 c κs = search needs
 read16-requires : tie.Need-read16-requires
 read16-requires c κs = search needs
 
+read8-requires-5 : tie.Need-read8-requires-5
+read8-requires-5 c κs = search needs
+
 read32-requires : tie.Need-read32-requires
 read32-requires c κs = search needs
 
@@ -39,6 +42,7 @@ record-in-spec =
     read8-requires-3
     read8-requires-4
     read16-requires
+    read8-requires-5
     read32-requires
     entries-in-requires
     returns)

@@ -12,20 +12,17 @@ use Rattle.endpoint.proofs.spare_is_zero.Tie as tie
 shared-slice-read-result : tie.Need-shared-slice-read-result
 shared-slice-read-result c = search needs
 
-shared-slice-read-result-2 : tie.Need-shared-slice-read-result-2
-shared-slice-read-result-2 c = search needs
-
 read32-requires : tie.Need-read32-requires
 read32-requires c κs = search needs
 
 returns : tie.Need-returns
 unfolding spareIsZero
 returns c =
-    let block = c .before .before .before .before .args .block .now in
+    let block = c .before .before .before .args .block .now in
     let full : length block ≡ 64 = search needs in
-    simp (byte-there block 6 (omega arith), byte-there block 7 (omega arith), c .read32 .ensures)
+    simp (byte-there block 7 (omega arith), c .read32 .ensures)
 
 pub spare-is-zero-spec : {M : Type 1} → statement M
 spare-is-zero-spec =
     tie.close
-    (tie.spec shared-slice-read-result shared-slice-read-result-2 read32-requires returns)
+    (tie.spec shared-slice-read-result read32-requires returns)
