@@ -16,8 +16,10 @@ use Rattle.endpoint.specs.Record.{idle, offer, batch, shut, countFits, closed}
 use Rattle.endpoint.proofs.Told.{good-told}
 use Rattle.sending.specs.Calls.{Datum, Call, messageOf, typeDataOf, OPEN, READY, DATA, NOOP, CLOSE}
 use Rattle.machine.specs.Good.{Sound}
-use Rattle.session.specs.World.{End, across, Ending, History, dataSent, readyCount, recentAfter, afterCall, afterMessage, Client, Server}
+use Rattle.machine.specs.Programs.{Queued}
+use Rattle.session.specs.World.{End, across, Ending, History, dataSent, readyCount, recentAfter, nothingBrought, afterCall, afterMessage, Client, Server}
 use Rattle.session.specs.Packets.{Packet, rowMessage, typeDataIn, dataIn, readyIn, Called, Confirms, Closes}
+use Rattle.session.specs.Confirmations.{broughtIn}
 use Rattle.session.specs.Turns.{roleOf}
 use Rattle.session.specs.Demand.{agreed, offersAt, sum, newest, nonZero, EachAtMost}
 use Rattle.session.specs.Invariant.{left, Within, OffersTaken, Counted}
@@ -221,14 +223,14 @@ called-offered : (end : End) (past : History) (call : Call)
 called-offered Client past call = rw append-nil refl
 called-offered Server past call = non-zero-append (past .readies) (readyCount (messageOf call) (typeDataOf call))
 
-module _ (past : History) (m : Packet) (arrived : List Datum) (ending : Ending) where
+module _ (past : History) (m : Packet) (replied : List Queued) (ending : Ending) where
   heard-agreed : (end : End)
-      → agreed end (afterMessage end past arrived (readyIn m) ending) ≡ agreed end past ++ agreement (across end) (rowMessage m) (typeDataIn m)
+      → agreed end (afterMessage end past (broughtIn m) replied ending) ≡ agreed end past ++ agreement (across end) (rowMessage m) (typeDataIn m)
   heard-agreed Client = rw append-nil refl
   heard-agreed Server = refl
 
   heard-offered : (end : End)
-      → offersAt end (afterMessage end past arrived (readyIn m) ending)
+      → offersAt end (afterMessage end past (broughtIn m) replied ending)
       ≡ offersAt end past ++ nonZero (offering (across end) (rowMessage m) (typeDataIn m))
   heard-offered Client = non-zero-append (past .readies-heard) (readyIn m)
   heard-offered Server = rw append-nil refl
@@ -257,46 +259,48 @@ module _ (end : End) (e : Endpoint) (sound : Sound e) (past : History) (counted 
       }
 
   -- an end hears what the other wrote
-  pub heard-counted : (flow : ℕ) (m : Packet) (ending : Ending)
+  pub heard-counted : (flow : ℕ) (m : Packet) (replied : List Queued) (ending : Ending)
       → Moved (roleOf (across end)) flow (e .phase) (e .n) (rowMessage m) (typeDataIn m) phase n
-      → Counted end (afterMessage end past (dataIn m) (readyIn m) ending) next
-  heard-counted flow m ending moves =
+      → Counted end (afterMessage end past (broughtIn m) replied ending) next
+  heard-counted flow m replied ending moves =
       let after = row-within (agreed end past) (past .recent) all (across end) moves (batch-some e sound) (counted .within) in
       let carries = carried-count m in
       let batched = length-append (recentAfter (across end) (readyIn m) (past .recent)) (dataIn m) in
       record {
         within =
-            rw (heard-agreed past m (dataIn m) ending end, phased, numbered)
+            rw (heard-agreed past m replied ending end, phased, numbered)
             (record {
               in-all = omega (arith, after .in-all, carries, length-append (past .accepted) (dataIn m));
               in-newest = omega (arith, after .in-newest, carries, batched);
             });
         taken =
-            rw (heard-agreed past m (dataIn m) ending end, heard-offered past m (dataIn m) ending end, phased, numbered)
+            rw (heard-agreed past m replied ending end, heard-offered past m replied ending end, phased, numbered)
             (row-taken (agreed end past) (offersAt end past) (across end) moves (counted .taken));
       }
 
 -- an end closes
 
-nothing-agreed : (end : End) (past : History) (ending : Ending) → agreed end (afterMessage end past [] [] ending) ≡ agreed end past
-nothing-agreed Client past ending = refl
-nothing-agreed Server past ending = append-nil (past .readies-heard)
+nothing-agreed : (end : End) (past : History) (replied : List Queued) (ending : Ending)
+    → agreed end (afterMessage end past nothingBrought replied ending) ≡ agreed end past
+nothing-agreed Client past replied ending = refl
+nothing-agreed Server past replied ending = append-nil (past .readies-heard)
 
-nothing-offered : (end : End) (past : History) (ending : Ending) → offersAt end (afterMessage end past [] [] ending) ≡ offersAt end past
-nothing-offered Client past ending = ap nonZero (append-nil (past .readies-heard))
-nothing-offered Server past ending = refl
+nothing-offered : (end : End) (past : History) (replied : List Queued) (ending : Ending)
+    → offersAt end (afterMessage end past nothingBrought replied ending) ≡ offersAt end past
+nothing-offered Client past replied ending = ap nonZero (append-nil (past .readies-heard))
+nothing-offered Server past replied ending = refl
 
-pub closed-counted : (end : End) (e : Endpoint) (past : History) → Counted end past e → (ending : Ending)
-    → Counted end (afterMessage end past [] [] ending) (closed e)
+pub closed-counted : (end : End) (e : Endpoint) (past : History) → Counted end past e → (replied : List Queued) (ending : Ending)
+    → Counted end (afterMessage end past nothingBrought replied ending) (closed e)
 unfolding closed
-closed-counted end e past counted ending =
+closed-counted end e past counted replied ending =
     record {
       within =
-          rw (nothing-agreed end past ending)
+          rw (nothing-agreed end past replied ending)
           (record {
             in-all = omega (arith, counted .within .in-all, length-append (past .accepted) []);
             in-newest = omega (arith, counted .within .in-newest, length-append (past .recent) []);
           });
       taken =
-          rw (nothing-agreed end past ending, nothing-offered end past ending) (closes-taken (agreed end past) (offersAt end past) (counted .taken));
+          rw (nothing-agreed end past replied ending, nothing-offered end past replied ending) (closes-taken (agreed end past) (offersAt end past) (counted .taken));
     }

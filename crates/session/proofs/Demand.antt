@@ -129,7 +129,7 @@ module _ {A O : Type 0} (prog : Program A O) (model : Model A) (laws : Laws prog
 
 pub invariant-holds : InvariantHolds
 invariant-holds A O prog model laws w holds =
-    clauses-hold prog model w holds
+    clauses-hold prog model w holds (laws .recorded)
     (λ end m rest queued.
     let at = joint prog model laws w holds end in
     head-answered prog model laws w holds end (at .from-across) refl m rest (sym (at .linked .there .queued) ∙ queued))

@@ -19,11 +19,11 @@ use Rattle.machine.proofs.Rows.{closed-sound}
 use Rattle.machine.specs.Good.{Sound}
 use Rattle.machine.specs.Programs.{Making, AsClient, AsServer, freshBy, Queued, SendOutcome}
 use Rattle.session.specs.World.{End, Makings, makingOf, noHistory, made, Client, Server, across, Ending, Side, endedBy, afterCall}
-use Rattle.session.specs.World.{afterMessage, Going, HeardClose, WroteClose}
+use Rattle.session.specs.World.{Brought, nothingBrought, afterMessage, Going, HeardClose, WroteClose}
 use Rattle.session.specs.Packets.{Packet, dataIn, readyIn, queuedIn, rowMessage, typeDataIn, Called, Confirms, Closes}
 use Rattle.session.specs.Turns.{roleOf, Standing, nothing, empty, ahead}
 use Rattle.session.specs.Demand.{agreed, offersAt, Ledger, nothingDue, Fresh, PhaseFits, producing}
-use Rattle.session.specs.Confirmations.{Awaits}
+use Rattle.session.specs.Confirmations.{Accounts, Awaits, broughtIn, confirmsIn}
 use Rattle.session.specs.Invariant.{Within, OffersTaken, Delivers, Knows, Model, flowAt, Settled, OneEnd, Linked, Joint, source, Proper, AllProper}
 use Rattle.session.specs.Laws.{answersIn, Comes, limitAfter, SentOn}
 use Rattle.session.proofs.Table.{Moved, opens, offers, takes, gives, rests, closes, row-moved, moved-low, Landed, goes-on, closes-both}
@@ -40,6 +40,9 @@ nothing-awaited pick a b = record { rest = []; held = λ is-open. refl; due = λ
 nothing-delivered : {A : Type 0} (carried : Packet → List A) (b : Standing) → Delivers carried [] [] b []
 unfolding flatMap
 nothing-delivered carried b = record { rest = []; whole = refl; due = λ listens. refl }
+
+nothing-due : (a : Standing) → Accounts a noHistory [] []
+nothing-due a = record { awaited = λ is-open. refl; rest = []; whole = refl; owed = λ is-open. refl }
 
 nothing-agreed : (end : End) → Within (agreed end noHistory) 0 0 fresh 0
 nothing-agreed Client = record { in-all = omega arith; in-newest = omega arith }
@@ -96,6 +99,10 @@ module _ {A : Type 0} (makings : Makings) (model : Model A) where
         delivers-across = nothing-delivered dataIn _;
         readies = nothing-delivered readyIn _;
         readies-across = nothing-delivered readyIn _;
+        confirmations = nothing-delivered confirmsIn _;
+        confirmations-across = nothing-delivered confirmsIn _;
+        accounts = nothing-due _;
+        accounts-across = nothing-due _;
       }
 
   pub fresh-joint : (x y : A) → model .Fine x → model .Fine y → Fresh (model .view) (makingOf makings Client) x
@@ -109,18 +116,18 @@ module _ {A : Type 0} (makings : Makings) (model : Model A) where
         fine-across = fine-across;
       }
 
--- an end that wrote a message by a call; one that heard these data and READYs, has ended so and replied these; and one that heard a packet
+-- an end that wrote a message by a call; one that was brought this, has ended so and replied these; and one that heard a packet
 
 abbrev pub wrote : End → Side Endpoint → Call → Queued → Endpoint → Side Endpoint
 wrote end x call m next = record { self = next; queue = x .queue ++ (m ∷ []); past = afterCall end (x .past) call }
 
-abbrev pub took : End → Side Endpoint → List Datum → List ℕ → Ending → List Queued → Endpoint → Side Endpoint
-took end x heard readies ending replies next =
-    record { self = next; queue = x .queue ++ replies; past = afterMessage end (x .past) heard readies ending }
+abbrev pub took : End → Side Endpoint → Brought → Ending → List Queued → Endpoint → Side Endpoint
+took end x brought ending replies next =
+    record { self = next; queue = x .queue ++ replies; past = afterMessage end (x .past) brought replies ending }
 
 abbrev pub tookIn : (MessageType → Bool) → End → Side Endpoint → Packet → Endpoint → Side Endpoint
 tookIn prompt end x m next =
-    took end x (dataIn m) (readyIn m) (endedBy HeardClose (rowMessage m) Going) (map queuedIn (answersIn prompt m)) next
+    took end x (broughtIn m) (endedBy HeardClose (rowMessage m) Going) (map queuedIn (answersIn prompt m)) next
 
 -- an end that is not in phase 5 has not closed
 pub is-going : (ending : Ending) (phase : ℕ) → PhaseFits ending phase → phase ≤ batch → ending ≡ Going
@@ -247,7 +254,7 @@ module _ {A : Type 0} (makings : Makings) (model : Model A) where
           settled = λ known. record { limited = comes .limited ∙ agreed-on .0; produced = ap (producing end) (comes .flow) ∙ agreed-on .1 };
           counted =
               heard-counted end (x .self) (here .sound) (x .past) (here .counted) next phase n (comes .phased) (comes .counted)
-              (other (x .self .flow)) m (endedBy HeardClose (rowMessage m) Going) moves;
+              (other (x .self .flow)) m (map queuedIn (answersIn (model .rules .prompt) m)) (endedBy HeardClose (rowMessage m) Going) moves;
         }
       where
         -- an OPEN brings the terms, and any other packet comes to an end that knows them
@@ -263,7 +270,7 @@ module _ {A : Type 0} (makings : Makings) (model : Model A) where
 
     -- an end that refused an OPEN
     pub refused-sides : (code : ℕ) → code < 256 ^ 2
-        → OneEnd makings (model .rules) end (took end x [] [] WroteClose (queuedIn (Closes code) ∷ []) (closed (x .self))) (p ++ (Closes code ∷ []))
+        → OneEnd makings (model .rules) end (took end x nothingBrought WroteClose (queuedIn (Closes code) ∷ []) (closed (x .self))) (p ++ (Closes code ∷ []))
     unfolding closed
     refused-sides code few =
         record {
@@ -274,5 +281,5 @@ module _ {A : Type 0} (makings : Makings) (model : Model A) where
           queued = queued-append x p (Closes code ∷ []) (here .queued);
           proper = proper-append end p (Closes code ∷ []) (here .proper) (few, tt);
           settled = λ still. closed-settled end still (here .settled);
-          counted = closed-counted end (x .self) (x .past) (here .counted) WroteClose;
+          counted = closed-counted end (x .self) (x .past) (here .counted) (queuedIn (Closes code) ∷ []) WroteClose;
         }

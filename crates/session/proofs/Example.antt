@@ -1,4 +1,4 @@
--- Three sessions, by computing them on their bytes: the theorem does not speak of nothing. Assumes nothing.
+-- Four sessions, by computing them on their bytes: the theorem does not speak of nothing. Assumes nothing.
 use mathlib.Core.Path.{_≡_, refl}
 use mathlib.Core.List.{List, [], _∷_, _++_}
 use Prim.Native.Nat.{ℕ}
@@ -10,7 +10,7 @@ use Rattle.endpoint.specs.Record.{freshClient, freshServer}
 use Rattle.sending.specs.Calls.{Body, Missing, Given, Datum, OPEN, READY, DATA, NOOP, CLOSE}
 use Rattle.machine.specs.Programs.{tables}
 use Rattle.machine.proofs.Computing.{computing}
-use Rattle.session.specs.World.{Ending, World, Event, begun, afterReceive, step, run, Client, Server, Going, HeardClose, WroteClose}
+use Rattle.session.specs.World.{Ending, Side, World, Event, begun, afterReceive, step, run, Client, Server, Going, HeardClose, WroteClose}
 use Rattle.session.specs.World.{sends, receives, makes}
 use Rattle.session.specs.Demand.{pipeA}
 
@@ -78,3 +78,37 @@ sessions :
     ∷ []
 unfolding computing afterReceive step run opens client-produces server-produces both-produce
 sessions = refl
+
+-- C-14, at a server that produces: two DATA and a NOOP between them ask, and their confirmations are heard one by one
+
+asking : List (Event ℕ)
+asking =
+    opens
+    ++ (sends Server (READY 2) 14 ∷ receives Client noOffer 14 ∷ sends Client (READY 2) 14 ∷ receives Server noOffer 14 ∷ [])
+    ++ (sends Server (DATA (datum 7 true Missing)) 14 ∷ sends Server (NOOP 5 true) 14 ∷ sends Server (DATA (datum 8 true Missing)) 14 ∷ [])
+
+confirming : List (Event ℕ)
+confirming = receives Client noOffer 14 ∷ receives Server noOffer 14 ∷ []
+
+-- the DATA confirmed to the server, how many reports are unconfirmed, and how many confirmations are awaited
+data Account : Type 0 where
+  account : List ℕ → ℕ → ℕ → Account
+
+abbrev accountAfter : List (Event ℕ) → Account
+accountAfter events =
+    let server : Side Endpoint = run tables (start 2 50000000 1) events .server in
+    account (server .past .confirmations-heard) (server .self .unconfirmed) (server .self .w)
+
+accounts :
+    accountAfter asking
+    ∷ accountAfter (asking ++ confirming)
+    ∷ accountAfter (asking ++ confirming ++ confirming)
+    ∷ accountAfter (asking ++ confirming ++ confirming ++ confirming)
+    ∷ []
+    ≡ account [] 2 3
+    ∷ account (7 ∷ []) 1 2
+    ∷ account (7 ∷ []) 1 1
+    ∷ account (7 ∷ 8 ∷ []) 0 0
+    ∷ []
+unfolding computing afterReceive step run opens asking confirming
+accounts = refl

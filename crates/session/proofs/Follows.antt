@@ -91,6 +91,7 @@ module _ {A B O P : Type 0} (prog : Program A O) (inner : Program B P) (load : A
                 proper = there .proper;
                 carried = there .carried;
                 readied = there .readied;
+                confirmless = there .confirmless;
                 sends = there .sends;
                 silent = there .silent;
                 phase = there .phase;
@@ -140,7 +141,8 @@ module _ {A B O P : Type 0} (prog : Program A O) (inner : Program B P) (load : A
               follows .ignores self m pipe out 2 (omega arith, omega arith)
               (laws .short (load self) m pipe (into out) fine (rw (← (follows .room out)) few));
           bounded = λ self. laws .bounded (load self);
-          none = laws .none;
+          recorded = λ self. laws .recorded (load self);
+          lines = laws .lines;
           sends = λ self call fine may fits out enough.
               let there = laws .sends (load self) call fine may fits (into out) (rw (← (follows .room out)) enough) in
               let next-fine = laws .moves (load self) call (into out) fine fits (there .0) .fine in

@@ -18,25 +18,27 @@ use Rattle.open.specs.Open.{offeredSocket}
 use Rattle.open_write.specs.Frame.{socketOf}
 use Rattle.endpoint.specs.declared.Endpoint.{Endpoint}
 use Rattle.endpoint.specs.declared.Entry.{Entry}
-use Rattle.endpoint.specs.Record.{producer, idle, batch, capacity, shut, closed}
+use Rattle.endpoint.specs.Record.{producer, idle, batch, capacity, reportsIn, shut, closed}
+use Rattle.endpoint.proofs.Reports.{reports-append}
 use Rattle.table.specs.declared.Row.the-variants.{To}
 use Rattle.table.specs.Table.{other, rowOf}
 use Rattle.sending.specs.Calls.{Call, OPEN, READY, DATA, NOOP, CLOSE, askOf, messageOf, typeDataOf}
 use Rattle.machine.specs.Programs.{Queued, nothingTold, ReceiveOutcome}
 use Rattle.machine.specs.Runs.{asReply}
-use Rattle.session.specs.World.{End, across, Makings, Ending, Side, dataTold, readyTold, endedBy, endedAfter, withQueue, viewedSide, Client}
+use Rattle.session.specs.World.{End, across, Makings, Ending, Side, dataTold, readyTold, askedFor, confirmedTold, nothingBrought, broughtBy, confirmsBy}
+use Rattle.session.specs.World.{endedBy, endedAfter, withQueue, viewedSide, Client}
 use Rattle.session.specs.World.{Server, Going, HeardClose, WroteClose}
 use Rattle.session.specs.Packets.{Packet, queuedIn, bytesIn, toldIn, rowMessage, typeDataIn, dataIn, readyIn, Called, Confirms, Closes}
 use Rattle.session.specs.Turns.{roleOf, Kind, kindOf, Stage, stageOf, Standing, stands, standing, IsOpen, Hears, Converge}
 use Rattle.session.specs.Turns.{Moves, Stays, Ends, At, ClosedByItself, moved, rested, closed as Hears·closed}
 use Rattle.session.specs.Demand.{Ledger, producing, turn}
-use Rattle.session.specs.Confirmations.{askedIn, confirmedIn}
+use Rattle.session.specs.Confirmations.{askedIn, broughtIn, confirmedIn, confirmsIn}
 use Rattle.session.specs.Invariant.{Knows, Model, source, Proper, OneEnd, Linked}
 use Rattle.session.proofs.Table.{Sends, calms, Moved, opens, gives, row-moved, row-hears, other-role, phaseIn, nIn, leads-alive, leads-active}
 use Rattle.session.proofs.Turns.{across-differs, sends-converge, refuses-converge}
 use Rattle.session.proofs.Streams.{hears-awaits, gone-awaits, across-hears-awaits, across-gone-awaits, writes-delivers, hears-delivers}
-use Rattle.session.proofs.Streams.{gone-delivers}
-use Rattle.session.specs.Laws.{answersIn, MayTake, offeredIn, HeardOn}
+use Rattle.session.proofs.Streams.{gone-delivers, replies-delivers, asked-reports, confirmed-reports, hears-accounts, gone-accounts}
+use Rattle.session.specs.Laws.{Lines, answersIn, MayTake, offeredIn, HeardOn}
 use Rattle.session.proofs.Packets.{isOpenMessage, OpenOrOther, an-open, another, open-or-other}
 use Rattle.session.proofs.Ends.{took, tookIn, hearer-knows, heard-sides, refused-sides}
 
@@ -86,6 +88,35 @@ answers-none prompt taken none (Called e call) = go (askOf call) (prompt (messag
     go false at-once = refl
 answers-none prompt taken none (Confirms message type-data) = refl
 answers-none prompt taken none (Closes code) = refl
+
+-- an end that replies to DATA that asks confirms it
+answers-confirm : (prompt : MessageType → Bool) (m : Packet)
+    → confirmsBy (broughtIn m) (map queuedIn (answersIn prompt m)) ≡ flatMap confirmsIn (answersIn prompt m)
+unfolding flatMap
+answers-confirm prompt (Called e (OPEN asked)) = refl
+answers-confirm prompt (Called e (READY count)) = refl
+answers-confirm prompt (Called e (DATA datum)) = go (datum .ask) (prompt Data)
+  where
+    replies : Bool → Bool → List Packet
+    replies ask at-once = cond ask (cond at-once (Confirms Data (datum .type-data) ∷ []) []) []
+
+    go : (ask at-once : Bool) → cond (eqb (length (map queuedIn (replies ask at-once))) 0) [] (cond ask (datum .type-data ∷ []) [])
+        ≡ flatMap confirmsIn (replies ask at-once)
+    go true true = refl
+    go true false = refl
+    go false at-once = refl
+answers-confirm prompt (Called e (NOOP type-data ask)) = go ask (prompt Noop)
+  where
+    replies : Bool → Bool → List Packet
+    replies asks at-once = cond asks (cond at-once (Confirms Noop type-data ∷ []) []) []
+
+    go : (asks at-once : Bool) → cond {A = List ℕ} (eqb (length (map queuedIn (replies asks at-once))) 0) [] [] ≡ flatMap confirmsIn (replies asks at-once)
+    go true true = refl
+    go true false = refl
+    go false at-once = refl
+answers-confirm prompt (Called e (CLOSE code)) = refl
+answers-confirm prompt (Confirms message type-data) = refl
+answers-confirm prompt (Closes code) = refl
 
 -- DATA moves on only in phase 4
 data-active : {role flow phase n type-data next count : ℕ} → Moved role flow phase n Data type-data next count → (idle ≤ phase) × (phase ≤ batch)
@@ -160,8 +191,7 @@ module _ {A : Type 0} (makings : Makings) (model : Model A) where
       offered-source (r .flow) (e .flow) (eqb-true _ _ (named .1)) ∙ ap (producing Client) (made .flows)
   open-source end r m (another later always stays) pipe made moves offers is = clash cc
 
-  module _ (nothing : (line : ℕ) → model .rules .pick line [] ≡ []) (end : End) (x y : Side Endpoint) (p q : List Packet) (m : Packet)
-      (dues dues-across : Ledger) (linked : Linked makings (model .rules) end x y p (m ∷ q) dues dues-across) where
+  module _ (lines : Lines (model .rules .pick)) (end : End) (x y : Side Endpoint) (p q : List Packet) (m : Packet) (dues dues-across : Ledger) (linked : Linked makings (model .rules) end x y p (m ∷ q) dues dues-across) where
     abbrev e : Endpoint
     e = x .self
 
@@ -231,6 +261,20 @@ module _ {A : Type 0} (makings : Makings) (model : Model A) where
               few = few-owed;
             }
 
+        -- what is confirmed of DATA and what is owed of it are what was owed and what the packet asks for
+        balanced : (result : ReceiveOutcome A) → (taken : HeardOn model e dues m (phaseIn a) (nIn a) later result)
+            → confirmsBy (broughtIn m) (map queuedIn (answersIn (model .rules .prompt) m)) ++ reportsIn (taken .left 0)
+            ≡ reportsIn (dues .owes 0) ++ askedFor (dataIn m)
+        balanced result taken =
+            let answers : List Packet = answersIn (model .rules .prompt) m in
+            let confirmed : List Entry = flatMap (λ (packet : Packet). model .rules .pick 0 (confirmedIn packet)) answers in
+            ap (λ (l : List ℕ). l ++ reportsIn (taken .left 0))
+            (answers-confirm (model .rules .prompt) m ∙ sym (confirmed-reports (model .rules .pick) lines answers))
+            ∙ sym (reports-append confirmed (taken .left 0))
+            ∙ ap reportsIn (taken .balance 0)
+            ∙ reports-append (dues .owes 0) (model .rules .pick 0 (askedIn m))
+            ∙ ap (λ (l : List ℕ). reportsIn (dues .owes 0) ++ l) (lines .reports (askedIn m) ∙ asked-reports m)
+
         -- a packet that was heard
         pub heard-linked : (result : ReceiveOutcome A) → HeardOn model e dues m (phaseIn a) (nIn a) later result
             → (pipe : Offer) → offeredIn m e pipe ≡ true → Converge (source makings) end a p (standing y) q
@@ -250,7 +294,7 @@ module _ {A : Type 0} (makings : Makings) (model : Model A) where
                   let asks : Packet → List Entry = λ packet. model .rules .pick line (askedIn packet) in
                   rw after
                   (hears-awaits (model .rules .pick line) (standing x) a m answers _
-                  (answers-none (model .rules .prompt) asks (λ message type-data. nothing line) m) (linked .awaits line)
+                  (answers-none (model .rules .prompt) asks (λ message type-data. lines .none line) m) (linked .awaits line)
                   (λ is-open. taken .awaits line (hearer-low (source makings) end stage m a hears is-open)));
               awaits-across = λ line.
                   rw after
@@ -265,11 +309,21 @@ module _ {A : Type 0} (makings : Makings) (model : Model A) where
                   writes-delivers readyIn (standing y) answers (answers-none (model .rules .prompt) readyIn (λ message type-data. refl) m)
                   (linked .readies);
               readies-across = rw after (hears-delivers readyIn stage a m (rw was at (linked .readies-across)));
+              confirmations =
+                  rw (answers-confirm (model .rules .prompt) m) (replies-delivers confirmsIn (standing y) answers (linked .confirmations));
+              confirmations-across = rw after (hears-delivers confirmsIn stage a m (rw was at (linked .confirmations-across)));
+              accounts =
+                  rw after
+                  (hears-accounts stage a end (broughtIn m) (map queuedIn answers) _ (model .rules .pick 0 (confirmedIn m)) (later 0) _ (taken .left 0) _
+                  (awaited-first 0) (lines .reports (confirmedIn m))
+                  (λ is-open. taken .awaits 0 (hearer-low (source makings) end stage m a hears is-open)) (balanced result taken)
+                  (λ is-open. taken .owes 0 (hearer-low (source makings) end stage m a hears is-open)) (rw was at (linked .accounts)));
+              accounts-across = linked .accounts-across;
             }
 
       -- an OPEN that was refused, with the code of its CLOSE
       pub refused-linked : (code : ℕ) (after : Ledger) → code < 256 ^ 2 → kindOf (rowMessage m) ≡ Moves
-          → Linked makings (model .rules) end (took end x [] [] WroteClose (queuedIn (Closes code) ∷ []) (closed e)) (withQueue y (map queuedIn q))
+          → Linked makings (model .rules) end (took end x nothingBrought WroteClose (queuedIn (Closes code) ∷ []) (closed e)) (withQueue y (map queuedIn q))
           (p ++ (Closes code ∷ [])) q after dues-across
       unfolding flatMap
       refused-linked code after few moving =
@@ -277,14 +331,18 @@ module _ {A : Type 0} (makings : Makings) (model : Model A) where
             here = refused-sides makings model end x p (linked .here) code few;
             there = left-sides;
             converge = refuses-converge (source makings) end (Closes code) moving refl (rw was at (linked .converge));
-            awaits = λ line. gone-awaits (model .rules .pick line) (standing x) m (Closes code ∷ []) _ (rw (nothing line) refl) (linked .awaits line);
+            awaits = λ line. gone-awaits (model .rules .pick line) (standing x) m (Closes code ∷ []) _ (rw (lines .none line) refl) (linked .awaits line);
             awaits-across = λ line.
-                across-gone-awaits (model .rules .pick line) (standing y) m (Closes code ∷ []) _ (rw (nothing line) refl)
+                across-gone-awaits (model .rules .pick line) (standing y) m (Closes code ∷ []) _ (rw (lines .none line) refl)
                 (linked .awaits-across line);
             delivers = writes-delivers dataIn (standing y) (Closes code ∷ []) refl (linked .delivers);
             delivers-across = rw append-nil (gone-delivers dataIn (standing x) m (linked .delivers-across));
             readies = writes-delivers readyIn (standing y) (Closes code ∷ []) refl (linked .readies);
             readies-across = rw append-nil (gone-delivers readyIn (standing x) m (linked .readies-across));
+            confirmations = rw append-nil (writes-delivers confirmsIn (standing y) (Closes code ∷ []) refl (linked .confirmations));
+            confirmations-across = rw append-nil (gone-delivers confirmsIn (standing x) m (linked .confirmations-across));
+            accounts = gone-accounts (standing x) end (queuedIn (Closes code)) WroteClose _ _ (linked .accounts);
+            accounts-across = linked .accounts-across;
           }
 
     -- a packet that came after the own close
@@ -311,6 +369,10 @@ module _ {A : Type 0} (makings : Makings) (model : Model A) where
           delivers-across = rw gone (gone-delivers dataIn (standing x) m (linked .delivers-across));
           readies = linked .readies;
           readies-across = rw gone (gone-delivers readyIn (standing x) m (linked .readies-across));
+          confirmations = linked .confirmations;
+          confirmations-across = rw gone (gone-delivers confirmsIn (standing x) m (linked .confirmations-across));
+          accounts = linked .accounts;
+          accounts-across = linked .accounts-across;
         }
 
 -- ---- what the world notes of a packet that is told
@@ -319,30 +381,31 @@ module _ {A : Type 0} (makings : Makings) (model : Model A) where
 record NotedAs (m : Packet) : Type 0 where
   carries : dataTold (toldIn m) ≡ dataIn m
   readies : readyTold (toldIn m) ≡ readyIn m
+  confirms : confirmedTold (toldIn m) ≡ confirmsIn m
   ends : (replied : List Queued) (before : Ending) → endedAfter 0 (toldIn m) replied before ≡ endedBy HeardClose (rowMessage m) before
 
 called-noted : (e : Endpoint) (call : Call) → NotedAs (Called e call)
-called-noted e (OPEN asked) = record { carries = refl; readies = refl; ends = λ replied before. refl }
-called-noted e (READY count) = record { carries = refl; readies = refl; ends = λ replied before. refl }
+called-noted e (OPEN asked) = record { carries = refl; readies = refl; confirms = refl; ends = λ replied before. refl }
+called-noted e (READY count) = record { carries = refl; readies = refl; confirms = refl; ends = λ replied before. refl }
 called-noted e (DATA datum) = go (datum .ask)
   where
     go : (ask : Bool) → NotedAs (Called e (DATA (record { type-data = datum .type-data; ask = ask; body = datum .body })))
-    go true = record { carries = refl; readies = refl; ends = λ replied before. refl }
-    go false = record { carries = refl; readies = refl; ends = λ replied before. refl }
-called-noted e (NOOP type-data ask) = record { carries = refl; readies = refl; ends = λ replied before. refl }
-called-noted e (CLOSE code) = record { carries = refl; readies = refl; ends = λ replied before. refl }
+    go true = record { carries = refl; readies = refl; confirms = refl; ends = λ replied before. refl }
+    go false = record { carries = refl; readies = refl; confirms = refl; ends = λ replied before. refl }
+called-noted e (NOOP type-data ask) = record { carries = refl; readies = refl; confirms = refl; ends = λ replied before. refl }
+called-noted e (CLOSE code) = record { carries = refl; readies = refl; confirms = refl; ends = λ replied before. refl }
 
 confirmation-noted : (message : MessageType) (type-data : ℕ) → confirmable message ≡ true → NotedAs (Confirms message type-data)
 confirmation-noted Open type-data can = clash cc
 confirmation-noted Ready type-data can = clash cc
-confirmation-noted Noop type-data can = record { carries = refl; readies = refl; ends = λ replied before. refl }
-confirmation-noted Data type-data can = record { carries = refl; readies = refl; ends = λ replied before. refl }
+confirmation-noted Noop type-data can = record { carries = refl; readies = refl; confirms = refl; ends = λ replied before. refl }
+confirmation-noted Data type-data can = record { carries = refl; readies = refl; confirms = refl; ends = λ replied before. refl }
 confirmation-noted Close type-data can = clash cc
 
 told-noted : {A : Type 0} (makings : Makings) (model : Model A) (end : End) (m : Packet) → Proper makings (model .rules) end m → NotedAs m
 told-noted makings model end (Called e call) proper = called-noted e call
 told-noted makings model end (Confirms message type-data) proper = confirmation-noted message type-data (proper .0)
-told-noted makings model end (Closes code) proper = record { carries = refl; readies = refl; ends = λ replied before. refl }
+told-noted makings model end (Closes code) proper = record { carries = refl; readies = refl; confirms = refl; ends = λ replied before. refl }
 
 -- a confirmation is queued as a reply, with no options
 answers-queued : (prompt : MessageType → Bool) (m : Packet) → map asReply (map bytesIn (answersIn prompt m)) ≡ map queuedIn (answersIn prompt m)
@@ -367,7 +430,7 @@ module _ {A : Type 0} (model : Model A) (end : End) (x : Side A) (m : Packet) (r
 
   abbrev pub noted-side : Side Endpoint
   noted-side =
-      took end seen (dataTold (result .told)) (readyTold (result .told))
+      took end seen (broughtBy (result .told))
       (endedAfter (result .number) (result .told) (map asReply (result .replied)) (x .past .ending)) (map asReply (result .replied)) next
 
   -- what is told of a packet that is heard is what it carries
@@ -377,9 +440,9 @@ module _ {A : Type 0} (model : Model A) (end : End) (x : Side A) (m : Packet) (r
   heard-noted makings proper answered told replied going =
       let noted = told-noted makings model (across end) m proper in
       let answers = answers-queued (model .rules .prompt) m in
-      rw (answered, told, replied, going, answers, noted .carries, noted .readies, noted .ends (map queuedIn (answersIn (model .rules .prompt) m)) Going) refl
+      rw (answered, told, replied, going, answers, noted .carries, noted .readies, noted .confirms, noted .ends (map queuedIn (answersIn (model .rules .prompt) m)) Going) refl
 
   -- of an OPEN that is refused nothing is told, and its CLOSE is an ending
   pub refused-noted : (code : ℕ) → eqb (result .number) 0 ≡ false → result .told ≡ nothingTold → result .replied ≡ bytesIn (Closes code) ∷ []
-      → noted-side ≡ took end seen [] [] WroteClose (queuedIn (Closes code) ∷ []) next
+      → noted-side ≡ took end seen nothingBrought WroteClose (queuedIn (Closes code) ∷ []) next
   refused-noted code refused told replied = rw (refused, told, replied) refl

@@ -9,9 +9,10 @@ use Rattle.bytes_be.proofs.Tests.{clash}
 use Rattle.open.specs.Offer.{Offer}
 use Rattle.endpoint.specs.declared.Endpoint.{Endpoint}
 use Rattle.endpoint.specs.declared.Entry.{Entry}
-use Rattle.endpoint.specs.Record.{batch}
+use Rattle.endpoint.specs.Record.{awaited, batch, reportsIn}
+use Rattle.endpoint.proofs.Told.{good-told}
 use Rattle.machine.specs.Programs.{Program, Queued}
-use Rattle.session.specs.World.{End, across, Client, Server, Ending, Side, World, side, step}
+use Rattle.session.specs.World.{End, across, Client, Server, Ending, History, askedFor, Side, World, side, step}
 use Rattle.session.specs.World.{viewedSide, Going, HeardClose, WroteClose, receives}
 use Rattle.session.specs.Turns.{Stage, stageOf, Standing, IsOpen, Listens, stands, standing, Converge, ClosedByOther, ClosedByItself}
 use Rattle.session.specs.Demand.{MaySend, MayAnswer, PhaseFits, agreed, sum, nextEnd, nextCall, AtRest, Holds}
@@ -146,9 +147,29 @@ module _ {A : Type 0} {model : Model A} (w : World A) (holds : Invariant model w
       let empty-queue = none-queued (at .from-across) (sym (at .linked .there .queued) ∙ none) in
       (all-heard dataIn (at .linked .delivers-across) listens empty-queue, all-heard readyIn (at .linked .readies-across) listens empty-queue)
 
+-- C-14: the DATA sent with an ask are those confirmed and those awaited, where the record has of DATA what is awaited on line 0
+module _ {A : Type 0} {model : Model A} (w : World A) (holds : Invariant model w) (end : End) where
+  abbrev record-at : Endpoint
+  record-at = model .view .endpoint (side w end .self)
+
+  abbrev past-at : History
+  past-at = side w end .past
+
+  waits-for-rest : reportsIn (model .view .ledger (side w end .self) .waits 0) ≡ reportsIn (awaited record-at) → past-at .ending ≡ Going
+      → (askedFor (past-at .sent) ≡ past-at .confirmations-heard ++ reportsIn (awaited record-at))
+      × (length (askedFor (past-at .sent)) ≡ length (past-at .confirmations-heard) + record-at .unconfirmed)
+  waits-for-rest recorded going =
+      let at = seen-from end w holds .linked in
+      let all = at .accounts .awaited (is-open (viewedSide (model .view .endpoint) (side w end)) going)
+      ∙ ap (λ (l : List ℕ). past-at .confirmations-heard ++ l) recorded in
+      let counted = good-told record-at (at .here .sound .is-good) .tallied in
+      (all, ap length all ∙ length-append (past-at .confirmations-heard) (reportsIn (awaited record-at))
+      ∙ ap (λ (k : ℕ). length (past-at .confirmations-heard) + k) (sym counted))
+
 -- the clauses on answers, on room and on what may be sent, and with them all
 module _ {A O : Type 0} (prog : Program A O) (model : Model A) (w : World A) (holds : Invariant model w) where
-  pub clauses-hold : ((end : End) (m : Queued) (rest : List Queued) → side w (across end) .queue ≡ m ∷ rest
+  pub clauses-hold : ((self : A) → model .Fine self → reportsIn (model .view .ledger self .waits 0) ≡ reportsIn (awaited (model .view .endpoint self)))
+      → ((end : End) (m : Queued) (rest : List Queued) → side w (across end) .queue ≡ m ∷ rest
       → (pipe : Offer) (out : O) → 14 ≤ prog .room out
       → MayAnswer (viewedSide (model .view .endpoint) (side w end)) (viewedSide (model .view .endpoint) (side w (across end))) (m .bytes) pipe
       (prog .receive (side w end .self) m pipe out .number))
@@ -159,7 +180,7 @@ module _ {A O : Type 0} (prog : Program A O) (model : Model A) (w : World A) (ho
       → MaySend prog (model .view) (side w (nextEnd (model .view .endpoint (w .client .self))) .self)
       (nextCall (model .view .endpoint (w .client .self))))
       → Holds prog (model .view) w
-  clauses-hold answers no-room may-send =
+  clauses-hold recorded answers no-room may-send =
       record {
         stays-good = λ end. joint w holds end .linked .here .sound .is-good;
         answers = answers;
@@ -179,5 +200,8 @@ module _ {A O : Type 0} (prog : Program A O) (model : Model A) (w : World A) (ho
             let same = same-stage w holds rest in
             (ap (λ (s : Stage). s .phase) same, ap (λ (s : Stage). s .n) same);
         awaits-what-is-owed = awaits-owed w holds;
+        unconfirmed = λ end. waits-for-rest w holds end (recorded (side w end .self) (joint w holds end .fine));
+        confirmations-lead = λ end. let back = joint w holds end .linked .confirmations-across in (back .rest, sym (back .whole));
+        confirms-accepted = λ end. let own = joint w holds end .linked .accounts in (own .rest, sym (own .whole));
         may-send = may-send;
       }

@@ -4,22 +4,24 @@ use Prim.Native.Nat.{ℕ, _≤_}
 use mathlib.Core.Bool.{Bool, true, false, cond}
 use lib.Dec.{eqb}
 use lib.ListN.{length}
-use mathlib.Core.List.{List, [], _∷_, _++_, flatMap}
+use mathlib.Core.List.{List, [], _∷_, _++_, append-nil, flatMap}
 use borrow.Author.Tests.{eq-eqb, eqb-true}
 use Rattle.control.specs.declared.MessageType.{MessageType}
 use Rattle.endpoint.specs.declared.Endpoint.{Endpoint}
-use Rattle.endpoint.specs.Record.{capacity, producer, shut}
+use Rattle.endpoint.specs.Record.{capacity, producer, reportsIn, shut}
+use Rattle.endpoint.proofs.Reports.{reports-append}
 use Rattle.sending.specs.Calls.{Call, messageOf, typeDataOf}
 use Rattle.machine.specs.Programs.{SendOutcome}
-use Rattle.session.specs.World.{End, across, Makings, Ending, Side, endedBy, Going, WroteClose}
+use Rattle.session.specs.World.{End, across, Makings, Ending, askedFor, Side, endedBy, Going, WroteClose}
 use Rattle.session.specs.Packets.{Packet, queuedIn, dataIn, readyIn}
 use Rattle.session.specs.Turns.{roleOf, stageOf, stands, standing, IsOpen, Listens, At, ClosedByItself}
 use Rattle.session.specs.Demand.{Ledger, producing}
+use Rattle.session.specs.Confirmations.{askedIn, confirmedIn, confirmsIn}
 use Rattle.session.specs.Invariant.{Model, source, OneEnd, Linked}
-use Rattle.session.specs.Laws.{SentOn}
+use Rattle.session.specs.Laws.{Lines, SentOn}
 use Rattle.session.proofs.Table.{row-moved, moved-low, Landed, goes-on, closes-both, moved-lands, landing, landing-at, row-sends}
 use Rattle.session.proofs.Turns.{across-converge, across-twice, sends-converge}
-use Rattle.session.proofs.Streams.{sends-awaits, across-sends-awaits, sends-delivers, across-delivers}
+use Rattle.session.proofs.Streams.{sends-awaits, across-sends-awaits, sends-delivers, writes-delivers, across-delivers, asked-reports, sends-accounts}
 use Rattle.session.proofs.Ends.{wrote, is-going, sender-knows, sent-sides}
 
 -- where an end stands that sent a message
@@ -59,15 +61,19 @@ module _ {A : Type 0} (makings : Makings) (model : Model A) (end : End) (x y : S
         delivers-across = linked .delivers;
         readies = linked .readies-across;
         readies-across = linked .readies;
+        confirmations = linked .confirmations-across;
+        confirmations-across = linked .confirmations;
+        accounts = linked .accounts-across;
+        accounts-across = linked .accounts;
       }
 
   -- an accepted send
-  pub sent-linked : (call : Call) (result : SendOutcome A) → (sent : SentOn model (x .self) dues call result)
+  pub sent-linked : Lines (model .rules .pick) → (call : Call) (result : SendOutcome A) → (sent : SentOn model (x .self) dues call result)
       → ((line : ℕ) → length (model .view .ledger (result .next) .waits line) ≤ capacity)
       → Linked makings (model .rules) end (wrote end x call (queuedIn (sent .packet)) (model .view .endpoint (result .next))) y (p ++ (sent .packet ∷ [])) q
       (model .view .ledger (result .next)) dues-across
   unfolding flatMap
-  sent-linked call result sent bounded =
+  sent-linked lines call result sent bounded =
       let here = linked .here in
       let m : Packet = sent .packet in
       let e : Endpoint = x .self in
@@ -101,4 +107,15 @@ module _ {A : Type 0} (makings : Makings) (model : Model A) (end : End) (x y : S
         delivers-across = across-delivers dataIn (standing x) _ (λ listens. listened) (linked .delivers-across);
         readies = rw (sent .readied) (sends-delivers readyIn (standing y) m (linked .readies));
         readies-across = across-delivers readyIn (standing x) _ (λ listens. listened) (linked .readies-across);
+        confirmations = writes-delivers confirmsIn (standing y) (m ∷ []) (append-nil (confirmsIn m) ∙ sent .confirmless) (linked .confirmations);
+        confirmations-across = across-delivers confirmsIn (standing x) _ (λ listens. listened) (linked .confirmations-across);
+        accounts =
+            rw after
+            (sends-accounts (stageOf e) (landing (sent .phase) (sent .n)) end call (model .rules .pick 0 (askedIn m)) _ (sent .left 0) _
+            (lines .reports (askedIn m) ∙ asked-reports m ∙ ap askedFor (sym (sent .carried)))
+            (λ is-open. sent .awaits 0 (lands-low (sent .phase) (sent .n) is-open))
+            (ap reportsIn (sent .files 0) ∙ reports-append (model .rules .pick 0 (confirmedIn m)) (sent .left 0)
+            ∙ ap (λ (l : List ℕ). l ++ reportsIn (sent .left 0)) (lines .reports (confirmedIn m) ∙ sent .confirmless))
+            (λ is-open. sent .owes 0 (lands-low (sent .phase) (sent .n) is-open)) (rw was at (linked .accounts)));
+        accounts-across = linked .accounts-across;
       }

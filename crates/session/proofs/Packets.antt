@@ -177,6 +177,7 @@ sent-on e call room sound fits zero-number =
           };
       carried = refl;
       readied = refl;
+      confirmless = refl;
       sends = on .leads;
       silent = λ is-shut line. shut-asks call (moved-lands moves) is-shut;
       phase = on .phase;

@@ -11,19 +11,20 @@ use Rattle.endpoint.specs.declared.Endpoint.{Endpoint}
 use Rattle.endpoint.specs.Record.{shut}
 use Rattle.sending.specs.Calls.{Call}
 use Rattle.machine.specs.Good.{Fits}
-use Rattle.machine.specs.Programs.{Program, SendOutcome, ReceiveOutcome}
+use Rattle.sending.specs.Options.{howOf}
+use Rattle.machine.specs.Programs.{Program, Queued, SendOutcome, ReceiveOutcome}
 use Rattle.machine.specs.Runs.{isKept, Sends, Receives}
-use Rattle.session.specs.World.{End, across, Makings, makingOf, Ending, Side, World, EventFits, side, joined, withQueue, acted, afterReceive}
+use Rattle.session.specs.World.{End, across, Makings, makingOf, Ending, afterCall, Side, World, EventFits, side, joined, withQueue, acted, afterReceive}
 use Rattle.session.specs.World.{step, viewedSide, Client, Server, Going, HeardClose, WroteClose, sends, receives, makes}
 use Rattle.session.specs.Packets.{Packet, queuedIn, bytesIn, rowMessage, Closes}
 use Rattle.session.specs.Turns.{kindOf, Moves, stageOf, Standing, stands, standing, Hears, Converge, At, ClosedByItself, late}
 use Rattle.session.specs.Demand.{MayAnswer, PhaseFits, heard, other-pipe, other-format, after-own-close}
 use Rattle.session.specs.Invariant.{Model, source, Linked, Joint, Invariant}
-use Rattle.session.specs.Laws.{Laws, answersIn, offeredIn, OpenRefused, StartKeeps, StepKeeps}
+use Rattle.session.specs.Laws.{Laws, SentOn, answersIn, offeredIn, OpenRefused, StartKeeps, StepKeeps}
 use Rattle.session.proofs.Table.{phaseIn, nIn}
 use Rattle.session.proofs.Turns.{shut-hears, hears-converge}
 use Rattle.session.proofs.Packets.{OpenOrOther, an-open, another, open-or-other}
-use Rattle.session.proofs.Ends.{fresh-joint}
+use Rattle.session.proofs.Ends.{fresh-joint, wrote}
 use Rattle.session.proofs.Link.{across-linked, sent-linked}
 use Rattle.session.proofs.Hearing.{leads, clients-open, moves, head-may, heard-linked, refused-linked, late-linked, heard-noted, refused-noted}
 
@@ -90,7 +91,7 @@ module _ {A O : Type 0} (prog : Program A O) (model : Model A) (laws : Laws prog
                   from-across = q;
                   linked =
                       rw (noted, refusal .after)
-                      (refused-linked makings model (laws .none) end (seen x) (seen y) p q m _ _ linked going (refusal .code) _ (refusal .small) moving);
+                      (refused-linked makings model (laws .lines) end (seen x) (seen y) p q m _ _ linked going (refusal .code) _ (refusal .small) moving);
                   fine = refusal .fine;
                   fine-across = fine-across;
                 };
@@ -100,7 +101,7 @@ module _ {A O : Type 0} (prog : Program A O) (model : Model A) (laws : Laws prog
           → Converge (source makings) end a p (standing (seen y)) q → offeredIn m (seen x .self) pipe ≡ true
           → Delivered end x y m q pipe out
       heard-delivered going a hears converge offers =
-          let may = head-may makings model (laws .none) end (seen x) (seen y) p q m _ _ linked going a hears pipe offers in
+          let may = head-may makings model (laws .lines) end (seen x) (seen y) p q m _ _ linked going a hears pipe offers in
           let taken = laws .hears makings end (x .self) m pipe out (phaseIn a) (nIn a) _ fine enough may in
           let noted = heard-noted model end x m result makings (linked .there .proper .0) (taken .answered) (taken .told) (taken .replied) going in
           record {
@@ -111,7 +112,7 @@ module _ {A O : Type 0} (prog : Program A O) (model : Model A) (laws : Laws prog
                   from-across = q;
                   linked =
                       rw noted
-                      (heard-linked makings model (laws .none) end (seen x) (seen y) p q m _ _ linked going a hears result taken pipe offers converge);
+                      (heard-linked makings model (laws .lines) end (seen x) (seen y) p q m _ _ linked going a hears result taken pipe offers converge);
                   fine = taken .fine;
                   fine-across = fine-across;
                 };
@@ -130,7 +131,7 @@ module _ {A O : Type 0} (prog : Program A O) (model : Model A) (laws : Laws prog
                   from-across = q;
                   linked =
                       simp (passed, append-nil)
-                      (late-linked makings model (laws .none) end (seen x) (seen y) p q m _ _ linked wrote (rw gone at converge));
+                      (late-linked makings model (laws .lines) end (seen x) (seen y) p q m _ _ linked wrote (rw gone at converge));
                   fine = subst (λ (after : ReceiveOutcome A). model .Fine (after .next)) (sym passed) fine;
                   fine-across = fine-across;
                 };
@@ -142,7 +143,7 @@ module _ {A O : Type 0} (prog : Program A O) (model : Model A) (laws : Laws prog
         → 14 ≤ prog .room out → (going : x .past .ending ≡ Going) → (a : Standing) → Hears (source makings) end (At (stageOf (seen x .self))) m a
         → offeredIn m (seen x .self) pipe ≡ false → Delivered end x y m q pipe out
     unoffered-delivered Client x y p q m (an-open e asked) linked fine fine-across pipe out enough going a hears differs =
-        absurd (clients-open (moves makings model (laws .none) Client (seen x) (seen y) p q m _ _ linked going a hears))
+        absurd (clients-open (moves makings model (laws .lines) Client (seen x) (seen y) p q m _ _ linked going a hears))
     unoffered-delivered Server x y p q m (an-open e asked) linked fine fine-across pipe out enough going a hears differs =
         refused-delivered Server x y p q m linked fine fine-across pipe out enough going refl
         (laws .refuses makings x (seen y) e asked pipe out fine enough
@@ -154,7 +155,7 @@ module _ {A O : Type 0} (prog : Program A O) (model : Model A) (laws : Laws prog
           same-limit = linked .there .settled tt .limited ∙ sym (linked .there .proper .0 .limited);
           phase = phaseIn a;
           n = nIn a;
-          leads = rw (linked .here .role) (leads makings model (laws .none) Server (seen x) (seen y) p q m _ _ linked going a hears);
+          leads = rw (linked .here .role) (leads makings model (laws .lines) Server (seen x) (seen y) p q m _ _ linked going a hears);
           differs = differs;
         }))
     unoffered-delivered end x y p q m (another later always stays) linked fine fine-across pipe out enough going a hears differs =
@@ -199,6 +200,26 @@ module _ {A O : Type 0} (prog : Program A O) (model : Model A) (laws : Laws prog
             let head = head-delivered end x y p q m linked fine fine-across pipe out (ltb-false _ _ room) in
             rw (answer-takes (head .may)) (seen-as makings model end _ _ (head .delivered))
 
+    -- a send that is accepted
+    accepted-joint : (end : End) (x y : Side A) (p q : List Packet) → LinkedAs end x y p q → model .Fine (y .self) → (call : Call)
+        (result : SendOutcome A) → SentOn model (seen x .self) (model .view .ledger (x .self)) call result
+        → Joint makings model end
+        (record { self = result .next; queue = x .queue ++ (record { bytes = result .bytes; how = howOf call } ∷ []); past = afterCall end (x .past) call })
+        y
+    accepted-joint end x y p q linked fine-across call result sent =
+        record {
+          from-here = p ++ (sent .packet ∷ []);
+          from-across = q;
+          linked =
+              subst
+              (λ (m : Queued). Linked makings (model .rules) end (wrote end (seen x) call m (model .view .endpoint (result .next))) (seen y)
+              (p ++ (sent .packet ∷ [])) q (model .view .ledger (result .next)) (model .view .ledger (y .self)))
+              (sym (sent .queued))
+              (sent-linked makings model end (seen x) (seen y) p q _ _ linked (laws .lines) call result sent (laws .bounded (result .next) (sent .fine)));
+          fine = sent .fine;
+          fine-across = fine-across;
+        }
+
     -- a send, accepted or refused
     sent-keeps : (end : End) (x y : Side A) (p q : List Packet) → LinkedAs end x y p q → model .Fine (x .self) → model .Fine (y .self)
         → (call : Call) (out : O) → Fits call → Invariant model (joined end (acted prog end x (Sends call out)) y)
@@ -210,17 +231,7 @@ module _ {A O : Type 0} (prog : Program A O) (model : Model A) (laws : Laws prog
         go : (t : Bool) → eqb (result .number) 0 ≡ t → Invariant model (joined end (acted prog end x (Sends call out)) y)
         go true accepts =
             let sent = laws .moves (x .self) call out fine fits (eqb-true _ _ accepts) in
-            rw accepts
-            (seen-as makings model end _ y
-            (record {
-              from-here = p ++ (sent .packet ∷ []);
-              from-across = q;
-              linked =
-                  rw (sent .queued)
-                  (sent-linked makings model end (seen x) (seen y) p q _ _ linked call result sent (laws .bounded (result .next) (sent .fine)));
-              fine = sent .fine;
-              fine-across = fine-across;
-            }))
+            rw accepts (seen-as makings model end _ y (accepted-joint end x y p q linked fine-across call result sent))
         go false refuses =
             simp (refuses, laws .stays (x .self) call out fine fits (eqb-false _ _ refuses), append-nil)
             (seen-as makings model end x y (record { from-here = p; from-across = q; linked = linked; fine = fine; fine-across = fine-across }))

@@ -1,15 +1,22 @@
 -- What is asked for, confirmed and carried on the way between two ends: how sending, hearing and closing change it. Assumes nothing.
-use mathlib.Core.Path.{_≡_, refl, sym, _∙_, ap}
+use mathlib.Core.Path.{_≡_, refl, sym, _∙_, ap, ap₂}
 use mathlib.Core.List.{List, [], _∷_, _++_, append-assoc, append-nil, flatMap}
-use Prim.Native.Nat.{_+_, _≤_}
+use Prim.Native.Nat.{ℕ, _+_, _≤_}
+use mathlib.Core.Bool.{Bool, cond, true, false}
 use native.Mathlib.Omega.{arith}
 use lib.ListN.{length, length-append}
 use Rattle.endpoint.specs.declared.Entry.{Entry}
-use Rattle.endpoint.specs.Record.{capacity}
-use Rattle.session.specs.Packets.{Packet}
+use Rattle.endpoint.specs.Record.{capacity, reportsIn}
+use Rattle.endpoint.proofs.Reports.{reports-append}
+use Rattle.control.specs.declared.MessageType.the-variants.{Data}
+use Rattle.sending.specs.Calls.{Datum, Call, OPEN, READY, DATA, NOOP, CLOSE}
+use Rattle.machine.specs.Programs.{Queued}
+use Rattle.session.specs.World.{End, Ending, History, dataSent, askedFor, Brought, nothingBrought, confirmsBy, afterCall, afterMessage}
+use Rattle.session.specs.Packets.{Packet, Called, Confirms, Closes, dataIn}
 use Rattle.session.specs.Turns.{Stage, Standing, IsOpen, Listens, At, ClosedByItself, ClosedByOther}
-use Rattle.session.specs.Confirmations.{askedIn, confirmedIn, Awaits}
+use Rattle.session.specs.Confirmations.{entryFor, askedIn, confirmedIn, confirmsIn, Accounts, Awaits}
 use Rattle.session.specs.Invariant.{Delivers}
+use Rattle.session.specs.Laws.{Lines}
 
 module _ {A : Type 0} (taken : Packet → List A) where
   flat-append : (p q : List Packet) → flatMap taken (p ++ q) ≡ flatMap taken p ++ flatMap taken q
@@ -144,19 +151,23 @@ module _ (pick : List Entry → List Entry) where
 -- data and READYs
 
 module _ {A : Type 0} (carried : Packet → List A) {sent heard : List A} {p : List Packet} where
-  -- an end sends
-  pub sends-delivers : (b : Standing) (m : Packet) → Delivers carried sent p b heard → Delivers carried (sent ++ carried m) (p ++ (m ∷ [])) b heard
-  sends-delivers b m c =
+  -- an end writes packets, and one, and some that carry nothing
+  pub replies-delivers : (b : Standing) (r : List Packet) → Delivers carried sent p b heard
+      → Delivers carried (sent ++ flatMap carried r) (p ++ r) b heard
+  replies-delivers b r c =
       record {
-        rest = c .rest ++ carried m;
-        whole = ap (λ (l : List A). l ++ carried m) (c .whole) ∙ append-assoc heard (c .rest) (carried m);
-        due = λ listens. ap (λ (l : List A). l ++ carried m) (c .due listens) ∙ sym (flat-last carried p m);
+        rest = c .rest ++ flatMap carried r;
+        whole = ap (λ (l : List A). l ++ flatMap carried r) (c .whole) ∙ append-assoc heard (c .rest) (flatMap carried r);
+        due = λ listens. ap (λ (l : List A). l ++ flatMap carried r) (c .due listens) ∙ sym (flat-append carried p r);
       }
 
-  -- an end writes packets that carry nothing
+  pub sends-delivers : (b : Standing) (m : Packet) → Delivers carried sent p b heard → Delivers carried (sent ++ carried m) (p ++ (m ∷ [])) b heard
+  unfolding flatMap
+  sends-delivers b m c = rw (append-nil (carried m)) at (replies-delivers b (m ∷ []) c)
+
   pub writes-delivers : (b : Standing) (r : List Packet) → flatMap carried r ≡ [] → Delivers carried sent p b heard
       → Delivers carried sent (p ++ r) b heard
-  writes-delivers b r none c = record { rest = c .rest; whole = c .whole; due = λ listens. c .due listens ∙ sym (flat-none carried p r none) }
+  writes-delivers b r none c = rw (none, append-nil) at (replies-delivers b r c)
 
   -- the hearer stands elsewhere, and listens only where it did
   pub across-delivers : (b c : Standing) → (Listens c → Listens b) → Delivers carried sent p b heard → Delivers carried sent p c heard
@@ -176,3 +187,90 @@ module _ {A : Type 0} (carried : Packet → List A) {sent heard : List A} {p : L
   -- the hearer has closed
   pub gone-delivers : (b : Standing) (m : Packet) → Delivers carried sent (m ∷ p) b heard → Delivers carried sent p ClosedByItself heard
   gone-delivers b m c = record { rest = c .rest; whole = c .whole; due = λ listens. absurd listens }
+
+-- accounts
+
+pub asked-append : (a b : List Datum) → askedFor (a ++ b) ≡ askedFor a ++ askedFor b
+asked-append [] b = refl
+asked-append (datum ∷ rest) b = go (datum .ask) (asked-append rest b)
+  where
+    go : (t : Bool) {both : List ℕ} → both ≡ askedFor rest ++ askedFor b
+        → cond t (datum .type-data ∷ both) both ≡ cond t (datum .type-data ∷ askedFor rest) (askedFor rest) ++ askedFor b
+    go true same = ap (λ (l : List ℕ). datum .type-data ∷ l) same
+    go false same = same
+
+-- what a packet asks for of DATA is what it carries of data that ask
+pub asked-reports : (m : Packet) → reportsIn (askedIn m) ≡ askedFor (dataIn m)
+asked-reports (Called e (OPEN pipe)) = refl
+asked-reports (Called e (READY count)) = refl
+asked-reports (Called e (DATA datum)) = go (datum .ask)
+  where
+    go : (t : Bool) → reportsIn (cond t (entryFor Data (datum .type-data) ∷ []) []) ≡ cond t (datum .type-data ∷ []) []
+    go true = refl
+    go false = refl
+asked-reports (Called e (NOOP type-data true)) = refl
+asked-reports (Called e (NOOP type-data false)) = refl
+asked-reports (Called e (CLOSE code)) = refl
+asked-reports (Confirms message type-data) = refl
+asked-reports (Closes code) = refl
+
+-- and what packets confirm on line 0 is what they confirm of DATA
+pub confirmed-reports : (pick : ℕ → List Entry → List Entry) → Lines pick → (r : List Packet)
+    → reportsIn (flatMap (λ (m : Packet). pick 0 (confirmedIn m)) r) ≡ flatMap confirmsIn r
+unfolding flatMap
+confirmed-reports pick lines [] = refl
+confirmed-reports pick lines (m ∷ rest) =
+    reports-append (pick 0 (confirmedIn m)) (flatMap (λ (packet : Packet). pick 0 (confirmedIn packet)) rest)
+    ∙ ap₂ _++_ (lines .reports (confirmedIn m)) (confirmed-reports pick lines rest)
+
+module _ {past : History} {awaits owes : List Entry} (s : Stage) (a : Standing) (end : End) where
+  -- an end sends a call that asks for these more
+  pub sends-accounts : (call : Call) (more after-awaits left after-owes : List Entry) → reportsIn more ≡ askedFor (dataSent call)
+      → (IsOpen a → after-awaits ≡ awaits ++ more) → reportsIn owes ≡ reportsIn left → (IsOpen a → after-owes ≡ left)
+      → Accounts (At s) past awaits owes → Accounts a (afterCall end past call) after-awaits after-owes
+  sends-accounts call more after-awaits left after-owes asks waits files keeps c =
+      record {
+        awaited =
+            λ is-open. asked-append (past .sent) (dataSent call)
+            ∙ ap₂ _++_ (c .awaited tt) (sym asks)
+            ∙ append-assoc (past .confirmations-heard) (reportsIn awaits) (reportsIn more)
+            ∙ ap (λ (l : List ℕ). past .confirmations-heard ++ l) (sym (reports-append awaits more) ∙ ap reportsIn (sym (waits is-open)));
+        rest = c .rest;
+        whole = c .whole;
+        owed = λ is-open. c .owed tt ∙ files ∙ ap reportsIn (sym (keeps is-open));
+      }
+
+  -- an end is brought this, replies these, and confirms or owes what it is asked for
+  pub hears-accounts : (brought : Brought) (replied : List Queued) (ending : Ending) (first later after-awaits left after-owes : List Entry)
+      → awaits ≡ first ++ later → reportsIn first ≡ brought .confirmed → (IsOpen a → after-awaits ≡ later)
+      → confirmsBy brought replied ++ reportsIn left ≡ reportsIn owes ++ askedFor (brought .carried) → (IsOpen a → after-owes ≡ left)
+      → Accounts (At s) past awaits owes → Accounts a (afterMessage end past brought replied ending) after-awaits after-owes
+  hears-accounts brought replied ending first later after-awaits left after-owes held confirms waits balance keeps c =
+      let confirmed : List ℕ = confirmsBy brought replied in
+      record {
+        awaited =
+            λ is-open. c .awaited tt
+            ∙ ap (λ (l : List ℕ). past .confirmations-heard ++ l)
+            (ap reportsIn held ∙ reports-append first later ∙ ap₂ _++_ confirms (ap reportsIn (sym (waits is-open))))
+            ∙ sym (append-assoc (past .confirmations-heard) (brought .confirmed) (reportsIn after-awaits));
+        rest = reportsIn left;
+        whole =
+            asked-append (past .accepted) (brought .carried)
+            ∙ ap (λ (l : List ℕ). l ++ askedFor (brought .carried))
+            (c .whole ∙ ap (λ (l : List ℕ). past .confirmations ++ l) (c .owed tt))
+            ∙ append-assoc (past .confirmations) (reportsIn owes) (askedFor (brought .carried))
+            ∙ ap (λ (l : List ℕ). past .confirmations ++ l) (sym balance)
+            ∙ sym (append-assoc (past .confirmations) confirmed (reportsIn left));
+        owed = λ is-open. ap reportsIn (sym (keeps is-open));
+      }
+
+-- an end that has closed awaits nothing and owes nothing, and its accounts stay
+pub gone-accounts : {past : History} {awaits owes : List Entry} (b : Standing) (end : End) (m : Queued) (ending : Ending) (after-awaits after-owes : List Entry)
+    → Accounts b past awaits owes → Accounts ClosedByItself (afterMessage end past nothingBrought (m ∷ []) ending) after-awaits after-owes
+gone-accounts {past = past} b end m ending after-awaits after-owes c =
+    record {
+      awaited = λ is-open. absurd is-open;
+      rest = c .rest;
+      whole = simp append-nil (c .whole);
+      owed = λ is-open. absurd is-open;
+    }

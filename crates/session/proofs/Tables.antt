@@ -208,6 +208,7 @@ tables-laws =
           ap (outcomeOf (m .bytes)) (received-late e sound (m .bytes) pipe room enough is-shut);
       short = λ e m pipe room sound short. ap (outcomeOf (m .bytes)) (received-short e sound (m .bytes) pipe room short);
       bounded = λ e sound line. omega (arith, good-told e (sound .is-good) .waits, length-tabulate (entryAt (e .entries)) 0 (e .w));
-      none = λ line. refl;
+      recorded = λ e sound. refl;
+      lines = record { none = λ line. refl; reports = λ entries. refl };
       sends = λ e call sound may fits room enough. (may-sent e call may fits room enough, refl);
     }

@@ -3,7 +3,7 @@
 -- the batches agreed. While neither has closed and nothing is in transit, one end may still send a message other than NOOP and CLOSE."
 use Prim.Native.Nat.{ℕ, _+_, _≤_, _<_}
 use mathlib.Core.Path.{_≡_}
-use mathlib.Core.List.{List, [], _∷_, IsPrefix}
+use mathlib.Core.List.{List, [], _∷_, _++_, IsPrefix}
 use mathlib.Core.Bool.{Bool, true, false, cond, _||_}
 use lib.ListN.{length}
 use lib.Dec.{eqb}
@@ -12,11 +12,11 @@ use Rattle.open_write.specs.Round.{samePipe, sameFormat}
 use Rattle.endpoint.specs.declared.Endpoint.{Endpoint}
 use Rattle.endpoint.specs.declared.Entry.{Entry}
 use Rattle.endpoint.specs.declared.Given.the-variants.{Good}
-use Rattle.endpoint.specs.Record.{awaited, producer, fresh, offer, batch, shut, good, givenOf}
+use Rattle.endpoint.specs.Record.{awaited, reportsIn, producer, fresh, offer, batch, shut, good, givenOf}
 use Rattle.sending.specs.Calls.{Given, Datum, Call, OPEN, READY, DATA, NOOP, CLOSE, written}
 use Rattle.machine.specs.Good.{Fits}
 use Rattle.machine.specs.Programs.{Making, freshBy, Queued, Program, tables}
-use Rattle.session.specs.World.{End, Client, Server, across, Makings, makingOf, Ending, Going, HeardClose, WroteClose, History, Side, World, side}
+use Rattle.session.specs.World.{End, Client, Server, across, Makings, makingOf, Ending, Going, HeardClose, WroteClose, History, askedFor, Side, World, side}
 use Rattle.session.specs.World.{Event, receives, AllFit, step, run, begun, viewedSide}
 
 -- what an end awaits and what it owes, line by line: a line has the messages whose confirmations come in one order, "ACK-REPLY must equal the oldest
@@ -178,6 +178,16 @@ module _ {A O : Type 0} (p : Program A O) (view : View A) where
         × (view .endpoint (w .client .self) .n ≡ view .endpoint (w .server .self) .n)
     pub awaits-what-is-owed : AtRest w → (end : End) (line : ℕ)
         → view .ledger (side w end .self) .waits line ≡ view .ledger (side w (across end) .self) .owes line
+    -- C-14: of the DATA that an end sent with an ask those confirmed are the first; until it closes, it awaits the others, and their number is the
+    -- count of unconfirmed reports
+    pub unconfirmed : (end : End) → side w end .past .ending ≡ Going
+        → (askedFor (side w end .past .sent)
+        ≡ side w end .past .confirmations-heard ++ reportsIn (awaited (view .endpoint (side w end .self))))
+        × (length (askedFor (side w end .past .sent))
+        ≡ length (side w end .past .confirmations-heard) + view .endpoint (side w end .self) .unconfirmed)
+    -- a confirmation that is heard was sent, and what an end confirms is what it accepted with an ask, each in order
+    pub confirmations-lead : (end : End) → IsPrefix (side w end .past .confirmations-heard) (side w (across end) .past .confirmations)
+    pub confirms-accepted : (end : End) → IsPrefix (side w end .past .confirmations) (askedFor (side w end .past .accepted))
     -- "one end may still send a message other than NOOP and CLOSE"
     pub may-send : AtRest w
         → MaySend (side w (nextEnd (view .endpoint (w .client .self))) .self) (nextCall (view .endpoint (w .client .self)))

@@ -1,4 +1,4 @@
--- The invariant of two ends joined by two queues, in eight parts; those of one end are in `OneEnd`, those between two in `Linked`.
+-- The invariant of two ends joined by two queues, in nine parts; those of one end are in `OneEnd`, those between two in `Linked`.
 -- Stages (`Converge`), over the tables alone: one end stands at a stage at which nothing that comes moves it, and the other, once it has received
 -- all, stands there too; or one wrote a CLOSE, and the other is closed once it has received all.
 -- Endings (`PhaseFits`): an end is in phase 5 where it wrote or heard a CLOSE, and nowhere else.
@@ -8,7 +8,10 @@
 -- batch; and each batch agreed is at most its offer, of which at most one is still to be answered.
 -- Confirmations (`Awaits`), each way: those awaited are those on the way back, then those owed, then those still asked for; the latter two are lost
 -- once the other has closed.
--- Data and READYs (`Delivers`), each way: what was sent is what was heard, and then what is on its way; an own close alone stops that.
+-- Data, READYs and confirmations of DATA (`Delivers`), each way: what was sent is what was heard, and then what is on its way; an own close alone
+-- stops that.
+-- Accounts (`Accounts`): the DATA that an open end sent with an ask are those confirmed to it and those that it awaits, and those that it accepted
+-- with an ask are those that it confirmed and those that it owes.
 -- Goodness (`sound`, `role`, `flows`): each record is good, of the role and flow that it was made with.
 use Prim.Native.Nat.{ℕ, _+_, _≤_, _<_, _^_}
 use mathlib.Core.Path.{_≡_}
@@ -27,7 +30,7 @@ use Rattle.session.specs.World.{End, Client, Server, across, Makings, Hi
 use Rattle.session.specs.Packets.{Packet, Called, Confirms, Closes, queuedIn, dataIn, readyIn}
 use Rattle.session.specs.Turns.{Standing, Listens, standing, roleOf, Alive, Converge}
 use Rattle.session.specs.Demand.{View, Ledger, PhaseFits, agreed, offersAt, sum, newest, EachAtMost, producing}
-use Rattle.session.specs.Confirmations.{Awaits}
+use Rattle.session.specs.Confirmations.{Accounts, Awaits, confirmsIn}
 
 -- ---- the parts of one end
 
@@ -128,6 +131,10 @@ module _ (makings : Makings) (rules : Rules) where
     pub delivers-across : Delivers dataIn (y .past .sent) q (standing x) (x .past .accepted)
     pub readies : Delivers readyIn (x .past .readies) p (standing y) (y .past .readies-heard)
     pub readies-across : Delivers readyIn (y .past .readies) q (standing x) (x .past .readies-heard)
+    pub confirmations : Delivers confirmsIn (x .past .confirmations) p (standing y) (y .past .confirmations-heard)
+    pub confirmations-across : Delivers confirmsIn (y .past .confirmations) q (standing x) (x .past .confirmations-heard)
+    pub accounts : Accounts (standing x) (x .past) (dues .waits 0) (dues .owes 0)
+    pub accounts-across : Accounts (standing y) (y .past) (dues-across .waits 0) (dues-across .owes 0)
 
 module _ {A : Type 0} (makings : Makings) (model : Model A) where
   -- two ends with what is on its way between them, whose states are fine

@@ -10,7 +10,7 @@ use Rattle.control.specs.declared.MessageType.the-variants.{Open, Data}
 use Rattle.open.specs.Offer.{Offer}
 use Rattle.endpoint.specs.declared.Endpoint.{Endpoint}
 use Rattle.endpoint.specs.declared.Entry.{Entry}
-use Rattle.endpoint.specs.Record.{capacity, closed, server, shut}
+use Rattle.endpoint.specs.Record.{awaited, capacity, closed, reportsIn, server, shut}
 use Rattle.table.specs.declared.Row.the-variants.{To}
 use Rattle.table.specs.Table.{other, rowOf}
 use Rattle.sending.specs.Calls.{Call, OPEN, READY, DATA, NOOP, CLOSE, messageOf, typeDataOf, askOf, ownNumber, written}
@@ -23,8 +23,13 @@ use Rattle.session.specs.World.{End, Client, Server, across, Makings, ma
 use Rattle.session.specs.World.{viewedSide}
 use Rattle.session.specs.Packets.{Packet, Called, Confirms, Closes, queuedIn, bytesIn, toldIn, rowMessage, typeDataIn, dataIn, readyIn}
 use Rattle.session.specs.Demand.{Ledger, asRecords, Fresh, MayAnswer, Holds, DemandOf}
-use Rattle.session.specs.Confirmations.{askedIn, confirmedIn}
+use Rattle.session.specs.Confirmations.{askedIn, confirmedIn, confirmsIn}
 use Rattle.session.specs.Invariant.{flowAt, Rules, Model, AcceptedCall, Proper, Invariant}
+
+-- what a line is: of no entries none stands on any, and C-14: every entry of DATA stands on line 0
+pub record Lines (pick : ℕ → List Entry → List Entry) : Type 0 where
+  pub none : (line : ℕ) → pick line [] ≡ []
+  pub reports : (entries : List Entry) → reportsIn (pick 0 entries) ≡ reportsIn entries
 
 -- the limit of an end that has heard a packet
 abbrev pub limitAfter : Packet → ℕ → ℕ
@@ -101,6 +106,7 @@ module _ {A : Type 0} (model : Model A) where
     pub proper : (makings : Makings) (end : End) → e .flow ≡ flowAt makings end → e .limit ≡ makings .limit → Proper makings (model .rules) end packet
     pub carried : dataSent call ≡ dataIn packet
     pub readied : readyCount (messageOf call) (typeDataOf call) ≡ readyIn packet
+    pub confirmless : confirmsIn packet ≡ []
     pub phase : ℕ
     pub n : ℕ
     pub leads : rowOf (e .role) (e .flow) (e .phase) (e .n) (messageOf call) (typeDataOf call) ≡ To phase n
@@ -170,9 +176,10 @@ module _ {A O : Type 0} (p : Program A O) (model : Model A) where
         → p .receive self m pipe out ≡ ignored 3 self
     pub short : (self : A) (m : Queued) (pipe : Offer) (out : O) → model .Fine self → p .room out < 14
         → p .receive self m pipe out ≡ ignored 2 self
-    -- no more are awaited than an end may await; and of no entries none stands on any line
+    -- no more are awaited than an end may await, and those of DATA are the ones in its record
     pub bounded : (self : A) → model .Fine self → (line : ℕ) → length (ledger self .waits line) ≤ capacity
-    pub none : (line : ℕ) → model .rules .pick line [] ≡ []
+    pub recorded : (self : A) → model .Fine self → reportsIn (ledger self .waits 0) ≡ reportsIn (awaited (endpoint self))
+    pub lines : Lines (model .rules .pick)
     -- what no test refuses is sent
     pub sends : (self : A) (call : Call) → model .Fine self → MayCall (endpoint self) call → Fits call
         → (out : O) → length (written (endpoint self) call) ≤ p .room out

@@ -47,12 +47,25 @@ pub record History : Type 0 where
   -- the counts of the READYs sent and of those heard
   pub readies : List ℕ
   pub readies-heard : List ℕ
+  -- the DATA whose confirmation was sent and those whose confirmation was heard, each by its type-data
+  pub confirmations : List ℕ
+  pub confirmations-heard : List ℕ
   -- the data accepted since this end sent or heard the client's last READY
   pub recent : List Datum
   pub ending : Ending
 
 abbrev pub noHistory : History
-noHistory = record { sent = []; accepted = []; readies = []; readies-heard = []; recent = []; ending = Going }
+noHistory =
+    record {
+      sent = [];
+      accepted = [];
+      readies = [];
+      readies-heard = [];
+      confirmations = [];
+      confirmations-heard = [];
+      recent = [];
+      ending = Going;
+    }
 
 -- the data that a call sends
 abbrev pub dataSent : Call → List Datum
@@ -69,6 +82,15 @@ dataTold told =
     (record { type-data = told .type-data; ask = eqb (told .flags) ackRequest; body = told .body } ∷ [])
     []
 
+-- the type-data of the data that ask for a confirmation
+abbrev pub askedFor : List Datum → List ℕ
+askedFor [] = []
+askedFor (datum ∷ rest) = cond (datum .ask) (datum .type-data ∷ askedFor rest) (askedFor rest)
+
+-- the DATA whose confirmation is told: "DATA" with ACK-REPLY
+abbrev pub confirmedTold : Told → List ℕ
+confirmedTold told = cond (eqb (told .message) (typeOf Data) && eqb (told .flags) ackReply) (told .type-data ∷ []) []
+
 -- the count of a message that is a READY, and of a READY that is told
 abbrev pub readyCount : MessageType → ℕ → List ℕ
 readyCount Open count = []
@@ -79,6 +101,22 @@ readyCount Close count = []
 
 abbrev pub readyTold : Told → List ℕ
 readyTold told = cond (eqb (told .message) (typeOf Ready)) (told .type-data ∷ []) []
+
+-- what a message brings: its data, the count of a READY, and the DATA that it confirms
+pub record Brought : Type 0 where
+  pub carried : List Datum
+  pub readies : List ℕ
+  pub confirmed : List ℕ
+
+abbrev pub nothingBrought : Brought
+nothingBrought = record { carried = []; readies = []; confirmed = [] }
+
+abbrev pub broughtBy : Told → Brought
+broughtBy told = record { carried = dataTold told; readies = readyTold told; confirmed = confirmedTold told }
+
+-- what an end confirms that was brought this and replied these
+abbrev pub confirmsBy : Brought → List Queued → List ℕ
+confirmsBy brought replied = cond (eqb (length replied) 0) [] (askedFor (brought .carried))
 
 -- the data of the newest batch, after an end wrote these READYs: the client's begin a new one
 abbrev pub recentAfter : End → List ℕ → List Datum → List Datum
@@ -108,19 +146,23 @@ afterCall end past call =
       accepted = past .accepted;
       readies = past .readies ++ readyCount (messageOf call) (typeDataOf call);
       readies-heard = past .readies-heard;
+      confirmations = past .confirmations;
+      confirmations-heard = past .confirmations-heard;
       recent = recentAfter end (readyCount (messageOf call) (typeDataOf call)) (past .recent);
       ending = endedBy WroteClose (messageOf call) (past .ending);
     }
 
--- an end received these data and these READYs, and has ended so
-abbrev pub afterMessage : End → History → List Datum → List ℕ → Ending → History
-afterMessage end past heard readies ending =
+-- an end was brought this, replied these, and has ended so
+abbrev pub afterMessage : End → History → Brought → List Queued → Ending → History
+afterMessage end past brought replied ending =
     record {
       sent = past .sent;
-      accepted = past .accepted ++ heard;
+      accepted = past .accepted ++ brought .carried;
       readies = past .readies;
-      readies-heard = past .readies-heard ++ readies;
-      recent = recentAfter (across end) readies (past .recent) ++ heard;
+      readies-heard = past .readies-heard ++ brought .readies;
+      confirmations = past .confirmations ++ confirmsBy brought replied;
+      confirmations-heard = past .confirmations-heard ++ brought .confirmed;
+      recent = recentAfter (across end) (brought .readies) (past .recent) ++ brought .carried;
       ending = ending;
     }
 
@@ -129,7 +171,7 @@ abbrev pub noted : {A O : Type 0} → End → History → Act O → Done A → H
 noted end past (Makes making) done = cond (eqb (done .number) 0) noHistory past
 noted end past (Sends call out) done = cond (eqb (done .number) 0) (afterCall end past call) past
 noted end past (Receives m pipe out) done =
-    afterMessage end past (dataTold (done .told)) (readyTold (done .told)) (endedAfter (done .number) (done .told) (done .wrote) (past .ending))
+    afterMessage end past (broughtBy (done .told)) (done .wrote) (endedAfter (done .number) (done .told) (done .wrote) (past .ending))
 
 -- ---- two ends
 

@@ -17,7 +17,7 @@ use Rattle.machine.specs.Programs.{Queued, Told, SendOutcome, ReceiveOutcome, P
 use Rattle.machine.specs.Round.{MayHear}
 use Rattle.machine.proofs.Computing.{computing}
 use Rattle.machine.proofs.Round.{heard-as-sent}
-use Rattle.session.specs.World.{Client, Server, Going, noHistory, afterCall, afterMessage, Side, World, step, run}
+use Rattle.session.specs.World.{Client, Server, Going, noHistory, Brought, afterCall, afterMessage, Side, World, step, run}
 use Rattle.session.specs.Demand.{DemandOf, asRecords, Holds}
 use Rattle.slips.specs.Slips.{slipping, refusalLowered, loweringOnRefusal, LoweringOnRefusalFails}
 use Rattle.slips.specs.Slips.{measured, comparingMegabytes, ComparingMegabytesFails}
@@ -32,8 +32,11 @@ abbrev hearer : Endpoint
 hearer = atPhase (limited (freshServer consumer) limit) batch 1
 
 -- each end sent a READY and heard one
+abbrev offered : Brought
+offered = record { carried = []; readies = 1 ∷ []; confirmed = [] }
+
 abbrev inBatch : Endpoint → Side Endpoint
-inBatch e = record { self = e; queue = []; past = afterMessage Server (afterCall Server noHistory (READY 1)) [] (1 ∷ []) Going }
+inBatch e = record { self = e; queue = []; past = afterMessage Server (afterCall Server noHistory (READY 1)) offered [] Going }
 
 abbrev agreed : World Endpoint
 agreed = record { client = inBatch sender; server = inBatch hearer }
