@@ -502,7 +502,7 @@ static uint64_t call_receive(struct call *call)
 static uint64_t call_interface(struct call *call)
 {
     (void)call;
-    return fbdp_interface_2();
+    return fbdp_interface_3();
 }
 
 /* A function's code is its place in this table, as in the second program's own. */

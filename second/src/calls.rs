@@ -86,7 +86,7 @@ pub const FUNCTION_NAMES: [&str; 34] = [
     "fbdp_send_noop",
     "fbdp_send_close",
     "fbdp_receive",
-    "fbdp_interface_2",
+    "fbdp_interface_3",
 ];
 
 impl Function {
@@ -161,7 +161,7 @@ impl Call for Interface {
     }
 
     fn answer(&self, _: &[Vec<u8>]) -> Answer {
-        Answer::number(2)
+        Answer::number(3)
     }
 }
 
