@@ -94,6 +94,7 @@ pub const EXHAUSTIVE: &[Set] = &[
     Set { kind: "blocks of every length to make", make: endpoint::making::every_length },
     Set { kind: "blocks of every length", make: endpoint::blocks::every_length },
     Set { kind: "every byte of a block", make: endpoint::blocks::every_byte },
+    Set { kind: "what a block says", make: endpoint::blocks::what_they_say },
     Set { kind: "every mixture of NOOPs and DATA to be confirmed", make: endpoint::unconfirmed::every_mixture },
     Set { kind: "every other number in bytes 6 and 7", make: endpoint::unconfirmed::other_numbers },
     Set { kind: "DATA behind the entries that are awaited", make: endpoint::unconfirmed::data_behind },

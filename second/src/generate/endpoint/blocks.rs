@@ -1,6 +1,7 @@
 //! Blocks: good ones of every kind, and bad ones for every cause.
 
 use super::{drafts, reply_room, sends};
+use crate::calls::{Part, Says};
 use crate::endpoint::{Awaited, Entry, Flow, Phase, Role, State, BLOCK, DATA, LIMITS, MOST_AWAITED, NOOP};
 use crate::generate::{add, control, Calls};
 use crate::random::Random;
@@ -353,6 +354,20 @@ pub fn every_length(random: &mut Random) -> Calls {
             let call = sends::to_block(random, block, send, &state);
             add(&mut calls, call);
         }
+    }
+    calls
+}
+
+/// What every part of a block says: of blocks in which one byte alone is not zero, and of good ones and ones of any
+/// bytes.
+pub fn what_they_say(random: &mut Random) -> Calls {
+    let mut calls = Calls::new();
+    let alone = |place: usize| (0..BLOCK).map(|other| if other == place { 0xA5 } else { 0 }).collect();
+    let mut blocks: Vec<Vec<u8>> = (0..BLOCK).map(alone).collect();
+    blocks.extend((0..100).flat_map(|_| [good(random).block(), random.bytes(BLOCK)]));
+    for block in blocks {
+        let block = block.try_into().expect("a block has 64 bytes");
+        Part::ALL.iter().for_each(|part| add(&mut calls, Says { part: *part, block }));
     }
     calls
 }

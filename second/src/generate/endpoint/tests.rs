@@ -3,7 +3,7 @@
 use std::collections::{BTreeMap, BTreeSet};
 
 use super::*;
-use crate::calls::{Answer, Argument, Call, Written};
+use crate::calls::{Answer, Argument, Call, Part, Says, Written};
 use crate::endpoint::{self, Phase, State};
 use crate::generate::Calls;
 use crate::open::NOT_OFFERED;
@@ -192,6 +192,21 @@ fn mixtures_are_asked_confirmed_and_closed() {
     assert_eq!(changes, [&asked[..], &confirmed, &same].concat().into_iter().collect());
     assert!(closes.contains(&("fbdp_send_close", 0, true)));
     assert!([0, 10, 17, 24].iter().all(|number| closes.contains(&("fbdp_receive", *number, true))));
+}
+
+/// The header's functions are asked for each part of blocks of any bytes; of good ones they say what the state has.
+#[test]
+fn what_a_good_block_says_is_its_state() {
+    let mut random = Random::new(25);
+    for state in (0..100).map(|_| blocks::good(&mut random)) {
+        let block = state.block().try_into().expect("a block has 64 bytes");
+        let said = Part::ALL.map(|part| answer(&Says { part, block }).returned);
+        let (awaited, unconfirmed) = (state.awaited.len() as u64, state.awaited.unconfirmed() as u64);
+        assert_eq!(said, [state.phase as u64, awaited, unconfirmed, state.n.into(), state.limit.into()]);
+    }
+    let asked: BTreeSet<&str> = blocks::what_they_say(&mut random).iter().map(|call| call.function().name()).collect();
+    let names = ["fbdp_phase", "fbdp_awaited", "fbdp_unconfirmed", "fbdp_count", "fbdp_limit"];
+    assert_eq!(asked, names.into_iter().collect());
 }
 
 /// The same block with the other type in its oldest entry, counted in byte 6.
