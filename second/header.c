@@ -31,7 +31,7 @@ THREE(fbdp_frame_place, found, at, length);
 THREE(fbdp_value_held, kind, held, length);
 THREE(fbdp_term_place, slice, at, length);
 
-IS(FBDP_INTERFACE, 2);
+IS(FBDP_INTERFACE, 3);
 
 IS(FBDP_ACCEPTED, 0);
 IS(FBDP_BAD_BLOCK, 1);

@@ -502,7 +502,32 @@ static uint64_t call_receive(struct call *call)
 static uint64_t call_interface(struct call *call)
 {
     (void)call;
-    return fbdp_interface_2();
+    return fbdp_interface_3();
+}
+
+static uint64_t call_phase(struct call *call)
+{
+    return fbdp_phase(lend_input(call).bytes);
+}
+
+static uint64_t call_awaited(struct call *call)
+{
+    return fbdp_awaited(lend_input(call).bytes);
+}
+
+static uint64_t call_unconfirmed(struct call *call)
+{
+    return fbdp_unconfirmed(lend_input(call).bytes);
+}
+
+static uint64_t call_count(struct call *call)
+{
+    return fbdp_count(lend_input(call).bytes);
+}
+
+static uint64_t call_block_limit(struct call *call)
+{
+    return fbdp_limit(lend_input(call).bytes);
 }
 
 /* A function's code is its place in this table, as in the second program's own. */
@@ -541,6 +566,11 @@ static uint64_t (*const calls[])(struct call *call) = {
     call_send_close,
     call_receive,
     call_interface,
+    call_phase,
+    call_awaited,
+    call_unconfirmed,
+    call_count,
+    call_block_limit,
 };
 
 /* The first lent argument, counted from 1, that is an input and is no longer what it was; 0 for none. */

@@ -4,7 +4,7 @@ mod endpoint;
 mod open;
 mod parameters;
 
-pub use endpoint::{Make, Receive, SendMessage};
+pub use endpoint::{Make, Part, Receive, Says, SendMessage};
 pub use open::{ReadOpen, WriteOpen};
 pub use parameters::{Check, FieldAt, Limit, LimitBytes, Lookup, ReadValue, StoreVarint, Text};
 
@@ -50,9 +50,14 @@ pub enum Function {
     SendClose,
     Receive,
     Interface,
+    Phase,
+    Awaited,
+    Unconfirmed,
+    Count,
+    BlockLimit,
 }
 
-pub const FUNCTION_NAMES: [&str; 34] = [
+pub const FUNCTION_NAMES: [&str; 39] = [
     "fbdp_frame",
     "probe_read8",
     "probe_read16",
@@ -86,7 +91,12 @@ pub const FUNCTION_NAMES: [&str; 34] = [
     "fbdp_send_noop",
     "fbdp_send_close",
     "fbdp_receive",
-    "fbdp_interface_2",
+    "fbdp_interface_3",
+    "fbdp_phase",
+    "fbdp_awaited",
+    "fbdp_unconfirmed",
+    "fbdp_count",
+    "fbdp_limit",
 ];
 
 impl Function {
@@ -161,7 +171,7 @@ impl Call for Interface {
     }
 
     fn answer(&self, _: &[Vec<u8>]) -> Answer {
-        Answer::number(2)
+        Answer::number(3)
     }
 }
 

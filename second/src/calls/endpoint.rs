@@ -1,6 +1,7 @@
-//! The calls of an endpoint: making one, sending and receiving.
+//! The calls of an endpoint: making one, sending and receiving, and what its block says.
 
 use super::{Answer, Argument, Call, Function, Written};
+use crate::bytes;
 use crate::endpoint::{self, Role, Send};
 use crate::open::DEFAULT_LIMIT;
 
@@ -113,5 +114,57 @@ impl Call for Receive {
         let heard = Written::Numbers(received.heard.to_vec());
         let written = vec![Written::Bytes(received.block), Written::Bytes(received.out), heard];
         Answer { returned: received.number, written }
+    }
+}
+
+/// A part of a block that the header has a function for.
+#[derive(Clone, Copy)]
+pub enum Part {
+    Phase,
+    Awaited,
+    Unconfirmed,
+    Count,
+    Limit,
+}
+
+impl Part {
+    pub const ALL: [Part; 5] = [Part::Phase, Part::Awaited, Part::Unconfirmed, Part::Count, Part::Limit];
+
+    /// Where it stands in a block, and in how many bytes.
+    fn place(self) -> (u64, usize) {
+        match self {
+            Part::Phase => (2, 1),
+            Part::Awaited => (3, 1),
+            Part::Unconfirmed => (6, 1),
+            Part::Count => (4, 2),
+            Part::Limit => (8, 4),
+        }
+    }
+}
+
+/// What a block, good or bad, says in one of its parts.
+pub struct Says {
+    pub part: Part,
+    pub block: [u8; endpoint::BLOCK],
+}
+
+impl Call for Says {
+    fn function(&self) -> Function {
+        match self.part {
+            Part::Phase => Function::Phase,
+            Part::Awaited => Function::Awaited,
+            Part::Unconfirmed => Function::Unconfirmed,
+            Part::Count => Function::Count,
+            Part::Limit => Function::BlockLimit,
+        }
+    }
+
+    fn arguments(&self) -> Vec<(&'static str, Argument<'_>)> {
+        vec![("block", Argument::Input(&self.block))]
+    }
+
+    fn answer(&self, _: &[Vec<u8>]) -> Answer {
+        let (at, width) = self.part.place();
+        Answer::number(bytes::read(width, &self.block, at))
     }
 }

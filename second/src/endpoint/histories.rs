@@ -1,20 +1,21 @@
 //! What two ends have sent and heard since both were made, and what demand 3 says of it at every moment.
 //!
-//! What is over is not kept: data that were accepted, offers that were answered, and READYs that were heard or that an
-//! end which has itself closed no longer hears.
+//! What is over is not kept: data that were accepted, offers that were answered, READYs that were heard or that an end
+//! which has itself closed no longer hears, and asks that were confirmed or that a close cleared.
 
 use std::collections::VecDeque;
 
 use crate::control::{self, CONTROL_FRAME};
-use crate::endpoint::{Heard, Send, CLOSE, READY};
+use crate::endpoint::{Heard, Send, ACK_REQUEST, ASK, CLOSE, DATA, READY};
 
 /// The two ends.
 pub const CLIENT: usize = 0;
 pub const SERVER: usize = 1;
 pub const ENDS: [usize; 2] = [CLIENT, SERVER];
 
-/// What a DATA carries: its type-data, and its body where it has one. A missing body is another than an empty one.
-type Item = (u64, Option<Vec<u8>>);
+/// What a DATA carries: its type-data, whether it asks for a confirmation, and its body where it has one. A missing
+/// body is another than an empty one.
+type Item = (u64, bool, Option<Vec<u8>>);
 
 /// What one end has sent and heard. Each READY counts where this end sent or heard it.
 #[derive(Clone, Default, PartialEq, Eq, Hash)]
@@ -31,6 +32,10 @@ struct History {
     /// The counts of the READYs that the other end sent and it has not heard, the oldest first; none once it has itself
     /// written a CLOSE.
     readys_due: VecDeque<u64>,
+    /// The type-data of the DATA with an ask whose confirmation it has not heard, the oldest first: of all that it
+    /// sent, and of those that the other end accepted; none once it is closed.
+    unconfirmed: VecDeque<u64>,
+    accepted_there: VecDeque<u64>,
 }
 
 impl History {
@@ -38,6 +43,35 @@ impl History {
     fn close(&mut self) {
         self.has_closed = true;
         self.readys_due.clear();
+        self.await_nothing();
+    }
+
+    /// A CLOSE heard.
+    fn hear_close(&mut self) {
+        self.heard_close = true;
+        self.await_nothing();
+    }
+
+    /// A close clears what is awaited.
+    fn await_nothing(&mut self) {
+        self.unconfirmed.clear();
+        self.accepted_there.clear();
+    }
+
+    /// A DATA that it sent with an ask and that the other end accepted.
+    fn note_accepted_there(&mut self, type_data: u64) {
+        if !self.has_closed && !self.heard_close {
+            self.accepted_there.push_back(type_data);
+        }
+    }
+
+    /// A confirmation of DATA heard. The DATA confirmed are the first of those that it sent with an ask, in order, and
+    /// a leading part of those with an ask that the other end accepted.
+    fn confirm(&mut self, type_data: u64) {
+        let asked = self.unconfirmed.pop_front();
+        assert_eq!(asked, Some(type_data), "DATA are confirmed in the order in which they asked");
+        let accepted = self.accepted_there.pop_front();
+        assert_eq!(accepted, Some(type_data), "DATA that are confirmed were accepted, in this order");
     }
 
     /// A READY that the other end sent.
@@ -76,9 +110,9 @@ impl History {
     }
 
     /// A DATA accepted. The data accepted are a leading part of those that the other end sent.
-    fn accept(&mut self, type_data: u64, body: Option<&[u8]>) {
+    fn accept(&mut self, type_data: u64, asks: bool, body: Option<&[u8]>) {
         let next = self.due.pop_front();
-        let is_next = matches!(next, Some(sent) if sent.0 == type_data && sent.1.as_deref() == body);
+        let is_next = matches!(next, Some(sent) if (sent.0, sent.1, sent.2.as_deref()) == (type_data, asks, body));
         assert!(is_next, "data are accepted as they were sent");
         self.carry();
     }
@@ -133,10 +167,12 @@ impl Histories {
                 self.note_ready(end, end, u64::from(*count));
                 self.0[1 - end].await_ready(u64::from(*count));
             }
-            Send::Data { type_data, .. } => {
+            Send::Data { type_data, how, .. } => {
+                let (type_data, asks) = (u64::from(*type_data), how & ASK != 0);
                 let body = send.lent().body().map(<[u8]>::to_vec);
                 self.0[end].carry();
-                self.0[1 - end].due.push_back((u64::from(*type_data), body));
+                self.0[end].unconfirmed.extend(asks.then_some(type_data));
+                self.0[1 - end].due.push_back((type_data, asks, body));
             }
             Send::Close { .. } => self.0[end].close(),
             Send::Open { .. } | Send::Noop { .. } => {}
@@ -151,21 +187,26 @@ impl Histories {
         }
     }
 
-    /// Notes a message other than data that an end heard.
+    /// Notes a message other than data that an end heard; a DATA among these is a confirmation.
     pub fn note_heard(&mut self, end: usize, heard: &Heard) {
         match heard[0] as u8 {
             READY => {
                 self.note_ready(end, 1 - end, heard[2]);
                 self.0[end].hear_ready(heard[2]);
             }
-            CLOSE => self.0[end].heard_close = true,
+            DATA => self.0[end].confirm(heard[2]),
+            CLOSE => self.0[end].hear_close(),
             _ => {}
         }
     }
 
     /// Notes a DATA that an end accepted, with its body where one was heard.
-    pub fn note_accepted(&mut self, end: usize, type_data: u64, body: Option<&[u8]>) {
-        self.0[end].accept(type_data, body);
+    pub fn note_accepted(&mut self, end: usize, heard: &Heard, body: Option<&[u8]>) {
+        let (type_data, asks) = (heard[2], heard[1] == u64::from(ACK_REQUEST));
+        self.0[end].accept(type_data, asks, body);
+        if asks {
+            self.0[1 - end].note_accepted_there(type_data);
+        }
     }
 
     /// Notes a READY that one of the ends sent, at the end itself or where the other hears it.
@@ -187,6 +228,13 @@ impl Histories {
             assert!(history.heard_a_close_written(other), "a CLOSE that is heard was written");
             assert!(history.is_closed_by(other, on_their_way), "a CLOSE that has arrived closes the other end");
         }
+    }
+
+    /// Watches byte 6 of the block of each end: the DATA that it sent with an ask less those confirmed, and 0 behind a
+    /// close.
+    pub fn watch_unconfirmed(&self, bytes: [u8; 2]) {
+        let asked_less_confirmed = ENDS.map(|end| self.0[end].unconfirmed.len());
+        assert_eq!(bytes.map(usize::from), asked_less_confirmed, "byte 6 is the DATA asked less the DATA confirmed");
     }
 }
 

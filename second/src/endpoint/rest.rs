@@ -2,7 +2,8 @@
 
 use crate::endpoint::{Phase, Role, Send, State};
 
-/// Two ends at rest have one phase and one count, and one limit behind the OPEN, and neither awaits a confirmation.
+/// Two ends at rest have one phase and one count, and one limit behind the OPEN, and neither awaits a confirmation, so
+/// that no DATA is unconfirmed.
 pub fn agree_at_rest(client: &State, server: &State) {
     assert_eq!((client.phase, client.n), (server.phase, server.n), "one phase and one count hold for both");
     assert!(client.phase == Phase::Fresh || client.limit == server.limit, "one limit holds for both");
@@ -27,7 +28,7 @@ pub fn send_at_rest(client: &State) -> (Role, Send) {
 #[cfg(test)]
 mod tests {
     use super::*;
-    use crate::endpoint::{Entry, Flow, NOOP};
+    use crate::endpoint::{Entry, Flow, DATA, NOOP};
 
     /// A client and a server at rest in phase 2.
     fn at_rest() -> [State; 2] {
@@ -38,9 +39,9 @@ mod tests {
         fresh.map(|fresh| fresh.after_ready(0, Phase::Offer))
     }
 
-    /// The same state, but for a confirmation that is awaited.
-    fn awaiting(state: &State) -> State {
-        State { awaited: [Entry { message_type: NOOP, type_data: 1 }].into_iter().collect(), ..state.clone() }
+    /// The same state, but for a confirmation of this type that is awaited.
+    fn awaiting(state: &State, message_type: u8) -> State {
+        State { awaited: [Entry { message_type, type_data: 1 }].into_iter().collect(), ..state.clone() }
     }
 
     #[test]
@@ -53,14 +54,21 @@ mod tests {
     #[should_panic(expected = "neither end awaits a confirmation")]
     fn the_client_awaits_nothing_at_rest() {
         let [client, server] = at_rest();
-        agree_at_rest(&awaiting(&client), &server);
+        agree_at_rest(&awaiting(&client, NOOP), &server);
     }
 
     #[test]
     #[should_panic(expected = "neither end awaits a confirmation")]
     fn the_server_awaits_nothing_at_rest() {
         let [client, server] = at_rest();
-        agree_at_rest(&client, &awaiting(&server));
+        agree_at_rest(&client, &awaiting(&server, NOOP));
+    }
+
+    #[test]
+    #[should_panic(expected = "neither end awaits a confirmation")]
+    fn the_producer_has_no_data_unconfirmed_at_rest() {
+        let [client, server] = at_rest();
+        agree_at_rest(&awaiting(&client, DATA), &server);
     }
 
     #[test]

@@ -108,7 +108,7 @@ impl Session {
     /// Notes a message that was heard, where it is one.
     fn note_heard(&mut self, end: usize, message: &[u8], heard: &Heard) {
         if heard[0] as u8 == DATA && heard[1] != u64::from(ACK_REPLY) {
-            self.histories.note_accepted(end, heard[2], body_heard(message, heard));
+            self.histories.note_accepted(end, heard, body_heard(message, heard));
         } else {
             self.histories.note_heard(end, heard);
         }
@@ -122,6 +122,7 @@ impl Session {
     /// Watches what holds at every moment.
     fn watch(&self) {
         self.histories.watch(ENDS.map(|end| self.inboxes[end].len()));
+        self.histories.watch_unconfirmed(ENDS.map(|end| self.blocks[end][6]));
         if self.all_delivered() && self.histories.neither_has_closed() {
             self.watch_rest();
         }
@@ -172,6 +173,12 @@ fn phases(sessions: &HashSet<Session>, flows: [Flow; 2]) -> HashSet<[u8; 2]> {
     sessions.iter().filter(has_flows).map(|session| ENDS.map(|end| session.blocks[end][2])).collect()
 }
 
+/// How many confirmations an end of this flow awaits in those sessions, and how many DATA of its are unconfirmed.
+fn awaited(sessions: &HashSet<Session>, flow: Flow) -> HashSet<[u8; 2]> {
+    let blocks = sessions.iter().flat_map(|session| &session.blocks);
+    blocks.filter(|block| block[1] == flow as u8).map(|block| [block[3], block[6]]).collect()
+}
+
 /// Every pair of flows, with the least and the largest limit.
 fn every_making() -> Vec<Making> {
     let flows = Flow::ALL.map(|client| Flow::ALL.map(|server| [client, server])).concat();
@@ -185,6 +192,9 @@ fn the_two_ends_understand_each_other_in_every_schedule() {
         let pairs = phases(&sessions, [flow, flow.other()]);
         assert!((0..=5).all(|phase| pairs.contains(&[phase, phase])), "every phase is reached at both ends");
     }
+    let producer = awaited(&sessions, Flow::Producer);
+    assert_eq!(producer, HashSet::from([[0, 0], [1, 0], [1, 1], [2, 0], [2, 1], [2, 2]]));
+    assert_eq!(awaited(&sessions, Flow::Consumer), HashSet::from([[0, 0], [1, 0], [2, 0]]));
 }
 
 #[test]
@@ -222,6 +232,13 @@ impl Session {
         Session { inboxes: [Vec::new(), Vec::new()], ..self.clone() }
     }
 
+    /// The session with another number in byte 6 of an end's block.
+    fn with_unconfirmed(&self, end: usize, number: u8) -> Session {
+        let mut session = self.clone();
+        session.blocks[end][6] = number;
+        session
+    }
+
     /// The session with another count at an end.
     fn counting(&self, end: usize, n: u16) -> Session {
         let mut session = self.clone();
@@ -236,6 +253,10 @@ fn data() -> Send {
 
 fn bodiless() -> Send {
     Send::Data { type_data: 0, how: NO_BODY, body: Vec::new() }
+}
+
+fn asking() -> Send {
+    Send::Data { type_data: 0, how: ASK, body: Vec::new() }
 }
 
 /// Delivers the message of one send where the client made another.
@@ -254,6 +275,12 @@ fn a_missing_body_that_comes_as_an_empty_one_is_told() {
 #[should_panic(expected = "data are accepted as they were sent")]
 fn an_empty_body_that_comes_as_a_missing_one_is_told() {
     deliver_instead(&data(), &bodiless());
+}
+
+#[test]
+#[should_panic(expected = "data are accepted as they were sent")]
+fn data_that_come_with_an_ask_which_was_not_sent_are_told() {
+    deliver_instead(&data(), &asking());
 }
 
 #[test]
@@ -294,6 +321,56 @@ fn a_close_that_nobody_wrote_is_told() {
 #[should_panic(expected = "neither end awaits a confirmation")]
 fn a_confirmation_lost_on_its_way_is_told() {
     in_batch().carried(SERVER, &Send::Noop { type_data: 8, how: ASK }).losing_all().watch();
+}
+
+#[test]
+#[should_panic(expected = "neither end awaits a confirmation")]
+fn a_confirmation_of_data_lost_on_its_way_is_told() {
+    in_batch().carried(CLIENT, &asking()).losing_all().watch();
+}
+
+#[test]
+fn a_confirmation_of_data_lowers_what_is_unconfirmed() {
+    let session = in_batch().carried(CLIENT, &asking());
+    assert_eq!(session.blocks[CLIENT][6], 1);
+    let confirmed = session.after_delivery(CLIENT).expect("the confirmation is on its way");
+    confirmed.watch();
+    assert_eq!(confirmed.blocks[CLIENT][6], 0);
+}
+
+#[test]
+#[should_panic(expected = "byte 6 is the DATA asked less the DATA confirmed")]
+fn an_end_that_does_not_count_its_ask_is_told() {
+    in_batch().said(CLIENT, &asking()).with_unconfirmed(CLIENT, 0).watch();
+}
+
+#[test]
+#[should_panic(expected = "byte 6 is the DATA asked less the DATA confirmed")]
+fn an_end_that_counts_what_does_not_ask_is_told() {
+    in_batch().said(CLIENT, &data()).with_unconfirmed(CLIENT, 1).watch();
+}
+
+#[test]
+#[should_panic(expected = "byte 6 is the DATA asked less the DATA confirmed")]
+fn an_end_that_counts_what_it_accepted_is_told() {
+    in_batch().carried(CLIENT, &asking()).with_unconfirmed(SERVER, 1).watch();
+}
+
+#[test]
+#[should_panic(expected = "byte 6 is the DATA asked less the DATA confirmed")]
+fn a_close_that_leaves_what_is_unconfirmed_is_told() {
+    let session = in_batch().said(CLIENT, &asking()).said(CLIENT, &Send::Close { code: 0 });
+    session.with_unconfirmed(CLIENT, 1).watch();
+}
+
+/// The confirmation comes while the DATA is still on its way.
+#[test]
+#[should_panic(expected = "DATA that are confirmed were accepted")]
+fn data_confirmed_before_they_are_accepted_are_told() {
+    let mut session = in_batch().said(CLIENT, &asking());
+    let accepted = session.after_delivery(SERVER).expect("the DATA is on its way");
+    session.inboxes[CLIENT] = accepted.inboxes[CLIENT].clone();
+    session.after_delivery(CLIENT);
 }
 
 #[test]

@@ -97,27 +97,50 @@ impl Entry {
         let [high, low] = self.type_data.to_be_bytes();
         [self.message_type, high, low]
     }
+
+    fn is_data(self) -> bool {
+        self.message_type == DATA
+    }
 }
 
 /// The confirmations that are awaited, the oldest first, in the bytes that a block has for them: those behind the last
-/// entry are zero.
+/// entry are zero. How many of them belong to DATA is kept beside them, so that entries are walked over only where a
+/// block is read.
 #[derive(Clone, PartialEq)]
 pub struct Awaited {
     count: usize,
+    unconfirmed: usize,
     bytes: [u8; ENTRIES],
 }
 
 impl Awaited {
-    pub const NONE: Awaited = Awaited { count: 0, bytes: [0; ENTRIES] };
+    pub const NONE: Awaited = Awaited { count: 0, unconfirmed: 0, bytes: [0; ENTRIES] };
 
-    /// The first so many entries; nothing where they are too many or the others are not zero.
+    /// The first so many entries; nothing where they are too many, one is of another type than NOOP and DATA, or the
+    /// others are not zero.
     fn read(bytes: &[u8; ENTRIES], count: usize) -> Option<Awaited> {
         let others = bytes.get(ENTRY * count..)?;
-        (*others == [0; ENTRIES][..others.len()]).then_some(Awaited { count, bytes: *bytes })
+        if *others != [0; ENTRIES][..others.len()] {
+            return None;
+        }
+        let mut unconfirmed = 0;
+        for entry in bytes[..ENTRY * count].chunks_exact(ENTRY) {
+            match entry[0] {
+                NOOP => {}
+                DATA => unconfirmed += 1,
+                _ => return None,
+            }
+        }
+        Some(Awaited { count, unconfirmed, bytes: *bytes })
     }
 
     pub fn len(&self) -> usize {
         self.count
+    }
+
+    /// How many of these belong to DATA.
+    pub fn unconfirmed(&self) -> usize {
+        self.unconfirmed
     }
 
     pub fn is_empty(&self) -> bool {
@@ -137,19 +160,20 @@ impl Awaited {
         let at = ENTRY * self.count;
         self.bytes[at..at + ENTRY].copy_from_slice(&entry.bytes());
         self.count += 1;
+        self.unconfirmed += usize::from(entry.is_data());
     }
 
-    /// These without the oldest.
-    fn drop_oldest(&mut self) {
+    /// These without the oldest, which this is.
+    fn drop_oldest(&mut self, oldest: Entry) {
         self.bytes.copy_within(ENTRY.., 0);
         self.bytes[ENTRIES - ENTRY..].fill(0);
         self.count -= 1;
+        self.unconfirmed -= usize::from(oldest.is_data());
     }
 
     /// Only the oldest so many of these.
     pub fn truncate(&mut self, most: usize) {
-        self.count = self.count.min(most);
-        self.bytes[ENTRY * self.count..].fill(0);
+        *self = self.iter().take(most).collect();
     }
 }
 
@@ -167,7 +191,7 @@ impl fmt::Debug for Awaited {
     }
 }
 
-/// What a good block says. The number of confirmations awaited is W.
+/// What a good block says. The number of confirmations awaited is W, and that of those which belong to DATA is byte 6.
 #[derive(Clone, Debug, PartialEq)]
 pub struct State {
     pub role: Role,
@@ -207,7 +231,7 @@ impl State {
     pub fn confirm(&mut self, confirmed: Entry) -> bool {
         let matches = self.awaited.oldest() == Some(confirmed);
         if matches {
-            self.awaited.drop_oldest();
+            self.awaited.drop_oldest(confirmed);
         }
         matches
     }
@@ -216,7 +240,7 @@ impl State {
     pub fn store(&self, block: &mut [u8]) {
         block[..4].copy_from_slice(&[self.role as u8, self.flow as u8, self.phase as u8, self.awaited.len() as u8]);
         block[4..6].copy_from_slice(&self.n.to_be_bytes());
-        block[6..8].fill(0);
+        block[6..8].copy_from_slice(&[self.awaited.unconfirmed() as u8, 0]);
         block[8..12].copy_from_slice(&self.limit.to_be_bytes());
         block[12..ENTRIES_AT].fill(0);
         block[ENTRIES_AT..].copy_from_slice(&self.awaited.bytes);
@@ -234,19 +258,16 @@ impl State {
             limit: u32::from_be_bytes([head[8], head[9], head[10], head[11]]),
             awaited: Awaited::read(entries.try_into().ok()?, head[3].into())?,
         };
-        let zeros = head[6..8] == [0; 2] && head[12..] == [0; 4];
-        (zeros && state.is_good()).then_some(state)
+        let unconfirmed = usize::from(head[6]) == state.awaited.unconfirmed();
+        let zeros = head[7] == 0 && head[12..] == [0; 4];
+        (unconfirmed && zeros && state.is_good()).then_some(state)
     }
 
     /// Whether the parts of a state go together, each being in its own range.
     fn is_good(&self) -> bool {
         let counted = self.phase.counts() == (self.n != 0);
         let may_await = self.phase.is_running() || self.awaited.is_empty();
-        let awaits = |entry: Entry| match entry.message_type {
-            NOOP => true,
-            DATA => self.is_producer(),
-            _ => false,
-        };
-        counted && may_await && self.awaited.iter().all(awaits) && LIMITS.contains(&self.limit)
+        let may_await_data = self.is_producer() || self.awaited.unconfirmed() == 0;
+        counted && may_await && may_await_data && LIMITS.contains(&self.limit)
     }
 }

@@ -5,6 +5,8 @@ use crate::bundle::of_frames;
 use crate::control::{self, Control};
 use crate::open::{self, Opening};
 
+mod unconfirmed;
+
 use Flow::{Consumer, Producer};
 use Phase::{Batch, Closed, Fresh, Idle, Offer, Opening as Opened};
 use Role::{Client, Server};
@@ -64,10 +66,11 @@ fn send_from(state: &State, send: &Send) -> copies::Sent {
 
 #[test]
 fn a_block_says_its_state_byte_by_byte() {
-    let mut expected = vec![2, 1, 4, 2, 0x12, 0x34, 0, 0, 0x00, 0x0F, 0x42, 0x40, 0, 0, 0, 0];
-    expected.extend([4, 0xAB, 0xCD, 3, 0, 1]);
+    let mut expected = vec![2, 1, 4, 3, 0x12, 0x34, 2, 0, 0x00, 0x0F, 0x42, 0x40, 0, 0, 0, 0];
+    expected.extend([4, 0xAB, 0xCD, 3, 0, 1, 4, 0, 2]);
     expected.resize(64, 0);
-    let awaited = [(DATA, 0xABCD), (NOOP, 1)].map(|(message_type, type_data)| Entry { message_type, type_data });
+    let awaited =
+        [(DATA, 0xABCD), (NOOP, 1), (DATA, 2)].map(|(message_type, type_data)| Entry { message_type, type_data });
     let awaited = awaited.into_iter().collect();
     let state = State { role: Server, flow: Producer, phase: Batch, n: 0x1234, limit: 1_000_000, awaited };
     assert_eq!(state.block(), expected);
@@ -86,8 +89,9 @@ fn good_blocks_are_read_as_they_were_written() {
 fn blocks_that_break_a_rule_are_bad() {
     let batch =
         [(0, 0), (0, 3), (1, 0), (1, 3), (2, 6), (2, 2), (3, 0), (3, 2), (3, 17), (5, 0), (6, 1), (7, 1), (8, 3)];
-    let rest = [(9, 0), (12, 1), (13, 1), (14, 1), (15, 1), (16, 5), (16, 0), (19, 3), (20, 1), (21, 1), (63, 1)];
-    let idle = [(16, 4), (4, 1), (5, 1), (2, 0), (2, 1), (2, 3), (2, 5)];
+    let rest =
+        [(9, 0), (12, 1), (13, 1), (14, 1), (15, 1), (16, 5), (16, 4), (16, 0), (19, 3), (20, 1), (21, 1), (63, 1)];
+    let idle = [(4, 1), (5, 1), (2, 0), (2, 1), (2, 3), (2, 5)];
     let fresh = [(3, 1), (4, 1), (5, 1), (2, 3), (2, 4), (16, 3)];
     for (good, changes) in [
         (state(Client, Producer, Batch), &batch[..]),

@@ -12,6 +12,7 @@ pub mod opens;
 pub mod sends;
 pub mod sessions;
 pub mod sizes;
+pub mod unconfirmed;
 
 use crate::random::Random;
 

@@ -1,6 +1,7 @@
 //! Blocks: good ones of every kind, and bad ones for every cause.
 
 use super::{drafts, reply_room, sends};
+use crate::calls::{Part, Says};
 use crate::endpoint::{Awaited, Entry, Flow, Phase, Role, State, BLOCK, DATA, LIMITS, MOST_AWAITED, NOOP};
 use crate::generate::{add, control, Calls};
 use crate::random::Random;
@@ -8,9 +9,10 @@ use crate::random::Random;
 /// Where the parts of a block stand.
 const W: usize = 3;
 const N: usize = 4;
+pub const UNCONFIRMED: usize = 6;
 const LIMIT: usize = 8;
-const ZEROS: [usize; 6] = [6, 7, 12, 13, 14, 15];
-const ENTRIES: usize = 16;
+const ZEROS: [usize; 5] = [7, 12, 13, 14, 15];
+pub const ENTRIES: usize = 16;
 
 /// A type-data: any number, often one whose bytes are 0 or 255.
 pub fn type_data(random: &mut Random) -> u16 {
@@ -68,7 +70,15 @@ pub fn good(random: &mut Random) -> State {
     good_in(random, role, flow, phase)
 }
 
+/// Puts into byte 6 how many of the entries that W says belong to DATA, whatever else the block breaks.
+pub fn count_unconfirmed(block: &mut [u8]) {
+    let awaited = block[ENTRIES..].chunks_exact(3).take(block[W].into());
+    block[UNCONFIRMED] = awaited.filter(|entry| entry[0] == DATA).count() as u8;
+}
+
 /// A cause for which a block is bad, brought into a good one: false where that one does not allow it.
+///
+/// Where a cause changes what byte 6 has to count, it is counted anew, so that there is no other cause beside it.
 type Cause = fn(&mut [u8], &mut Random) -> bool;
 
 const CAUSES: &[Cause] = &[
@@ -81,6 +91,8 @@ const CAUSES: &[Cause] = &[
     awaited_in_another_phase,
     n_in_another_phase,
     no_n,
+    other_unconfirmed,
+    entry_of_the_other_type,
     byte_not_zero,
     other_limit,
     entry_behind,
@@ -107,6 +119,7 @@ fn one_less_awaited(block: &mut [u8], _: &mut Random) -> bool {
         return false;
     }
     block[W] -= 1;
+    count_unconfirmed(block);
     true
 }
 
@@ -136,6 +149,23 @@ fn no_n(block: &mut [u8], _: &mut Random) -> bool {
     matches!(block[2], 3 | 4)
 }
 
+/// Byte 6 is one off, or all that are awaited, or the NOOPs among them, or a number that is never right.
+fn other_unconfirmed(block: &mut [u8], random: &mut Random) -> bool {
+    let (right, awaited) = (block[UNCONFIRMED], block[W]);
+    let numbers = [right + 1, right.wrapping_sub(1), awaited, awaited - right, 16, 17, right | 128, 255];
+    block[UNCONFIRMED] = random.choose(&numbers);
+    block[UNCONFIRMED] != right
+}
+
+/// A NOOP among a producer's entries is a DATA, or a DATA is a NOOP, and byte 6 is as it was.
+fn entry_of_the_other_type(block: &mut [u8], random: &mut Random) -> bool {
+    let Some(place) = awaited_place(block, random) else {
+        return false;
+    };
+    block[place] = NOOP + DATA - block[place];
+    block[1] == Flow::Producer as u8
+}
+
 fn byte_not_zero(block: &mut [u8], random: &mut Random) -> bool {
     block[random.choose(&ZEROS)] = 1 << random.between(0, 7);
     true
@@ -156,12 +186,12 @@ fn place_behind(block: &[u8], random: &mut Random) -> Option<usize> {
     (awaited < MOST_AWAITED).then(|| ENTRIES + 3 * random.choose(&entry))
 }
 
-/// An entry that would be a good one, were it counted.
+/// An entry of either type that W does not take in, and byte 6 neither.
 fn entry_behind(block: &mut [u8], random: &mut Random) -> bool {
     let Some(place) = place_behind(block, random) else {
         return false;
     };
-    block[place] = NOOP;
+    block[place] = random.choose(&[NOOP, DATA]);
     block[place + 1..place + 3].copy_from_slice(&type_data(random).to_be_bytes());
     true
 }
@@ -187,6 +217,7 @@ fn other_entry_type(block: &mut [u8], random: &mut Random) -> bool {
         return false;
     };
     block[place] = random.choose(&[0, 1, 2, 5, 6, 25, 33, 131, 255]);
+    count_unconfirmed(block);
     true
 }
 
@@ -196,6 +227,7 @@ fn data_of_a_consumer(block: &mut [u8], random: &mut Random) -> bool {
     };
     block[place] = DATA;
     block[1] = Flow::Consumer as u8;
+    count_unconfirmed(block);
     true
 }
 
@@ -264,20 +296,42 @@ pub fn damaged(random: &mut Random) -> Calls {
     calls
 }
 
+/// The block of this state with another value at a place, and where that has another number of DATA to be confirmed
+/// also with byte 6 counting these.
+fn changed(state: &State, place: usize, value: u8) -> Vec<Vec<u8>> {
+    let mut block = state.block();
+    block[place] = value;
+    let mut counted = block.clone();
+    count_unconfirmed(&mut counted);
+    if place == UNCONFIRMED || counted == block {
+        return vec![block];
+    }
+    vec![block, counted]
+}
+
+/// What is made, once its state awaits confirmations of NOOPs and of DATA.
+fn awaiting_both<T>(random: &mut Random, make: fn(&mut Random) -> T, state: fn(&T) -> &State) -> T {
+    loop {
+        let made = make(random);
+        let awaited = &state(&made).awaited;
+        if (1..awaited.len()).contains(&awaited.unconfirmed()) {
+            return made;
+        }
+    }
+}
+
 /// Every byte of some good blocks with every value: a call that the good block accepts.
 pub fn every_byte(random: &mut Random) -> Calls {
     let mut calls = Calls::new();
-    for _ in 0..2 {
-        let draft = drafts::valid(random);
-        let (state, send) = sends::fitting(random);
-        for place in 0..BLOCK {
-            for value in 0..=255 {
-                let mut block = draft.state.block();
-                block[place] = value;
+    let drafts = [drafts::valid(random), awaiting_both(random, drafts::valid, |draft| &draft.state)];
+    let sends = [sends::fitting(random), awaiting_both(random, sends::fitting, |(state, _)| state)];
+    for (draft, (state, send)) in drafts.iter().zip(&sends) {
+        for (place, value) in (0..BLOCK).flat_map(|place| (0..=255).map(move |value| (place, value))) {
+            for block in changed(&draft.state, place, value) {
                 add(&mut calls, draft.to_block(block, super::REPLY));
-                let mut block = state.block();
-                block[place] = value;
-                let call = sends::to_block(random, block, send.clone(), &state);
+            }
+            for block in changed(state, place, value) {
+                let call = sends::to_block(random, block, send.clone(), state);
                 add(&mut calls, call);
             }
         }
@@ -300,6 +354,20 @@ pub fn every_length(random: &mut Random) -> Calls {
             let call = sends::to_block(random, block, send, &state);
             add(&mut calls, call);
         }
+    }
+    calls
+}
+
+/// What every part of a block says: of blocks in which one byte alone is not zero, and of good ones and ones of any
+/// bytes.
+pub fn what_they_say(random: &mut Random) -> Calls {
+    let mut calls = Calls::new();
+    let alone = |place: usize| (0..BLOCK).map(|other| if other == place { 0xA5 } else { 0 }).collect();
+    let mut blocks: Vec<Vec<u8>> = (0..BLOCK).map(alone).collect();
+    blocks.extend((0..100).flat_map(|_| [good(random).block(), random.bytes(BLOCK)]));
+    for block in blocks {
+        let block = block.try_into().expect("a block has 64 bytes");
+        Part::ALL.iter().for_each(|part| add(&mut calls, Says { part: *part, block }));
     }
     calls
 }

@@ -133,7 +133,7 @@ pub fn bodies(random: &mut Random) -> Calls {
     calls
 }
 
-/// Every number of entries, and the confirmation of each of them and of none.
+/// Every number of entries, the oldest of either type, and the confirmation of each of them and of none.
 pub fn confirmations(random: &mut Random) -> Calls {
     let mut calls = Calls::new();
     for awaited in 0..=MOST_AWAITED {
@@ -141,7 +141,7 @@ pub fn confirmations(random: &mut Random) -> Calls {
             for phase in [Phase::Idle, Phase::Offer, Phase::Batch] {
                 let state = blocks::good_in(random, role, Flow::Producer, phase);
                 let entry = |at: usize| Entry {
-                    message_type: if at % 3 == 1 { DATA } else { NOOP },
+                    message_type: if (at + awaited) % 3 == 1 { DATA } else { NOOP },
                     type_data: 0x0102u16.wrapping_mul(at as u16 / 2 + 1),
                 };
                 let state = State { awaited: (0..awaited).map(entry).collect(), ..state };

@@ -1,5 +1,5 @@
-//! The marked cases and the slips of document 01, and the case of C-12 in document 02, as calls; the model must answer
-//! each of them as it is told there.
+//! The marked cases and the slips of document 01, and the cases of C-12 and C-14 in document 02, as calls; the model
+//! must answer each of them as it is told there.
 
 use crate::calls::{Receive, SendMessage};
 use crate::endpoint::{self, Awaited, Entry, Flow, Phase, Role, Send, State, ASK, DATA, NOOP, NO_BODY};
@@ -207,6 +207,36 @@ fn reports_without_a_body(calls: &mut Calls) {
     }
 }
 
+/// C-14: byte 6 of the block says how many of the awaited confirmations belong to DATA, and a close clears it; a block
+/// in which it differs is not good.
+fn unconfirmed_reports(calls: &mut Calls) {
+    let report = |how| Send::Data { type_data: 9, how, body: Vec::new() };
+    for role in Role::ALL {
+        let producer = state(role, Flow::Producer, Phase::Batch, 3);
+        let asked = awaiting(&State { n: 2, ..producer.clone() }, &[(DATA, 9)]);
+        let both = awaiting(&asked, &[(DATA, 9), (NOOP, 9)]);
+        let noop = awaiting(&asked, &[(NOOP, 9)]);
+        for (state, bytes) in [(&producer, [0, 0, 3, 0, 0]), (&asked, [1, 0, 2, 1, 0]), (&both, [2, 0, 2, 1, 0])] {
+            assert_eq!(state.block()[3..8], bytes);
+        }
+        assert_eq!(noop.block()[3..8], [1, 0, 2, 0, 0]);
+        sent(calls, &producer, report(ASK), 0, &asked, &data(1, [0, 9], b""));
+        sent(calls, &asked, Send::Noop { type_data: 9, how: ASK }, 0, &both, &alone(0x19, 1, [0, 9]));
+        sent(calls, &both, report(0), 0, &State { n: 1, ..both.clone() }, &data(0, [0, 9], b""));
+        received(calls, &both, &alone(0x21, 2, [0, 9]), 0, &noop, &[]);
+        received(calls, &both, &alone(0x19, 2, [0, 9]), 24, &both.closed(), &close(2));
+        received(calls, &both, &close(0), 0, &both.closed(), &[]);
+        sent(calls, &both, Send::Close { code: 0 }, 0, &both.closed(), &close(0));
+        assert_eq!(both.closed().block()[2..8], [5, 0, 0, 0, 0, 0]);
+        for number in [0, 2, 255] {
+            let mut block = both.block();
+            block[6] = number;
+            assert_eq!(endpoint::sent(&block, &report(0), &[7; 18]).number, endpoint::BAD_BLOCK);
+            add(calls, SendMessage { block, send: report(0), room: 18 });
+        }
+    }
+}
+
 /// The high byte of type-data stands first, in messages and in entries.
 fn byte_order(calls: &mut Calls) {
     let client = state(Role::Client, Flow::Producer, Phase::Idle, 0);
@@ -237,6 +267,7 @@ pub fn cases(_: &mut Random) -> Calls {
     confirmations(&mut calls);
     limits(&mut calls);
     reports_without_a_body(&mut calls);
+    unconfirmed_reports(&mut calls);
     byte_order(&mut calls);
     calls
 }

@@ -9,10 +9,12 @@
 //! was written closes the other end once it has arrived; nothing comes to an end that heard a CLOSE; the data accepted
 //! and the READYs heard are the first of those sent, and all of them where nothing is on its way to an end that has not
 //! itself closed; a body that is missing is accepted as missing, and an empty one as empty; each end sends and accepts
-//! no more than the batches that it agreed to, and none of these is more than its offer; and while neither has closed
-//! and nothing is on its way, both have one phase and one count, neither awaits a confirmation, and one of them may
-//! still send something other than NOOP and CLOSE. Now and then, where nothing is on its way, both ends are made again,
-//! and all this holds again from there.
+//! no more than the batches that it agreed to, and none of these is more than its offer; byte 6 of each end's block is
+//! the DATA that it sent with an ask less those confirmed, and 0 behind a close; the DATA confirmed are the first of
+//! those sent with an ask, and of those with an ask that the other end accepted; and while neither has closed and
+//! nothing is on its way, both have one phase and one count, neither awaits a confirmation, and one of them may still
+//! send something other than NOOP and CLOSE. Now and then, where nothing is on its way, both ends are made again, and
+//! all this holds again from there.
 
 use std::collections::VecDeque;
 
@@ -37,6 +39,8 @@ struct Temper {
     waits: u64,
     /// A NOOP or DATA does not ask for a confirmation.
     no_ask: u64,
+    /// An end that has something else to send sends a NOOP.
+    noops: u64,
     /// A step closes.
     closes: u64,
     /// A step where nothing is on its way makes both ends again.
@@ -51,7 +55,7 @@ struct Temper {
 
 const NEVER: u64 = u64::MAX;
 const EVEN: Temper =
-    Temper { strangers: 10, waits: 3, no_ask: 2, closes: 150, makes: 30, errs: 12, long: 20, large: NEVER };
+    Temper { strangers: 10, waits: 3, no_ask: 2, noops: 8, closes: 150, makes: 30, errs: 12, long: 20, large: NEVER };
 
 /// An end: its block, and the messages that are on their way to it.
 struct End {
@@ -233,12 +237,13 @@ impl<'a> Session<'a> {
 
     /// Watches the data that are accepted: the next that were sent, and no more than were agreed to.
     fn watch_data(&mut self, end: usize, message: &[u8], heard: &Heard) {
-        self.histories.note_accepted(end, heard[2], endpoint::body_heard(message, heard));
+        self.histories.note_accepted(end, heard, endpoint::body_heard(message, heard));
     }
 
     /// Watches what holds at every moment.
     fn watch_step(&mut self) {
         self.histories.watch(ENDS.map(|end| self.ends[end].inbox.len()));
+        self.histories.watch_unconfirmed(ENDS.map(|end| self.ends[end].block[6]));
         self.watch_progress();
     }
 
@@ -297,7 +302,7 @@ impl<'a> Session<'a> {
     fn next_send(&mut self, end: usize) -> Send {
         let state = self.ends[end].state();
         let type_data = blocks::type_data(self.random);
-        let noop = self.random.one_in(8);
+        let noop = self.random.one_in(self.temper.noops);
         match (state.role, state.phase) {
             (_, Phase::Closed) => {
                 let mut sends = sends::one_of_each(self.random).to_vec();
@@ -403,13 +408,15 @@ pub fn sessions(random: &mut Random) -> Calls {
     calls
 }
 
-/// Sessions in which little is delivered and much is asked, so that confirmations are awaited up to the most.
+/// Sessions in which little is delivered and much is asked, so that confirmations are awaited up to the most, in some
+/// of them by DATA alone.
 pub fn of_many_confirmations(random: &mut Random) -> Calls {
     let mut calls = Calls::new();
     for _ in 0..6 {
         let steps = random.between(60, 160);
         let waits = random.choose(&[1, 2, 2]);
-        let temper = Temper { waits: 2, no_ask: 10, ..EVEN };
+        let mixed = Temper { waits: 2, no_ask: 10, ..EVEN };
+        let temper = random.choose(&[mixed, mixed, Temper { noops: NEVER, long: 1, ..mixed }]);
         let flow = random.choose(&Flow::ALL);
         let mut session = Session::new(random, &mut calls, temper, flow);
         session.go(40);

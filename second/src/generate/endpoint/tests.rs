@@ -3,7 +3,7 @@
 use std::collections::{BTreeMap, BTreeSet};
 
 use super::*;
-use crate::calls::{Answer, Argument, Call, Written};
+use crate::calls::{Answer, Argument, Call, Part, Says, Written};
 use crate::endpoint::{self, Phase, State};
 use crate::generate::Calls;
 use crate::open::NOT_OFFERED;
@@ -119,6 +119,124 @@ fn bad_blocks_are_refused_by_every_function() {
     assert_eq!(numbers.len(), 6);
 }
 
+/// The same block with the right number in byte 6, and 0 behind it.
+fn put_right(block: &[u8]) -> Vec<u8> {
+    let mut right = block.to_vec();
+    blocks::count_unconfirmed(&mut right);
+    right[7] = 0;
+    right
+}
+
+/// Each bad block breaks either the rule of byte 6 or another one, and both kinds come to every function.
+#[test]
+fn bad_blocks_have_one_cause_beside_or_in_byte_6() {
+    let mut random = Random::new(21);
+    let mut kinds = BTreeSet::new();
+    for call in (0..3).flat_map(|_| blocks::one_cause(&mut random)) {
+        let (_, before, _) = answered(call.as_ref());
+        if before.len() != endpoint::BLOCK {
+            continue;
+        }
+        let mut counted = before.clone();
+        blocks::count_unconfirmed(&mut counted);
+        let miscounted = before != counted;
+        assert_eq!(State::read(&counted).is_some(), miscounted, "byte 6 is the one cause, or another is: {before:?}");
+        kinds.insert((call.function().name(), miscounted));
+    }
+    assert_eq!(kinds.len(), 2 * 6);
+}
+
+#[test]
+fn blocks_with_another_number_in_byte_6_or_7_are_refused_by_all_but_making() {
+    let mut refusing = BTreeSet::new();
+    for call in unconfirmed::other_numbers(&mut Random::new(22)) {
+        let (number, before, _) = answered(call.as_ref());
+        assert!(State::read(&put_right(&before)).is_some(), "all else is good: {before:?}");
+        let name = call.function().name();
+        assert_eq!(number, if name.starts_with("fbdp_make") { 0 } else { 1 }, "{name}");
+        refusing.insert((name, before[6].cmp(&put_right(&before)[6])));
+    }
+    assert_eq!(refusing.len(), 8 * 3, "byte 6 is less, more, and right beside another byte 7, in each function");
+}
+
+#[test]
+fn blocks_with_data_behind_the_entries_are_refused_by_all_but_making() {
+    let numbers = numbers(1, unconfirmed::data_behind);
+    assert!(numbers.keys().all(|(name, number)| *number == u64::from(!name.starts_with("fbdp_make"))));
+    assert_eq!(numbers.len(), 8);
+}
+
+/// How each function changes W and byte 6 where it accepts, and with which numbers it closes.
+#[test]
+fn mixtures_are_asked_confirmed_and_closed() {
+    let (mut mixtures, mut changes, mut closes) = (BTreeSet::new(), BTreeSet::new(), BTreeSet::new());
+    for call in unconfirmed::every_mixture(&mut Random::new(23)) {
+        let (number, before, after) = answered(call.as_ref());
+        assert_eq!(after, put_right(&after));
+        mixtures.insert((before[1], before[3], before[6]));
+        if after[2] == Phase::Closed as u8 {
+            assert_eq!(after[6], 0);
+            closes.insert((call.function().name(), number, before[6] != 0));
+        } else if number == 0 {
+            let change = |place: usize| i16::from(after[place]) - i16::from(before[place]);
+            changes.insert((call.function().name(), change(3), change(6)));
+        }
+    }
+    for awaited in [0, 1, 2, 3, 4, 15, 16] {
+        assert!([0, 1, awaited / 2, awaited].iter().all(|data| mixtures.contains(&(1, awaited, awaited.min(*data)))));
+        assert!(mixtures.contains(&(2, awaited, 0)));
+    }
+    let asked = [("fbdp_send_data", 1, 1), ("fbdp_send_noop", 1, 0)];
+    let confirmed = [("fbdp_receive", -1, -1), ("fbdp_receive", -1, 0)];
+    let same = ["fbdp_send_data", "fbdp_send_noop", "fbdp_send_ready", "fbdp_receive"].map(|name| (name, 0, 0));
+    assert_eq!(changes, [&asked[..], &confirmed, &same].concat().into_iter().collect());
+    assert!(closes.contains(&("fbdp_send_close", 0, true)));
+    assert!([0, 10, 17, 24].iter().all(|number| closes.contains(&("fbdp_receive", *number, true))));
+}
+
+/// The header's functions are asked for each part of blocks of any bytes; of good ones they say what the state has.
+#[test]
+fn what_a_good_block_says_is_its_state() {
+    let mut random = Random::new(25);
+    for state in (0..100).map(|_| blocks::good(&mut random)) {
+        let block = state.block().try_into().expect("a block has 64 bytes");
+        let said = Part::ALL.map(|part| answer(&Says { part, block }).returned);
+        let (awaited, unconfirmed) = (state.awaited.len() as u64, state.awaited.unconfirmed() as u64);
+        assert_eq!(said, [state.phase as u64, awaited, unconfirmed, state.n.into(), state.limit.into()]);
+    }
+    let asked: BTreeSet<&str> = blocks::what_they_say(&mut random).iter().map(|call| call.function().name()).collect();
+    let names = ["fbdp_phase", "fbdp_awaited", "fbdp_unconfirmed", "fbdp_count", "fbdp_limit"];
+    assert_eq!(asked, names.into_iter().collect());
+}
+
+/// The same block with the other type in its oldest entry, counted in byte 6.
+fn with_the_other_type(block: &[u8]) -> Vec<u8> {
+    let mut other = block.to_vec();
+    other[blocks::ENTRIES] = endpoint::NOOP + endpoint::DATA - other[blocks::ENTRIES];
+    put_right(&other)
+}
+
+/// A type that is changed alone makes a block bad, and with byte 6 counting it another good one.
+#[test]
+fn every_byte_is_changed_alone_and_with_what_it_makes_of_byte_6() {
+    let mut random = Random::new(24);
+    let (mut good, mut bad) = (BTreeSet::new(), BTreeSet::new());
+    for call in blocks::every_byte(&mut random) {
+        let (number, before, _) = answered(call.as_ref());
+        let blocks = if number == 1 { &mut bad } else { &mut good };
+        blocks.insert((call.function().name() == "fbdp_receive", before));
+    }
+    for receives in [true, false] {
+        let both = |(is_receive, block): &(bool, Vec<u8>)| {
+            let other = with_the_other_type(block);
+            let mut alone = other.clone();
+            alone[6] = block[6];
+            good.contains(&(receives, other)) && bad.contains(&(receives, alone)) && *is_receive == receives
+        };
+        assert!(good.iter().filter(|(_, block)| block[3] != 0).any(both));
+    }
+}
+
 #[test]
 fn sends_reach_every_number() {
     let reached =
@@ -138,6 +256,7 @@ fn sends_reach_every_number() {
 fn sessions_go_through_every_phase_up_to_every_confirmation() {
     let mut random = Random::new(11);
     let (mut phases, mut awaited, mut numbers) = (BTreeSet::new(), BTreeSet::new(), BTreeSet::new());
+    let mut unconfirmed = BTreeSet::new();
     for _ in 0..40 {
         let calls =
             [sessions::sessions(&mut random), sessions::of_many_confirmations(&mut random)].into_iter().flatten();
@@ -146,11 +265,13 @@ fn sessions_go_through_every_phase_up_to_every_confirmation() {
             let state = State::read(&after).expect("a session's blocks are good");
             phases.insert((state.role as u8, state.flow as u8, state.phase as u8));
             awaited.insert(state.awaited.len());
+            unconfirmed.insert(after[6]);
             numbers.insert((call.function().name(), number));
         }
     }
     assert_eq!(phases.len(), 2 * 2 * 6);
     assert_eq!(awaited, (0..=16).collect());
+    assert_eq!(unconfirmed, (0..=16).collect());
     for number in [0, 2, 3, 21, 22] {
         assert!(numbers.contains(&("fbdp_receive", number)));
     }

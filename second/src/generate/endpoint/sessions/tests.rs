@@ -58,6 +58,15 @@ fn empty() -> Send {
     Send::Data { type_data: 7, how: 0, body: Vec::new() }
 }
 
+fn asking() -> Send {
+    Send::Data { type_data: 7, how: ASK, body: b"run".to_vec() }
+}
+
+/// Asserts how many DATA are unconfirmed at the client, by byte 6 of its block.
+fn assert_unconfirmed(session: &Session, number: u8) {
+    assert_eq!(session.ends[CLIENT].block[6], number);
+}
+
 #[test]
 fn a_batch_that_nothing_disturbs_is_carried() {
     told(|session| {
@@ -77,6 +86,84 @@ fn data_lost_on_their_way_are_told() {
         session.say(CLIENT, &data());
         session.ends[SERVER].inbox.clear();
         session.watch_step();
+    });
+}
+
+/// NOOPs that ask are awaited beside the DATA, and not counted with them.
+#[test]
+fn data_are_unconfirmed_until_their_confirmation_is_heard() {
+    told(|session| {
+        session.agree(3, 3);
+        session.say(CLIENT, &asking());
+        session.say(CLIENT, &Send::Noop { type_data: 7, how: ASK });
+        session.say(CLIENT, &asking());
+        session.say(CLIENT, &data());
+        assert_unconfirmed(session, 2);
+        while !session.ends[SERVER].inbox.is_empty() {
+            session.deliver(SERVER);
+            session.watch_step();
+            assert_unconfirmed(session, 2);
+        }
+        session.drain();
+        assert_unconfirmed(session, 0);
+    });
+}
+
+/// Neither the end that closes nor the one that hears of it has anything left to be confirmed.
+#[test]
+fn a_close_either_way_leaves_no_data_unconfirmed() {
+    for end in ENDS {
+        told(|session| {
+            session.agree(2, 2);
+            session.say(CLIENT, &asking());
+            session.say(end, &Send::Close { code: 0 });
+            assert_unconfirmed(session, if end == CLIENT { 0 } else { 1 });
+            session.drain();
+            assert_unconfirmed(session, 0);
+        });
+    }
+}
+
+/// Tells a session in which byte 6 of an end's block is another number behind a DATA of the client that asks.
+fn told_of_another_number(end: usize, number: u8) {
+    told(|session| {
+        session.agree(2, 2);
+        session.say(CLIENT, &asking());
+        session.ends[end].block[6] = number;
+        session.watch_step();
+    });
+}
+
+#[test]
+#[should_panic(expected = "byte 6 is the DATA asked less the DATA confirmed")]
+fn an_end_that_does_not_count_its_ask_is_told() {
+    told_of_another_number(CLIENT, 0);
+}
+
+#[test]
+#[should_panic(expected = "byte 6 is the DATA asked less the DATA confirmed")]
+fn an_end_that_counts_its_ask_twice_is_told() {
+    told_of_another_number(CLIENT, 2);
+}
+
+#[test]
+#[should_panic(expected = "byte 6 is the DATA asked less the DATA confirmed")]
+fn an_end_that_counts_what_the_other_asked_is_told() {
+    told_of_another_number(SERVER, 1);
+}
+
+/// The server sends a NOOP, and the client hears a confirmation of the DATA that is still on its way.
+#[test]
+#[should_panic(expected = "DATA that are confirmed were accepted")]
+fn data_confirmed_before_they_are_accepted_are_told() {
+    told(|session| {
+        session.agree(2, 2);
+        session.say(CLIENT, &asking());
+        session.say(SERVER, &Send::Noop { type_data: 7, how: 0 });
+        session.ends[CLIENT].inbox[0][REPLY - 4..REPLY - 2].copy_from_slice(&[8 * DATA + 1, ACK_REPLY]);
+        while !session.ends[CLIENT].inbox.is_empty() {
+            session.deliver(CLIENT);
+        }
     });
 }
 
