@@ -10,14 +10,14 @@ use lib.Seq.{take-all}
 use borrow.Author.Tests.{eqb-true, leb-true, eq-eqb}
 use Rattle.bytes_be.specs.Number.{numberAt, toBytes}
 use Rattle.bytes_be.specs.Part.{part}
-use Rattle.bytes_be.proofs.Numbers.{number-is, Bytes, bytes-part, bytes-there, number-below}
+use Rattle.bytes_be.proofs.Numbers.{byte-there, number-is, Bytes, bytes-part, bytes-there, number-below}
 use Rattle.bytes_be.proofs.Parts.{length-part, part-behind, part-inside, part-then}
 use Rattle.bytes_be.proofs.Tests.{both-true}
 use Rattle.double.specs.Limit.{leastLimit, mostLimit}
 use Rattle.endpoint.specs.declared.Endpoint.{Endpoint}
 use Rattle.endpoint.specs.Block.{bytesOf, headBytes, holdsEndpoint, isGood, loadOf, recordIn, spareIsZero}
 use Rattle.endpoint.specs.Record.{freshOf, good, inRanges, producer, batch, client, consumer, countFits, entryAt, offer, server, noEndpoint}
-use Rattle.endpoint.specs.Round.{Sized, LoadedGood, LoadedStores, StoredLoads}
+use Rattle.endpoint.specs.Round.{Sized, ByteSixCounts, LoadedGood, LoadedStores, StoredLoads}
 use Rattle.endpoint.proofs.Reports.{reports-few}
 use Rattle.endpoint.proofs.Stored.{length-block, length-head}
 use Rattle.endpoint.proofs.StaysGood.{fresh-sized}
@@ -113,6 +113,14 @@ block-told block g =
       spare-last = eqb-true _ _ (r .1);
       held = simp (p .0);
     }
+
+pub byte-six-counts : ByteSixCounts
+unfolding recordIn
+byte-six-counts block g =
+    let told = block-told block g in
+    let good-record = loaded-good block ∙ g in
+    let there = sym (byte-there block 6 (omega (arith, told .full))) ∙ ap (λ (e : Endpoint). e .unconfirmed) (sym (told .held)) in
+    (there, there ∙ good-told (loadOf block) good-record .tallied)
 
 module _ (block : List ℕ) (bytes : Bytes block) where
   -- the entries of a block of bytes are 48 bytes

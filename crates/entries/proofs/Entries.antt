@@ -1,6 +1,6 @@
 -- Entries that meet their contracts do on a block what the tables do on the record that it holds, and so demand 3 holds of them. Assumes nothing.
 use mathlib.Core.Path.{_≡_, _∙_, ap, refl, sym}
-use Prim.Native.Nat.{ℕ, _≤_}
+use Prim.Native.Nat.{ℕ, _+_, _≤_}
 use mathlib.Core.List.{List, []}
 use mathlib.Core.Bool.{true, cond}
 use native.Mathlib.Omega.{arith}
@@ -15,7 +15,7 @@ use Rattle.open.specs.Offer.{Offer}
 use Rattle.endpoint.specs.declared.Endpoint.{Endpoint}
 use Rattle.endpoint.specs.Record.{givenOf, givenNumber, madeOf}
 use Rattle.endpoint.specs.Block.{bytesOf, loadOf}
-use Rattle.endpoint.proofs.Round.{block-told, loaded-good, stored-loads}
+use Rattle.endpoint.proofs.Round.{block-told, byte-six-counts, loaded-good, stored-loads}
 use Rattle.endpoint.proofs.Stored.{length-block}
 use Rattle.receiving.specs.declared.Answer.{Answer}
 use Rattle.receiving.specs.declared.Answer.the-variants.{Heard, Stays, Closes}
@@ -35,7 +35,8 @@ use Rattle.machine.proofs.Stages.{uncoded}
 use Rattle.fbdp.specs.Slots.{answerSlots, heardSlots, slotsIn}
 use Rattle.fbdp.specs.Blocks.{MakeAnswer, makeNumber, SendOnBlock, ReceiveOnBlock, keptAfter, keptBy, replyLength, stays, stored}
 use Rattle.machine.specs.Programs.{Making, freshBy, toldOf, replies, outcomeOf, ReceiveOutcome, ignored, tables}
-use Rattle.entries.specs.Entries.{Entries, Meets, onBlocks, toldBy, receiveTold, repliesBy, TablesMeet, byTables, MadeAreFresh, DemandOnBlocks}
+use Rattle.entries.specs.Entries.{Entries, Meets, onBlocks, toldBy, receiveTold, repliesBy, TablesMeet, byTables, MadeAreFresh, DemandOnBlocks, ByteSixTells}
+use Rattle.session.specs.World.{side}
 use Rattle.session.specs.Demand.{promptLedger}
 use Rattle.session.specs.Laws.{onRecords}
 use Rattle.session.proofs.Follows.{Alike, Follows, follows-laws, heldBy}
@@ -212,3 +213,9 @@ pub demand-on-blocks : DemandOnBlocks
 demand-on-blocks entries meets =
     laws-suffice (List ℕ) (List ℕ) (onBlocks entries) (heldBy loadOf onRecords)
     (follows-laws (onBlocks entries) tables loadOf length onRecords (entries-follow entries meets) tables-laws)
+
+pub byte-six-tells : ByteSixTells
+byte-six-tells p w holds end going =
+    let block : List ℕ = side w end .self in
+    let counts = byte-six-counts block (sym (loaded-good block) ∙ holds .stays-good end) in
+    holds .unconfirmed end going .1 ∙ ap (λ (k : ℕ). length (side w end .past .confirmations-heard) + k) (sym (counts .0))

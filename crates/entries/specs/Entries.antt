@@ -1,9 +1,10 @@
 -- Demand 3 for the C entries: two 64-byte blocks, each changed only by `fbdp_make_client`, `fbdp_make_server`, the sends and `fbdp_receive`, with
 -- any outputs. What is queued are the bytes that an entry wrote to its output, and what is told is read off the numbers that it gave.
-use Prim.Native.Nat.{ℕ}
+use Prim.Native.Nat.{ℕ, _+_}
+use mathlib.Core.Path.{_≡_}
 use mathlib.Core.List.{List, [], _∷_}
 use mathlib.Core.Bool.{cond}
-use lib.ListN.{length, take}
+use lib.ListN.{getD, length, take}
 use lib.Dec.{eqb}
 use Rattle.bytes_be.specs.Part.{partAt}
 use Rattle.open.specs.Offer.{Offer}
@@ -20,7 +21,8 @@ use Rattle.machine.specs.Bodies.{tellsBody}
 use Rattle.machine.specs.Programs.{Making, freshBy, Told, MakeOutcome, SendOutcome, ReceiveOutcome, Program}
 use Rattle.fbdp.specs.Blocks.{MakeAnswer, SendOnBlock, ReceiveOnBlock, keptAfter, keptBy, makeNumber, receivedOn, replyLength, sentOn, stored}
 use Rattle.fbdp.specs.Slots.{Slots, answerSlots, inOrder, slotsIn}
-use Rattle.session.specs.Demand.{View, promptLedger, Fresh, DemandOf}
+use Rattle.session.specs.World.{End, Going, askedFor, World, side}
+use Rattle.session.specs.Demand.{View, promptLedger, Fresh, Holds, DemandOf}
 
 -- ---- the entries
 
@@ -145,3 +147,9 @@ MadeAreFresh =
 -- demand 3, over any entries that meet their contracts
 abbrev pub DemandOnBlocks : Type 0
 DemandOnBlocks = (entries : Entries) → Meets entries → DemandOf (onBlocks entries) inBlocks
+
+-- C-14: wherever it holds, byte 6 of an end that has not closed is the number of DATA that it sent with an ask less those confirmed
+abbrev pub ByteSixTells : Type 0
+ByteSixTells =
+    (p : Program (List ℕ) (List ℕ)) (w : World (List ℕ)) → Holds p inBlocks w → (end : End) → side w end .past .ending ≡ Going
+    → length (askedFor (side w end .past .sent)) ≡ length (side w end .past .confirmations-heard) + getD (side w end .self) 6 0

@@ -15,9 +15,9 @@ use Rattle.terms.specs.declared.Term.the-variants.{In, Unreadable as Term·Unre
 
 -- the number of the interface, which the header and the name of a function have too
 abbrev pub interface : ℕ
-interface = 2
+interface = 3
 
--- `fbdp_interface_2`
+-- `fbdp_interface_3`
 pub record InterfaceAnswer (number : ℕ) : Type 0 where
   pub numbered : number ≡ interface
 

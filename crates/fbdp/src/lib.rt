@@ -22,10 +22,10 @@ use terms::Value;
 
 // The number of the interface, which the name of the function has too.
 #[no_mangle]
-pub extern "C" fn fbdp_interface_2() -> u32
+pub extern "C" fn fbdp_interface_3() -> u32
     ensures { λ r. ⌜ InterfaceAnswer r ⌝ }
 {
-    2
+    3
 }
 
 fn frame_slots(frame: Frame) -> [u64; 3]
