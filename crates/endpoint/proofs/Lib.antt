@@ -3,6 +3,7 @@
 pub mod Stored
 pub mod Entries
 pub mod Reports
+pub mod Types
 pub mod Told
 pub mod StaysGood
 pub mod Round

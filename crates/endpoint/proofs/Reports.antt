@@ -59,16 +59,6 @@ module _ (f : ℕ → Entry) where
   reports-few zero = omega arith
   reports-few (suc count) = omega (arith, reports-more count, reports-few count, report-few (f count))
 
-  -- entries that are none of DATA do not count
-  pub reports-none : (count more : ℕ) → ((i : ℕ) → count ≤ i → i < count + more → ofData (f i) ≡ false)
-      → reports (tabulate 0 (count + more) f) ≡ reports (tabulate 0 count f)
-  reports-none count zero none = ap (λ (k : ℕ). reports (tabulate 0 k f)) (add-zero count)
-  reports-none count (suc more) none =
-      let longer : count + suc more ≡ suc (count + more) = omega arith in
-      let last = report-of (f (count + more)) ∙ ap (λ (t : Bool). cond t 1 0) (none (count + more) (omega arith) (omega arith)) in
-      ap (λ (k : ℕ). reports (tabulate 0 k f)) longer
-      ∙ omega (arith, reports-more (count + more), last, reports-none count more (λ i behind inside. none i behind (omega arith)))
-
 -- one of them is taken out: those in front of it stay, and those behind it move up
 module _ (f g : ℕ → Entry) (i : ℕ) (kept : (k : ℕ) → k < i → g k ≡ f k) (moved : (k : ℕ) → i ≤ k → g k ≡ f (suc k)) where
   reports-out : (behind : ℕ) → reports (tabulate 0 (suc (i + behind)) f) ≡ reports (tabulate 0 (i + behind) g) + reports (f i ∷ [])

@@ -21,7 +21,10 @@ pub length-block : (e : Endpoint) → length (e .entries) ≡ 48 → length (byt
 unfolding bytesOf
 length-block e full = length-append (headBytes e) (e .entries) ∙ omega (arith, length-head e)
 
--- a block after each store behind the first eight bytes
+-- a block after each store behind the first four bytes
+
+abbrev pub with-counts : List ℕ → Endpoint → List ℕ → List ℕ
+with-counts told e block = putAt block 4 (getD told 0 0 ∷ getD told 1 0 ∷ e .unconfirmed ∷ 0 ∷ [])
 
 abbrev pub with-limit : Endpoint → List ℕ → List ℕ
 with-limit e block = putAt block 8 (toBytes 4 (e .limit))
@@ -31,13 +34,14 @@ with-last block = putAt block 12 (toBytes 4 0)
 
 -- the first 16 bytes, where n was told in two
 pub stored-head : (block : List ℕ) (e : Endpoint) (told : List ℕ) → 64 ≤ length block → told ≡ toBytes 2 (e .n) →
-    with-last (with-limit e (putAt block 0 (e .role ∷ e .flow ∷ e .phase ∷ e .w ∷ getD told 0 0 ∷ getD told 1 0 ∷ e .unconfirmed ∷ 0 ∷ [])))
-    ≡ putAt block 0 (headBytes e)
+    with-last (with-limit e (with-counts told e (putAt block 0 (e .role ∷ e .flow ∷ e .phase ∷ e .w ∷ [])))) ≡ putAt block 0 (headBytes e)
 unfolding headBytes toBytes
 stored-head block e told room same =
-    let first : List ℕ → List ℕ = λ n. e .role ∷ e .flow ∷ e .phase ∷ e .w ∷ getD n 0 0 ∷ getD n 1 0 ∷ e .unconfirmed ∷ 0 ∷ [] in
-    let front : List ℕ = first (toBytes 2 (e .n)) in
-    ap (λ (n : List ℕ). with-last (with-limit e (putAt block 0 (first n)))) same
+    let first : List ℕ = e .role ∷ e .flow ∷ e .phase ∷ e .w ∷ [] in
+    let counts : List ℕ → List ℕ = λ n. getD n 0 0 ∷ getD n 1 0 ∷ e .unconfirmed ∷ 0 ∷ [] in
+    let front : List ℕ = first ++ counts (toBytes 2 (e .n)) in
+    ap (λ (n : List ℕ). with-last (with-limit e (with-counts n e (putAt block 0 first)))) same
+    ∙ ap (λ (l : List ℕ). with-last (with-limit e l)) (put-then block 0 first (counts (toBytes 2 (e .n))) 4 refl (omega arith))
     ∙ ap with-last (put-then block 0 front (toBytes 4 (e .limit)) 8 refl (omega arith))
     ∙ put-then block 0 (front ++ toBytes 4 (e .limit)) (toBytes 4 0) 12 refl (omega arith)
 

@@ -1,20 +1,18 @@
 -- What a good record says, test by test, and of each of its entries. Assumes nothing.
-use mathlib.Core.Path.{_∙_, _≡_, ap, refl, sym}
-use Prim.Native.Nat.{_+_, _-_, _<_, _≤_, suc, zero, ℕ}
+use mathlib.Core.Path.{_∙_, _≡_, ap, refl}
+use Prim.Native.Nat.{_<_, _≤_, suc, zero, ℕ}
 use mathlib.Core.Bool.{Bool, _&&_, _||_, false, true}
 use native.Mathlib.Omega.{arith}
 use lib.Dec.{eqb, leb, ltb}
 use lib.ListN.{length}
 use borrow.Author.Count.{below-more}
-use borrow.Author.Tests.{eq-eqb, eqb-true, le-leb, le-ltb, leb-false, leb-true, lt-ltb, ltb-false, ltb-true, ne-eqb}
-use Rattle.bytes_be.specs.Part.{tabulate}
+use borrow.Author.Tests.{eq-eqb, eqb-true, le-leb, le-ltb, leb-true, lt-ltb, ltb-false, ltb-true}
 use Rattle.bytes_be.proofs.Tests.{both-true}
 use Rattle.double.specs.Limit.{inLimits}
 use Rattle.endpoint.specs.declared.Endpoint.{Endpoint}
 use Rattle.endpoint.specs.declared.Entry.{Entry}
-use Rattle.endpoint.specs.Record.{awaitable, awaited, capacity, client, countFits, entriesFit, entryAt, entryFits, every, good, goodFlow, inRanges, isNone, ofData, producer, reportsIn, server, shut, unconfirmedFits, waitFits}
+use Rattle.endpoint.specs.Record.{awaitable, awaited, capacity, client, countFits, entriesFit, entryAt, entryFits, every, good, goodFlow, inRanges, isNone, producer, reportsIn, server, shut, unconfirmedFits, waitFits}
 use Rattle.endpoint.proofs.Entries.{entry-past}
-use Rattle.endpoint.proofs.Reports.{reports, reports-none}
 
 -- the tests of a good record
 pub record Told (e : Endpoint) : Type 0 where
@@ -104,39 +102,3 @@ fits-at e full g i = go (ltb i capacity) refl
     go false outside =
         let past : 16 ≤ i = ltb-false i capacity outside in
         fits-behind e i (omega (arith, told .waits)) ∙ ap isNone (entry-past (e .entries) full i past)
-
--- an entry behind the first W is none of DATA, and neither is one behind the sixteenth
-module _ (e : Endpoint) (full : length (e .entries) ≡ 48) where
-  past-reports : (i : ℕ) → 16 ≤ i → ofData (entryAt (e .entries) i) ≡ false
-  past-reports i past = ap ofData (entry-past (e .entries) full i past)
-
-  behind-reports : entriesFit e ≡ true → (i : ℕ) → e .w ≤ i → i < 16 → ofData (entryAt (e .entries) i) ≡ false
-  unfolding entriesFit isNone
-  behind-reports fits i behind inside =
-      let entry : Entry = entryAt (e .entries) i in
-      let none = sym (fits-behind e i behind) ∙ every-at capacity (entryFits e) fits i inside in
-      let zero = eqb-true (entry .message) 0 (both-true (eqb (entry .message) 0) (eqb (entry .«type_data») 0) none .0) in
-      ne-eqb (entry .message) 4 (λ four. omega (arith, zero, four))
-
-  -- so the first W have as many as all sixteen
-  sixteen-reports : entriesFit e ≡ true → reports (tabulate 0 16 (entryAt (e .entries))) ≡ reports (awaited e)
-  sixteen-reports fits = go (leb (e .w) capacity) refl
-    where
-      go : (t : Bool) → leb (e .w) capacity ≡ t → reports (tabulate 0 16 (entryAt (e .entries))) ≡ reports (awaited e)
-      go true within =
-          let few : e .w ≤ 16 = leb-true (e .w) capacity within in
-          let all : e .w + (16 - e .w) ≡ 16 = omega arith in
-          rw all at (reports-none (entryAt (e .entries)) (e .w) (16 - e .w) (λ i behind inside. behind-reports fits i behind (omega arith)))
-      go false beyond =
-          let many : 16 < e .w = leb-false (e .w) capacity beyond in
-          let all : 16 + (e .w - 16) ≡ e .w = omega arith in
-          sym (rw all at (reports-none (entryAt (e .entries)) 16 (e .w - 16) (λ i behind inside. past-reports i behind)))
-
-  -- and both tests of the entries may look at all sixteen
-  pub both-tested : entriesFit e && eqb (e .unconfirmed) (reports (tabulate 0 16 (entryAt (e .entries)))) ≡ entriesFit e && unconfirmedFits e
-  unfolding unconfirmedFits
-  both-tested = go (entriesFit e) refl
-    where
-      go : (t : Bool) → entriesFit e ≡ t → t && eqb (e .unconfirmed) (reports (tabulate 0 16 (entryAt (e .entries)))) ≡ t && unconfirmedFits e
-      go true fits = ap (eqb (e .unconfirmed)) (sixteen-reports fits)
-      go false _ = refl

@@ -1,13 +1,12 @@
 // One endpoint: its record, what a good one is, how it changes, and its block of 64 bytes.
 ghost use mathlib.Core.Path.{_≡_};
-ghost use Prim.Native.Nat.{_+_, _-_, _*_, _<_};
-ghost use mathlib.Core.List.{[], _∷_};
+ghost use Prim.Native.Nat.{_+_, _-_, _*_, _≤_, _<_};
 ghost use mathlib.Core.Bool.{cond, _&&_};
 ghost use lib.ListN.{length};
-ghost use lib.Dec.{leb};
-ghost use Rattle.bytes_be.specs.Part.{part, putAt};
+ghost use lib.Dec.{eqb, leb};
+ghost use Rattle.bytes_be.specs.Part.{part, putAt, tabulate};
 ghost use Rattle.double.specs.Limit.{inLimits};
-ghost use Rattle.endpoint.specs.Record.{entryBytes, entryAt, noEntries, inRanges, countFits, waitFits, isNone, awaitable, fits, every, entriesFit, reportsIn, unconfirmedFits, unconfirmedWith, unconfirmedWithout, good as Record·good, givenOf, givenNumber, freshOf, freshClient, freshServer, noEndpoint, madeOf, closed as Record·closed, atPhase, asked as Record·asked, entryOf, withoutEntry, without as Record·without, confirmed as Record·confirmed, limited as Record·limited, oldest as Record·oldest};
+ghost use Rattle.endpoint.specs.Record.{entryBytes, entryAt, noEntries, inRanges, countFits, waitFits, isNone, awaitable, fits, every, reportsIn, unconfirmedWith, unconfirmedWithout, good as Record·good, givenOf, givenNumber, freshOf, freshClient, freshServer, noEndpoint, madeOf, closed as Record·closed, atPhase, asked as Record·asked, entryOf, withoutEntry, without as Record·without, confirmed as Record·confirmed, limited as Record·limited, oldest as Record·oldest};
 ghost use Rattle.endpoint.specs.Block.{headBytes, bytesOf, recordIn, spareIsZero, loadOf};
 
 // A confirmation that is awaited.
@@ -28,11 +27,11 @@ pub struct Endpoint {
     pub w: u8,
     // The count that is offered, or that is left of the batch.
     pub n: u16,
-    // How many of the confirmations awaited belong to DATA.
-    pub unconfirmed: u8,
     pub limit: u32,
     // The confirmations awaited, oldest first: sixteen times type and type-data, as in the block.
     pub entries: [u8; 48],
+    // How many of them belong to DATA.
+    pub unconfirmed: u8,
 }
 
 // The flow and the limit that are given to a making.
@@ -106,34 +105,29 @@ fn entry_fits(flow: u8, w: u8, entry: Entry, i: usize) -> bool
     is_none(entry)
 }
 
-// 1 for an entry of DATA, and else 0.
-fn report_in(entry: Entry) -> u8
-    ensures { λ r. ⌜ r ≡ length (reportsIn (entry ∷ [])) ⌝ }
+// The type of an entry as a wider number, of which sixteen can be added up.
+fn type_in(entry: Entry) -> u16
+    ensures { λ r. ⌜ (r ≡ entry .message) × (r < 256) ⌝ }
 {
-    if entry.message == 4 {
-        return 1;
-    }
-    0
+    entry.message as u16
 }
 
-// Behind the first W an entry that fits is none of DATA, so that all sixteen may be counted.
-fn each_fits(e: Endpoint) -> bool
-    ensures { λ r. ⌜ r ≡ entriesFit e && unconfirmedFits e ⌝ }
+// The first W entries that fit are of type 3 or 4 and the others of type 0, so the sum of the types tells how many are of type 4.
+fn each_fits(entries: [u8; 48], flow: u8, w: u8, unconfirmed: u8) -> bool
+    requires { ⌜ w ≤ 16 ⌝ }
+    ensures { λ r. ⌜ r ≡ every 16 (λ i. fits flow w (entryAt entries i) i) && eqb unconfirmed (length (reportsIn (tabulate 0 w (entryAt entries)))) ⌝ }
 {
-    let entries = e.entries;
-    let flow = e.flow;
-    let w = e.w;
     let mut fit = true;
-    let mut reports = 0;
+    let mut types = 0;
     let mut i = 0;
     while i < 16 {
         let at = 3 * i;
         let entry = entry_from(entries[at], entries[at + 1], entries[at + 2]);
         fit = fit & entry_fits(flow, w, entry, i);
-        reports += report_in(entry);
+        types += type_in(entry);
         i += 1;
     }
-    fit & (e.unconfirmed == reports)
+    fit & (types == 3 * (w as u16) + (unconfirmed as u16))
 }
 
 // Whether all entries are zero.
@@ -149,14 +143,15 @@ fn none_awaited(entries: [u8; 48]) -> bool
     zero
 }
 
-fn entries_fit(e: Endpoint) -> bool
-    ensures { λ r. ⌜ r ≡ entriesFit e && unconfirmedFits e ⌝ }
+// Whether each entry fits, and as many as are told are of DATA.
+fn entries_fit(entries: [u8; 48], flow: u8, w: u8, unconfirmed: u8) -> bool
+    requires { ⌜ w ≤ 16 ⌝ }
+    ensures { λ r. ⌜ r ≡ every 16 (λ i. fits flow w (entryAt entries i) i) && eqb unconfirmed (length (reportsIn (tabulate 0 w (entryAt entries)))) ⌝ }
 {
-    if e.w == 0 {
-        let entries = e.entries;
-        return none_awaited(entries) & (e.unconfirmed == 0);
+    if w == 0 {
+        return none_awaited(entries) & (unconfirmed == 0);
     }
-    each_fits(e)
+    each_fits(entries, flow, w, unconfirmed)
 }
 
 fn in_limits(limit: u32) -> bool
@@ -169,7 +164,12 @@ fn in_limits(limit: u32) -> bool
 pub fn good(e: Endpoint) -> bool
     ensures { λ r. ⌜ r ≡ Record·good e ⌝ }
 {
-    in_ranges(e) & count_fits(e) & wait_fits(e) & entries_fit(e) & in_limits(e.limit)
+    let ranges = in_ranges(e) & count_fits(e) & wait_fits(e) & in_limits(e.limit);
+    if ranges {
+        let entries = e.entries;
+        return entries_fit(entries, e.flow, e.w, e.unconfirmed);
+    }
+    false
 }
 
 fn no_entries() -> [u8; 48]
@@ -209,9 +209,9 @@ fn fresh(role: u8, flow: u8, limit: u32) -> Endpoint
         phase: 0,
         w: 0,
         n: 0,
-        unconfirmed: 0,
         limit: limit,
         entries: no_entries(),
+        unconfirmed: 0,
     }
 }
 
@@ -264,9 +264,9 @@ pub fn closed(e: Endpoint) -> Endpoint
         phase: 5,
         w: 0,
         n: 0,
-        unconfirmed: 0,
         limit: e.limit,
         entries: no_entries(),
+        unconfirmed: 0,
     }
 }
 
@@ -325,16 +325,12 @@ pub fn asked(e: Endpoint, entry: Entry) -> Endpoint
 {
     if e.w < 16 {
         let entries = e.entries;
-        return Endpoint {
-            role: e.role,
-            flow: e.flow,
-            phase: e.phase,
-            w: e.w + 1,
-            n: e.n,
-            unconfirmed: unconfirmed_with(e.unconfirmed, entry),
-            limit: e.limit,
-            entries: with_entry(entries, e.w, entry),
-        };
+        let more = with_entry(entries, e.w, entry);
+        let mut next = e;
+        next.w = e.w + 1;
+        next.unconfirmed = unconfirmed_with(e.unconfirmed, entry);
+        next.entries = more;
+        return next;
     }
     e
 }
@@ -454,7 +450,10 @@ fn spare_is_zero(block: &[u8]) -> bool
     requires { ⌜ length (now block) ≡ 64 ⌝ }
     ensures { λ r. ⌜ r ≡ spareIsZero (now (block .entry)) ⌝ }
 {
-    (block[7] == 0) & (bytes_be::read32(block, 12) == 0)
+    if block[7] == 0 {
+        return bytes_be::read32(block, 12) == 0;
+    }
+    false
 }
 
 // The record that a block holds, which is good where the block is.
@@ -479,11 +478,8 @@ fn store_head(e: Endpoint, block: &mut [u8])
     let room = 64 <= block.len();
     if room {
         let n = bytes_be::bytes16(e.n);
-        bytes_be::copy_at(
-            block,
-            0,
-            &[e.role, e.flow, e.phase, e.w, n[0], n[1], e.unconfirmed, 0],
-        );
+        bytes_be::copy_at(block, 0, &[e.role, e.flow, e.phase, e.w]);
+        bytes_be::copy_at(block, 4, &[n[0], n[1], e.unconfirmed, 0]);
         bytes_be::store32(block, 8, e.limit);
         bytes_be::store32(block, 12, 0);
     }

@@ -162,9 +162,11 @@ module _ {A : Type 0} {model : Model A} (w : World A) (holds : Invariant model w
       let at = seen-from end w holds .linked in
       let all = at .accounts .awaited (is-open (viewedSide (model .view .endpoint) (side w end)) going)
       ∙ ap (λ (l : List ℕ). past-at .confirmations-heard ++ l) recorded in
-      let counted = good-told record-at (at .here .sound .is-good) .tallied in
-      (all, ap length all ∙ length-append (past-at .confirmations-heard) (reportsIn (awaited record-at))
-      ∙ ap (λ (k : ℕ). length (past-at .confirmations-heard) + k) (sym counted))
+      let counted = good-told record-at (at .here .sound .is-good) .tallied in (
+        all,
+        ap length all ∙ length-append (past-at .confirmations-heard) (reportsIn (awaited record-at))
+            ∙ ap (λ (k : ℕ). length (past-at .confirmations-heard) + k) (sym counted),
+      )
 
 -- the clauses on answers, on room and on what may be sent, and with them all
 module _ {A O : Type 0} (prog : Program A O) (model : Model A) (w : World A) (holds : Invariant model w) where

@@ -1,7 +1,6 @@
 -- `endpoint::entries_fit` meets its contract: the entries are tested byte by byte where none is awaited, and else one by one.
 -- Assumes nothing.
 use borrow.Author.Needs.{needs}
-use Rattle.endpoint.specs.Record.{entriesFit, entryFits, unconfirmedFits}
 use Rattle.endpoint.proofs.entries_fit.Statement.{statement}
 use Rattle.endpoint.proofs.entries_fit.Tie as tie
 
@@ -9,8 +8,7 @@ none-awaited-requires : tie.Need-none-awaited-requires
 none-awaited-requires c κs = search needs
 
 returns : tie.Need-returns
-unfolding entriesFit entryFits unconfirmedFits
-returns c = simp (c .before .before .before .if1 .taken, c .before .none-awaited .ensures)
+returns c = simp (c .before .if1 .taken, c .none-awaited .ensures)
 
 each-fits-requires : tie.Need-each-fits-requires
 each-fits-requires c κs = search needs

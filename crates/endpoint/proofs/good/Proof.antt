@@ -1,12 +1,43 @@
--- `endpoint::good` meets its contract: the tests are those of the definition, in its order.
+-- `endpoint::good` meets its contract: the entries are tested where all else is in its ranges.
 -- Assumes nothing.
-use mathlib.Core.Path.{ap, sym}
-use mathlib.Core.Bool.{Bool, _&&_, and-assoc}
+use mathlib.Core.Path.{_∙_, _≡_, ap, refl, sym}
+use Prim.Native.Nat.{_≤_}
+use mathlib.Core.Bool.{Bool, _&&_, false, true}
+use lib.Dec.{leb}
 use borrow.Author.Needs.{needs}
+use borrow.Author.Tests.{leb-true}
+use Rattle.bytes_be.proofs.Tests.{both-true}
 use Rattle.double.specs.Limit.{inLimits}
-use Rattle.endpoint.specs.Record.{countFits, entriesFit, good, inRanges, unconfirmedFits, waitFits}
+use Rattle.endpoint.specs.declared.Endpoint.{Endpoint}
+use Rattle.endpoint.specs.Record.{capacity, client, countFits, entriesFit, entryFits, good, goodFlow, inRanges, server, shut, unconfirmedFits, waitFits}
 use Rattle.endpoint.proofs.good.Statement.{statement}
 use Rattle.endpoint.proofs.good.Tie as tie
+
+-- the tests in another order
+abbrev ranges : Endpoint → Bool
+ranges e = inRanges e && countFits e && waitFits e && inLimits (e .limit)
+
+reordered : (a b c d : Bool) → (a && d) && (b && c) ≡ a && b && c && d
+reordered true true true true = refl
+reordered true true true false = refl
+reordered true true false true = refl
+reordered true true false false = refl
+reordered true false c true = refl
+reordered true false c false = refl
+reordered false b c d = refl
+
+good-ranges : (e : Endpoint) → ranges e && (entriesFit e && unconfirmedFits e) ≡ good e
+unfolding good
+good-ranges e = reordered (inRanges e && countFits e && waitFits e) (entriesFit e) (unconfirmedFits e) (inLimits (e .limit))
+
+few-awaited : (e : Endpoint) → ranges e ≡ true → e .w ≤ 16
+unfolding inRanges
+few-awaited e fit =
+    let p = both-true (inRanges e && countFits e && waitFits e) (inLimits (e .limit)) fit in
+    let q = both-true (inRanges e && countFits e) (waitFits e) (p .0) in
+    let r = both-true (inRanges e) (countFits e) (q .0) in
+    let first : Bool = leb client (e .role) && leb (e .role) server && goodFlow (e .flow) && leb (e .phase) shut in
+    leb-true (e .w) capacity (both-true first (leb (e .w) capacity) (r .0) .1)
 
 in-ranges-requires : tie.Need-in-ranges-requires
 in-ranges-requires c κs = search needs
@@ -17,18 +48,33 @@ count-fits-requires c κs = search needs
 wait-fits-requires : tie.Need-wait-fits-requires
 wait-fits-requires c κs = search needs
 
-entries-fit-requires : tie.Need-entries-fit-requires
-entries-fit-requires c κs = search needs
-
 in-limits-requires : tie.Need-in-limits-requires
 in-limits-requires c κs = search needs
 
+entries-fit-requires : tie.Need-entries-fit-requires
+entries-fit-requires c κs =
+    let tested = c .before .before in
+    let e = c .before .before .before .before .before .before .args .e in
+    let fit : ranges e ≡ true =
+    simp (← (tested .in-limits .ensures), ← (tested .before .wait-fits .ensures), ← (tested .before .before .count-fits .ensures), ← (tested .before .before .before .in-ranges .ensures)) (c .before .if1 .taken) in
+    few-awaited e fit
+
 returns : tie.Need-returns
-unfolding good
+unfolding entriesFit entryFits unconfirmedFits
 returns c =
+    let tested = c .before .before .before in
+    let e = c .before .before .before .before .before .before .before .args .e in
+    let fit : ranges e ≡ true =
+    simp (← (tested .in-limits .ensures), ← (tested .before .wait-fits .ensures), ← (tested .before .before .count-fits .ensures), ← (tested .before .before .before .in-ranges .ensures)) (c .before .before .if1 .taken) in
+    c .entries-fit .ensures ∙ sym (ap (λ (t : Bool). t && (entriesFit e && unconfirmedFits e)) fit) ∙ good-ranges e
+
+returns-2 : tie.Need-returns-2
+returns-2 c =
+    let tested = c .before in
     let e = c .before .before .before .before .before .args .e in
-    simp (c .in-limits .ensures, c .before .entries-fit .ensures, c .before .before .wait-fits .ensures, c .before .before .before .count-fits .ensures, c .before .before .before .before .in-ranges .ensures)
-    (ap (λ (t : Bool). t && inLimits (e .limit)) (sym (and-assoc (inRanges e && countFits e && waitFits e) (entriesFit e) (unconfirmedFits e))))
+    let unfit : ranges e ≡ false =
+    simp (← (tested .in-limits .ensures), ← (tested .before .wait-fits .ensures), ← (tested .before .before .count-fits .ensures), ← (tested .before .before .before .in-ranges .ensures)) (c .if1 .left) in
+    sym (ap (λ (t : Bool). t && (entriesFit e && unconfirmedFits e)) unfit) ∙ good-ranges e
 
 pub good-spec : {M : Type 1} → statement M
 good-spec =
@@ -37,6 +83,7 @@ good-spec =
     in-ranges-requires
     count-fits-requires
     wait-fits-requires
-    entries-fit-requires
     in-limits-requires
-    returns)
+    entries-fit-requires
+    returns
+    returns-2)
