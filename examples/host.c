@@ -50,7 +50,7 @@ static void say(const struct end *end, const struct message *message, const stru
         if (heard->frames > 0) printf(": %.*s", (int)heard->body_length, text + heard->body_at);
         else printf(": %s", heard->type_data == STILL_TURNING ? "still turning" : "no body");
     }
-    if (confirms) printf(" confirmed");
+    if (confirms) printf(" confirmed, %u unconfirmed", fbdp_unconfirmed(end->block));
     printf("\n");
 }
 

@@ -15,9 +15,9 @@ static void list(const char *title, words *of) {
     }
 }
 
-/* A client and producer in a batch, with 258 messages left and three confirmations awaited. */
+/* A client and producer in a batch, with 258 messages left and three confirmations awaited, two of them of DATA. */
 static const uint8_t block[FBDP_BLOCK_BYTES] = {
-    FBDP_CLIENT, FBDP_PRODUCER, FBDP_PHASE_BATCH, 3, 1, 2, 0, 0, 0x01, 0x02, 0x03, 0x04,
+    FBDP_CLIENT, FBDP_PRODUCER, FBDP_PHASE_BATCH, 3, 1, 2, 2, 0, 0x01, 0x02, 0x03, 0x04,
 };
 
 int main(void) {
@@ -25,7 +25,7 @@ int main(void) {
     list("Codes of CLOSE", fbdp_close_meaning);
     list("Types of messages", fbdp_type_name);
     printf("Any other: %s; %s; %s\n", fbdp_meaning(4), fbdp_close_meaning(7), fbdp_type_name(0));
-    printf("A block: phase %u, awaited %u, count %u, limit %" PRIu32 "\n", fbdp_phase(block), fbdp_awaited(block),
-           fbdp_count(block), fbdp_limit(block));
+    printf("A block: phase %u, awaited %u, unconfirmed %u, count %u, limit %" PRIu32 "\n", fbdp_phase(block),
+           fbdp_awaited(block), fbdp_unconfirmed(block), fbdp_count(block), fbdp_limit(block));
     return 0;
 }

@@ -1,6 +1,6 @@
 -- The types of entries that fit, added up: the first W have 3 or 4 and the others 0, so the sum tells how many are of DATA. Assumes nothing.
 use mathlib.Core.Path.{_≡_, refl, sym, ap, _∙_}
-use Prim.Native.Nat.{ℕ, zero, suc, _+_, _-_, _*_, _≤_, _<_}
+use Prim.Native.Nat.{ℕ, zero, suc, _+_, _-_, _*_, _≤_}
 use mathlib.Core.List.{List, [], _∷_, _++_}
 use mathlib.Core.Bool.{Bool, _&&_, _||_, cond, true, false, false≢true}
 use native.Mathlib.Omega.{arith}

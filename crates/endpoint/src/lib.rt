@@ -258,16 +258,7 @@ pub fn make_server(flow: u8) -> Made
 pub fn closed(e: Endpoint) -> Endpoint
     ensures { λ r. ⌜ r ≡ Record·closed e ⌝ }
 {
-    Endpoint {
-        role: e.role,
-        flow: e.flow,
-        phase: 5,
-        w: 0,
-        n: 0,
-        limit: e.limit,
-        entries: no_entries(),
-        unconfirmed: 0,
-    }
+    at_phase(fresh(e.role, e.flow, e.limit), 5, 0)
 }
 
 // The endpoint in another phase, with another n.

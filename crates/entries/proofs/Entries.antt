@@ -218,4 +218,4 @@ pub byte-six-tells : ByteSixTells
 byte-six-tells p w holds end going =
     let block : List ℕ = side w end .self in
     let counts = byte-six-counts block (sym (loaded-good block) ∙ holds .stays-good end) in
-    holds .unconfirmed end going .1 ∙ ap (λ (k : ℕ). length (side w end .past .confirmations-heard) + k) (sym (counts .0))
+    holds .accounted end .unconfirmed going ∙ ap (λ (k : ℕ). length (side w end .past .confirmations-heard) + k) (sym (counts .0))

@@ -1,40 +1,39 @@
 -- What each call makes of the count of unconfirmed reports. Assumes nothing.
 use mathlib.Core.Path.{_≡_, _∙_, ap, refl, subst, sym}
-use Prim.Native.Nat.{ℕ, zero, suc, _+_, _-_, _≤_, _<_}
-use mathlib.Core.List.{List, [], _∷_}
+use Prim.Native.Nat.{ℕ, suc, _+_, _-_, _≤_, _<_}
+use mathlib.Core.List.{List, _∷_}
 use mathlib.Core.Bool.{Bool, _&&_, _||_, cond, false, not, true}
 use native.Mathlib.Omega.{arith}
 use lib.Dec.{eqb, leb, ltb}
 use lib.ListN.{drop, length}
-use borrow.Author.Tests.{eqb-false, eqb-true, leb-false, leb-true, lt-ltb, ltb-true, ne-eqb, not-false}
+use borrow.Author.Tests.{eqb-true, leb-false, leb-true, lt-ltb, ltb-true, ne-eqb, not-false}
 use Rattle.bytes_be.proofs.Tests.{both-true, clash}
 use Rattle.control.specs.declared.MessageType.{MessageType}
 use Rattle.control.specs.declared.MessageType.the-variants.{Open, Ready, Noop, Data, Close}
-use Rattle.control.specs.Frame.{ackReply, typeOf}
+use Rattle.control.specs.Frame.{ackReply}
 use Rattle.open.specs.Offer.{Offer}
 use Rattle.message.specs.declared.Message.{Message}
 use Rattle.endpoint.specs.declared.Endpoint.{Endpoint}
 use Rattle.endpoint.specs.declared.Entry.{Entry}
-use Rattle.endpoint.specs.Record.{asked, atPhase, awaited, batch, capacity, client, closed, confirmed, entryAt, freshOf, givenNumber, givenOf, idle, limited, madeOf, offer, oldest, opening, producer, fresh, reportsIn, shut, unconfirmedWith, unconfirmedWithout}
+use Rattle.endpoint.specs.Record.{asked, atPhase, awaited, batch, capacity, client, closed, confirmed, entryAt, freshOf, givenNumber, givenOf, idle, limited, madeOf, offer, oldest, opening, producer, fresh, shut, unconfirmedWith, unconfirmedWithout}
 use Rattle.endpoint.proofs.Awaited.{oldest-awaited}
 use Rattle.endpoint.proofs.Reports.{reports, reports-few}
 use Rattle.endpoint.proofs.Told.{good-told}
 use Rattle.table.specs.declared.Row.{Row}
-use Rattle.table.specs.declared.Row.the-variants.{NotAllowed, AboveOffer, To}
-use Rattle.table.specs.Table.{aboveOffer, allowed, atRow, begun, closeRow, dataRow, moved, noopRow, notAllowed, openRow, other, readyRow, rowOf, upTo}
+use Rattle.table.specs.declared.Row.the-variants.{To}
+use Rattle.table.specs.Table.{allowed, atRow, begun, closeRow, dataRow, moved, noopRow, notAllowed, openRow, other, readyRow, rowOf, upTo}
 use Rattle.receiving.specs.declared.Content.{Content}
 use Rattle.receiving.specs.declared.Content.the-variants.{Nothing, Opening, Body as Content·Body}
 use Rattle.receiving.specs.declared.Received.{Received}
 use Rattle.receiving.specs.Hearing.{accepted, confirmedBy, confirms, forbidden, hearRow, limitedBy, matchesOldest, movesAs, unmatched}
 use Rattle.receiving.specs.Refusing.{refused, unchanged}
 use Rattle.sending.specs.declared.Sent.{Sent}
-use Rattle.sending.specs.Calls.{Call, OPEN, READY, DATA, NOOP, CLOSE, messageOf, outgoing}
+use Rattle.sending.specs.Calls.{Call, OPEN, READY, DATA, NOOP, CLOSE, outgoing}
 use Rattle.sending.specs.Sending.{askedBy, isFull, numberFor, sendRow, sentBy, unsent}
-use Rattle.sending.proofs.Decided.{Passed as Sending·Passed, all-passed}
+use Rattle.sending.proofs.Decided.{all-passed}
 use Rattle.machine.specs.Good.{Sound}
 use Rattle.machine.specs.Programs.{Making, AsClient, AsServer, freshBy}
 use Rattle.machine.specs.Unconfirmed.{Change, Same, OneMore, OneLess, Cleared, Leaves, ifAccepted, sendChange, messageChange, answerChange, MakingLeaves, SendLeaves, ReceiveLeaves}
-use Rattle.machine.specs.Refusals.{saidBy}
 use Rattle.machine.proofs.Stages.{Passed, received-holds}
 
 -- ---- rows: the row of any message but CLOSE keeps what is awaited

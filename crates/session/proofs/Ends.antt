@@ -14,7 +14,7 @@ use Rattle.control.specs.declared.MessageType.{MessageType}
 use Rattle.control.specs.declared.MessageType.the-variants.{Noop, Data}
 use Rattle.endpoint.specs.declared.Endpoint.{Endpoint}
 use Rattle.table.specs.Table.{other}
-use Rattle.sending.specs.Calls.{Datum, Call, OPEN, READY, DATA, NOOP, CLOSE, messageOf, typeDataOf}
+use Rattle.sending.specs.Calls.{Call, OPEN, READY, DATA, NOOP, CLOSE, messageOf, typeDataOf}
 use Rattle.machine.proofs.Rows.{closed-sound}
 use Rattle.machine.specs.Good.{Sound}
 use Rattle.machine.specs.Programs.{Making, AsClient, AsServer, freshBy, Queued, SendOutcome}

@@ -10,17 +10,17 @@ use Rattle.open.specs.Offer.{Offer}
 use Rattle.endpoint.specs.declared.Endpoint.{Endpoint}
 use Rattle.endpoint.specs.declared.Entry.{Entry}
 use Rattle.endpoint.specs.Record.{awaited, batch, reportsIn}
-use Rattle.endpoint.proofs.Told.{good-told}
 use Rattle.machine.specs.Programs.{Program, Queued}
-use Rattle.session.specs.World.{End, across, Client, Server, Ending, History, askedFor, Side, World, side, step}
+use Rattle.session.specs.World.{End, across, Client, Server, Ending, Side, World, side, step}
 use Rattle.session.specs.World.{viewedSide, Going, HeardClose, WroteClose, receives}
-use Rattle.session.specs.Turns.{Stage, stageOf, Standing, IsOpen, Listens, stands, standing, Converge, ClosedByOther, ClosedByItself}
+use Rattle.session.specs.Turns.{Stage, stageOf, Standing, Listens, stands, standing, Converge, ClosedByOther, ClosedByItself}
 use Rattle.session.specs.Demand.{MaySend, MayAnswer, PhaseFits, agreed, sum, nextEnd, nextCall, AtRest, Holds}
 use Rattle.session.specs.Invariant.{Model, Delivers, source, Linked, Joint, Invariant}
 use Rattle.session.specs.Packets.{Packet, queuedIn, dataIn, readyIn}
 use Rattle.session.specs.Confirmations.{askedIn, confirmedIn}
 use Rattle.session.proofs.Turns.{rests-converge, shut-across, shut-converge, close-converge}
 use Rattle.session.proofs.Step.{seen-from}
+use Rattle.session.proofs.Accounts.{accounts-hold, is-open}
 
 -- where nothing is queued, nothing is on its way
 none-queued : (q : List Packet) → map queuedIn q ≡ [] → q ≡ []
@@ -52,9 +52,6 @@ wrote-close x = go (x .past .ending)
     go Going same = clash cc
     go HeardClose same = clash cc
     go WroteClose same = refl
-
-is-open : (x : Side Endpoint) → x .past .ending ≡ Going → IsOpen (standing x)
-is-open x going = rw (ap (λ (ending : Ending). stands ending (x .self)) going) tt
 
 module _ {A : Type 0} {model : Model A} (w : World A) (holds : Invariant model w) where
   abbrev seen : Side A → Side Endpoint
@@ -147,27 +144,6 @@ module _ {A : Type 0} {model : Model A} (w : World A) (holds : Invariant model w
       let empty-queue = none-queued (at .from-across) (sym (at .linked .there .queued) ∙ none) in
       (all-heard dataIn (at .linked .delivers-across) listens empty-queue, all-heard readyIn (at .linked .readies-across) listens empty-queue)
 
--- C-14: the DATA sent with an ask are those confirmed and those awaited, where the record has of DATA what is awaited on line 0
-module _ {A : Type 0} {model : Model A} (w : World A) (holds : Invariant model w) (end : End) where
-  abbrev record-at : Endpoint
-  record-at = model .view .endpoint (side w end .self)
-
-  abbrev past-at : History
-  past-at = side w end .past
-
-  waits-for-rest : reportsIn (model .view .ledger (side w end .self) .waits 0) ≡ reportsIn (awaited record-at) → past-at .ending ≡ Going
-      → (askedFor (past-at .sent) ≡ past-at .confirmations-heard ++ reportsIn (awaited record-at))
-      × (length (askedFor (past-at .sent)) ≡ length (past-at .confirmations-heard) + record-at .unconfirmed)
-  waits-for-rest recorded going =
-      let at = seen-from end w holds .linked in
-      let all = at .accounts .awaited (is-open (viewedSide (model .view .endpoint) (side w end)) going)
-      ∙ ap (λ (l : List ℕ). past-at .confirmations-heard ++ l) recorded in
-      let counted = good-told record-at (at .here .sound .is-good) .tallied in (
-        all,
-        ap length all ∙ length-append (past-at .confirmations-heard) (reportsIn (awaited record-at))
-            ∙ ap (λ (k : ℕ). length (past-at .confirmations-heard) + k) (sym counted),
-      )
-
 -- the clauses on answers, on room and on what may be sent, and with them all
 module _ {A O : Type 0} (prog : Program A O) (model : Model A) (w : World A) (holds : Invariant model w) where
   pub clauses-hold : ((self : A) → model .Fine self → reportsIn (model .view .ledger self .waits 0) ≡ reportsIn (awaited (model .view .endpoint self)))
@@ -202,8 +178,6 @@ module _ {A O : Type 0} (prog : Program A O) (model : Model A) (w : World A) (ho
             let same = same-stage w holds rest in
             (ap (λ (s : Stage). s .phase) same, ap (λ (s : Stage). s .n) same);
         awaits-what-is-owed = awaits-owed w holds;
-        unconfirmed = λ end. waits-for-rest w holds end (recorded (side w end .self) (joint w holds end .fine));
-        confirmations-lead = λ end. let back = joint w holds end .linked .confirmations-across in (back .rest, sym (back .whole));
-        confirms-accepted = λ end. let own = joint w holds end .linked .accounts in (own .rest, sym (own .whole));
+        accounted = λ end. accounts-hold w holds end (recorded (side w end .self) (joint w holds end .fine));
         may-send = may-send;
       }

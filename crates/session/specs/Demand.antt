@@ -93,6 +93,16 @@ EachAtMost [] offers = Unit
 EachAtMost (count ∷ rest) [] = ⊥
 EachAtMost (count ∷ rest) (most ∷ others) = (count ≤ most) × EachAtMost rest others
 
+-- C-14: "how many of the awaited confirmations belong to DATA", at an end that did and heard this, across from one that did and heard that
+pub record Accounted (here there : History) (e : Endpoint) : Type 0 where
+  -- of the DATA sent with an ask the first are those whose confirmation was heard; until the end closes, it awaits that of the others
+  pub waits-for-rest : here .ending ≡ Going → askedFor (here .sent) ≡ here .confirmations-heard ++ reportsIn (awaited e)
+  -- so the count is of those sent with an ask less those confirmed
+  pub unconfirmed : here .ending ≡ Going → length (askedFor (here .sent)) ≡ length (here .confirmations-heard) + e .unconfirmed
+  -- a confirmation that is heard was sent, and what an end confirms it accepted with an ask, each in order
+  pub confirmations-lead : IsPrefix (here .confirmations-heard) (there .confirmations)
+  pub confirms-accepted : IsPrefix (here .confirmations) (askedFor (here .accepted))
+
 -- "a message other than NOOP and CLOSE"
 abbrev pub movesOn : Call → Bool
 movesOn (OPEN asked) = true
@@ -178,16 +188,8 @@ module _ {A O : Type 0} (p : Program A O) (view : View A) where
         × (view .endpoint (w .client .self) .n ≡ view .endpoint (w .server .self) .n)
     pub awaits-what-is-owed : AtRest w → (end : End) (line : ℕ)
         → view .ledger (side w end .self) .waits line ≡ view .ledger (side w (across end) .self) .owes line
-    -- C-14: of the DATA that an end sent with an ask those confirmed are the first; until it closes, it awaits the others, and their number is the
-    -- count of unconfirmed reports
-    pub unconfirmed : (end : End) → side w end .past .ending ≡ Going
-        → (askedFor (side w end .past .sent)
-        ≡ side w end .past .confirmations-heard ++ reportsIn (awaited (view .endpoint (side w end .self))))
-        × (length (askedFor (side w end .past .sent))
-        ≡ length (side w end .past .confirmations-heard) + view .endpoint (side w end .self) .unconfirmed)
-    -- a confirmation that is heard was sent, and what an end confirms is what it accepted with an ask, each in order
-    pub confirmations-lead : (end : End) → IsPrefix (side w end .past .confirmations-heard) (side w (across end) .past .confirmations)
-    pub confirms-accepted : (end : End) → IsPrefix (side w end .past .confirmations) (askedFor (side w end .past .accepted))
+    -- C-14: the DATA of an end that are unconfirmed
+    pub accounted : (end : End) → Accounted (side w end .past) (side w (across end) .past) (view .endpoint (side w end .self))
     -- "one end may still send a message other than NOOP and CLOSE"
     pub may-send : AtRest w
         → MaySend (side w (nextEnd (view .endpoint (w .client .self))) .self) (nextCall (view .endpoint (w .client .self)))

@@ -1,12 +1,12 @@
 -- `endpoint::each_fits` meets its contract: the loop keeps the test of every entry below i, and the sum of their types.
 -- Assumes nothing.
 use mathlib.Core.Path.{_∙_, _≡_, ap, ap₂, refl, sym}
-use Prim.Native.Nat.{_+_, _*_, _-_, _≤_, _<_, ℕ}
+use Prim.Native.Nat.{_+_, _*_, _-_, _≤_, ℕ}
 use mathlib.Core.Bool.{Bool, _&&_}
 use native.Mathlib.Numerals.{add-one}
 use native.Mathlib.Omega.{arith}
 use lib.Dec.{eqb}
-use lib.ListN.{getD, length}
+use lib.ListN.{length}
 use borrow.Author.Needs.{needs}
 use Rattle.bytes_be.specs.Part.{tabulate}
 use Rattle.endpoint.specs.declared.Entry.{Entry}
