@@ -106,6 +106,6 @@ module _ (f g : ℕ → Entry) (entry : Entry) where
     where
       go : (t : Bool) → unconfirmed < capacity → reports (g w ∷ []) ≡ cond t 1 0
           → reports (tabulate 0 (w + 1) g) ≡ unconfirmed + reports (g w ∷ [])
-          → cond (t && ltb unconfirmed capacity) (unconfirmed + 1) unconfirmed ≡ reports (tabulate 0 (w + 1) g)
+          → cond (ltb unconfirmed capacity && t) (unconfirmed + 1) unconfirmed ≡ reports (tabulate 0 (w + 1) g)
       go true few one whole = simp (lt-ltb unconfirmed capacity few) (omega (arith, whole, one))
-      go false few none whole = omega (arith, whole, none)
+      go false few none whole = simp (lt-ltb unconfirmed capacity few) (omega (arith, whole, none))

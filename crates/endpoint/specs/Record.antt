@@ -168,7 +168,7 @@ atPhase e phase n =
 
 -- C-14, with an entry more and with one less: an entry of DATA counts, where fewer than sixteen do
 unfoldable pub unconfirmedWith : ℕ → Entry → ℕ
-unconfirmedWith unconfirmed entry = cond (ofData entry && ltb unconfirmed capacity) (unconfirmed + 1) unconfirmed
+unconfirmedWith unconfirmed entry = cond (ltb unconfirmed capacity && ofData entry) (unconfirmed + 1) unconfirmed
 
 unfoldable pub unconfirmedWithout : ℕ → Entry → ℕ
 unconfirmedWithout unconfirmed entry = cond (ofData entry) (unconfirmed - 1) unconfirmed

@@ -295,8 +295,10 @@ fn with_entry(entries: [u8; 48], w: u8, entry: Entry) -> [u8; 48]
 fn unconfirmed_with(unconfirmed: u8, entry: Entry) -> u8
     ensures { λ r. ⌜ r ≡ unconfirmedWith unconfirmed entry ⌝ }
 {
-    if (entry.message == 4) & (unconfirmed < 16) {
-        return unconfirmed + 1;
+    if unconfirmed < 16 {
+        if entry.message == 4 {
+            return unconfirmed + 1;
+        }
     }
     unconfirmed
 }
@@ -304,10 +306,10 @@ fn unconfirmed_with(unconfirmed: u8, entry: Entry) -> u8
 fn unconfirmed_without(unconfirmed: u8, entry: Entry) -> u8
     ensures { λ r. ⌜ r ≡ unconfirmedWithout unconfirmed entry ⌝ }
 {
-    if entry.message == 4 {
-        return less_one(unconfirmed);
+    if entry.message != 4 {
+        return unconfirmed;
     }
-    unconfirmed
+    less_one(unconfirmed)
 }
 
 // The endpoint with one confirmation more that is awaited, where there is room for it.

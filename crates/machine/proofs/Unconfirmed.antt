@@ -129,7 +129,10 @@ module _ (e : Endpoint) (sound : Sound e) where
   noop-asked : (ask : Bool) (type-data : ℕ) (after : Endpoint) → Keeps e after → ask && leb capacity (e .w) ≡ false
       → cond ask (asked after (record { message = 3; «type_data» = type-data })) after .unconfirmed ≡ e .unconfirmed
   unfolding unconfirmedWith
-  noop-asked true type-data after kept awaits = asked-counted (record { message = 3; «type_data» = type-data }) after kept (room true awaits refl)
+  noop-asked true type-data after kept awaits =
+      let free = room true awaits refl in
+      asked-counted (record { message = 3; «type_data» = type-data }) after kept free
+      ∙ simp (lt-ltb (e .unconfirmed) capacity (omega (arith, few, free)))
   noop-asked false type-data after kept awaits = kept .counts
 
   accepted-leaves : (call : Call) → notAllowed (sendRow e (outgoing e call)) ≡ false → isFull e (outgoing e call) ≡ false
