@@ -1,5 +1,6 @@
--- `Stored` has what stores one behind the other leave, `Entries` how the entries stand in their bytes, `Told` what a good record says,
--- `StaysGood` that it stays good, `Round` that loading and storing undo each other, `Awaited` that the entries are a queue.
+-- `Stored` has what stores one behind the other leave, `Entries` how the entries stand in their bytes, `Reports` how many of them are of DATA, `Types`
+-- that the sum of their types tells it, `Told` what a good record says, `StaysGood` that it stays good, `Round` that loading and storing undo each
+-- other and that byte 6 counts, `Awaited` that the entries are a queue.
 pub mod Stored
 pub mod Entries
 pub mod Reports

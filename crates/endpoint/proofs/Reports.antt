@@ -1,4 +1,4 @@
--- Of the confirmations awaited those that belong to DATA: how many there are, and what one more and one less make of it. Assumes nothing.
+-- Of the confirmations awaited those that belong to DATA: how many there are, and what one more and one less make of that. Assumes nothing.
 use mathlib.Core.Path.{_≡_, refl, sym, ap, _∙_}
 use Prim.Native.Nat.{ℕ, zero, suc, _+_, _-_, _≤_, _<_}
 use mathlib.Core.List.{List, [], _∷_, _++_}
@@ -12,23 +12,33 @@ use borrow.Author.Tests.{lt-ltb}
 use Rattle.bytes_be.specs.Part.{tabulate}
 use Rattle.bytes_be.proofs.Parts.{tabulate-more, tabulate-same}
 use Rattle.endpoint.specs.declared.Entry.{Entry}
-use Rattle.endpoint.specs.Record.{capacity, ofData, reportsIn, unconfirmedWith, unconfirmedWithout}
+use Rattle.endpoint.specs.Record.{capacity, ofData, readOff, reportsIn, unconfirmedWith, unconfirmedWithout}
 
--- those of two rows of entries, one behind the other
+-- what is read off two lists, one behind the other
+module _ {A : Type 0} (test : A → Bool) (number : A → ℕ) where
+  pub read-off-append : (a b : List A) → readOff test number (a ++ b) ≡ readOff test number a ++ readOff test number b
+  read-off-append [] b = refl
+  read-off-append (x ∷ rest) b = go (test x) (read-off-append rest b)
+    where
+      go : (t : Bool) {both : List ℕ} → both ≡ readOff test number rest ++ readOff test number b
+          → cond t (number x ∷ both) both ≡ cond t (number x ∷ readOff test number rest) (readOff test number rest) ++ readOff test number b
+      go true same = ap (λ (l : List ℕ). number x ∷ l) same
+      go false same = same
+
 pub reports-append : (a b : List Entry) → reportsIn (a ++ b) ≡ reportsIn a ++ reportsIn b
-reports-append [] b = refl
-reports-append (entry ∷ rest) b = go (ofData entry) (reports-append rest b)
-  where
-    go : (t : Bool) {both : List ℕ} → both ≡ reportsIn rest ++ reportsIn b
-        → cond t (entry .«type_data» ∷ both) both ≡ cond t (entry .«type_data» ∷ reportsIn rest) (reportsIn rest) ++ reportsIn b
-    go true same = ap (λ (l : List ℕ). entry .«type_data» ∷ l) same
-    go false same = same
+reports-append = read-off-append ofData (λ entry. entry .«type_data»)
+
+-- one element more
+pub tabulate-next : (f : ℕ → Entry) (count : ℕ) → tabulate 0 (suc count) f ≡ tabulate 0 count f ++ (f count ∷ [])
+tabulate-next f count =
+    let last : 0 + count ≡ count = omega arith in
+    ap (λ (k : ℕ). tabulate 0 k f) (sym (add-one count)) ∙ tabulate-more f 0 count ∙ ap (λ (k : ℕ). tabulate 0 count f ++ (f k ∷ [])) last
 
 -- how many
 abbrev pub reports : List Entry → ℕ
 reports entries = length (reportsIn entries)
 
-pub reports-of : (a b : List Entry) → reports (a ++ b) ≡ reports a + reports b
+reports-of : (a b : List Entry) → reports (a ++ b) ≡ reports a + reports b
 reports-of a b = ap length (reports-append a b) ∙ length-append (reportsIn a) (reportsIn b)
 
 -- of one entry, by its type alone
@@ -39,7 +49,7 @@ report-of entry = go (ofData entry)
     go true = refl
     go false = refl
 
-pub report-few : (entry : Entry) → reports (entry ∷ []) ≤ 1
+report-few : (entry : Entry) → reports (entry ∷ []) ≤ 1
 report-few entry = go (ofData entry) (report-of entry)
   where
     go : (t : Bool) → reports (entry ∷ []) ≡ cond t 1 0 → reports (entry ∷ []) ≤ 1
@@ -48,11 +58,7 @@ report-few entry = go (ofData entry) (report-of entry)
 
 module _ (f : ℕ → Entry) where
   pub reports-more : (count : ℕ) → reports (tabulate 0 (suc count) f) ≡ reports (tabulate 0 count f) + reports (f count ∷ [])
-  reports-more count =
-      let last : 0 + count ≡ count = omega arith in
-      ap (λ (k : ℕ). reports (tabulate 0 k f)) (sym (add-one count))
-      ∙ ap reports (tabulate-more f 0 count ∙ ap (λ (k : ℕ). tabulate 0 count f ++ (f k ∷ [])) last)
-      ∙ reports-of (tabulate 0 count f) (f count ∷ [])
+  reports-more count = ap reports (tabulate-next f count) ∙ reports-of (tabulate 0 count f) (f count ∷ [])
 
   -- at most all
   pub reports-few : (count : ℕ) → reports (tabulate 0 count f) ≤ count

@@ -1,4 +1,4 @@
--- Loading and storing undo each other, and what is loaded is good where the block is. Assumes nothing.
+-- Loading and storing undo each other, what is loaded is good where the block is, and byte 6 of a good block counts. Assumes nothing.
 use mathlib.Core.Path.{_∙_, _≡_, ap, refl, sym}
 use Prim.Native.Nat.{_%_, _+_, _<_, _^_, _≤_, ℕ}
 use mathlib.Core.List.{List, [], _++_, _∷_}

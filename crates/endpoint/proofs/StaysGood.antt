@@ -1,20 +1,19 @@
 -- A good record stays good in each way in which it changes, and keeps the size of its entries. Assumes nothing.
 use mathlib.Core.Path.{_∙_, _≡_, ap, refl, sym}
-use Prim.Native.Nat.{_<_, _≤_, suc, ℕ, _+_, _-_, _*_}
+use Prim.Native.Nat.{_<_, _≤_, suc, ℕ, _-_, _*_}
 use mathlib.Core.Bool.{Bool, _&&_, false, true, _||_, cond}
 use native.Mathlib.Omega.{arith}
 use lib.Dec.{leb, ltb, eqb}
 use lib.ListN.{getD, length}
 use borrow.Author.Tests.{lt-ltb, ltb-false, ltb-true, eq-eqb, eqb-true, ne-eqb}
 use Rattle.bytes_be.specs.Number.{fromBytes, fromBytesBehind, numberAt}
-use Rattle.bytes_be.specs.Part.{putAt}
 use Rattle.bytes_be.proofs.Numbers.{bytes-put}
 use Rattle.bytes_be.proofs.Parts.{length-put}
 use Rattle.bytes_be.proofs.Tests.{both-true}
 use Rattle.double.specs.Limit.{inLimits}
 use Rattle.endpoint.specs.declared.Endpoint.{Endpoint}
 use Rattle.endpoint.specs.declared.Entry.{Entry}
-use Rattle.endpoint.specs.Record.{atPhase, awaitable, capacity, client, closed, confirmed, countFits, entriesFit, entryFits, freshOf, good, goodFlow, isNone, limited, producer, server, shut, waitFits, asked, batch, entryAt, entryBytes, entryOf, fresh, idle, noEntries, opening, unconfirmedWith, unconfirmedWithout, without, withoutEntry}
+use Rattle.endpoint.specs.Record.{atPhase, awaitable, capacity, client, closed, confirmed, countFits, entriesFit, entryFits, freshOf, good, goodFlow, isNone, limited, producer, server, shut, waitFits, asked, batch, entryAt, entryBytes, fresh, idle, noEntries, oneLess, oneMore, opening, without, withoutEntry}
 use Rattle.endpoint.specs.Round.{Sized}
 use Rattle.endpoint.proofs.Entries.{bytes-entry, bytes-without, kept-before, kept-behind, kept-without, length-without, moved-up, type-put, zero-everywhere}
 use Rattle.endpoint.proofs.Reports.{reports-with, reports-without}
@@ -24,16 +23,6 @@ use Rattle.endpoint.proofs.Told.{awaitable-small, every-from, fits-at, 
 fewer-wait : (zero-wanted : Bool) (w : ℕ) → cond zero-wanted (eqb w 0) true ≡ true → cond zero-wanted (eqb (w - 1) 0) true ≡ true
 fewer-wait true w e = eq-eqb (w - 1) 0 (omega (arith, eqb-true w 0 e))
 fewer-wait false w e = refl
-
--- the record without entry i, which is one of the sixteen
-abbrev fewer : Endpoint → ℕ → Endpoint
-fewer e i =
-    record { role = e .role; flow = e .flow; phase = e .phase; w = e .w - 1; n = e .n; unconfirmed = unconfirmedWithout (e .unconfirmed) (entryOf e i); limit = e .limit; entries = withoutEntry (e .entries) i }
-
--- the record with an entry more behind the first W
-abbrev more : Endpoint → Entry → Endpoint
-more e entry =
-    record { role = e .role; flow = e .flow; phase = e .phase; w = e .w + 1; n = e .n; unconfirmed = unconfirmedWith (e .unconfirmed) entry; limit = e .limit; entries = putAt (e .entries) (3 * e .w) (entryBytes entry) }
 
 -- a fresh endpoint is good where role, flow and limit are in their ranges
 pub fresh-good : (role flow limit : ℕ) → leb client role && leb role server ≡ true → goodFlow flow && inLimits limit ≡ true →
@@ -115,34 +104,34 @@ module _ (e : Endpoint) (full : length (e .entries) ≡ 48) (g : good e ≡ true
     inside : i < 16
     inside = omega (arith, good-told e g .waits)
 
-    fewer-fits : (k : ℕ) → entryFits (fewer e i) k ≡ true
+    fewer-fits : (k : ℕ) → entryFits (oneLess e i) k ≡ true
     fewer-fits k = go (ltb k i) refl (ltb (suc k) (e .w)) refl
       where
-        go : (t : Bool) → ltb k i ≡ t → (u : Bool) → ltb (suc k) (e .w) ≡ u → entryFits (fewer e i) k ≡ true
+        go : (t : Bool) → ltb k i ≡ t → (u : Bool) → ltb (suc k) (e .w) ≡ u → entryFits (oneLess e i) k ≡ true
         go true before u _ =
             let h : k < i = ltb-true k i before in
-            fits-before (fewer e i) k (omega arith)
+            fits-before (oneLess e i) k (omega arith)
             ∙ ap (awaitable (e .flow)) (kept-without (e .entries) i full inside k h)
             ∙ sym (fits-before e k (omega arith))
             ∙ fits-at e full g k
         go false behind true below =
             let h : suc k < e .w = ltb-true (suc k) (e .w) below in
-            fits-before (fewer e i) k (omega arith)
+            fits-before (oneLess e i) k (omega arith)
             ∙ ap (awaitable (e .flow)) (moved-up (e .entries) i full inside k (ltb-false k i behind))
             ∙ sym (fits-before e (suc k) h)
             ∙ fits-at e full g (suc k)
         go false behind false above =
             let h : e .w ≤ suc k = ltb-false (suc k) (e .w) above in
-            fits-behind (fewer e i) k (omega arith)
+            fits-behind (oneLess e i) k (omega arith)
             ∙ ap isNone (moved-up (e .entries) i full inside k (ltb-false k i behind))
             ∙ sym (fits-behind e (suc k) h)
             ∙ fits-at e full g (suc k)
 
-    fewer-good : good (fewer e i) ≡ true
+    fewer-good : good (oneLess e i) ≡ true
     unfolding countFits waitFits entriesFit
     fewer-good =
         let told = good-told e g in
-        told-good (fewer e i)
+        told-good (oneLess e i)
         (record {
           roles = told .roles;
           flows = told .flows;
@@ -150,7 +139,7 @@ module _ (e : Endpoint) (full : length (e .entries) ≡ 48) (g : good e ≡ true
           waits = omega arith;
           counted = told .counted;
           waiting = fewer-wait (eqb (e .phase) fresh || eqb (e .phase) opening || eqb (e .phase) shut) (e .w) (told .waiting);
-          fitting = every-from capacity (entryFits (fewer e i)) (λ k h. fewer-fits k);
+          fitting = every-from capacity (entryFits (oneLess e i)) (λ k h. fewer-fits k);
           tallied =
               reports-without (entryAt (e .entries)) (entryAt (withoutEntry (e .entries) i)) i (kept-without (e .entries) i full inside)
               (moved-up (e .entries) i full inside) (e .w) (e .unconfirmed) waits (told .tallied);
@@ -166,40 +155,40 @@ module _ (e : Endpoint) (full : length (e .entries) ≡ 48) (g : good e ≡ true
   confirmed-good = without-good 0 (omega arith)
 
   module _ (entry : Entry) (early : idle ≤ e .phase) (late : e .phase ≤ batch) (awaits : awaitable (e .flow) entry ≡ true) where
-    more-fits : e .w < 16 → (i : ℕ) → entryFits (more e entry) i ≡ true
+    more-fits : e .w < 16 → (i : ℕ) → entryFits (oneMore e entry) i ≡ true
     unfolding awaitable
     more-fits room i = go (ltb i (e .w)) refl (ltb (e .w) i) refl
       where
-        go : (t : Bool) → ltb i (e .w) ≡ t → (u : Bool) → ltb (e .w) i ≡ u → entryFits (more e entry) i ≡ true
+        go : (t : Bool) → ltb i (e .w) ≡ t → (u : Bool) → ltb (e .w) i ≡ u → entryFits (oneMore e entry) i ≡ true
         go true before u _ =
             let h : i < e .w = ltb-true i (e .w) before in
-            fits-before (more e entry) i (omega arith)
+            fits-before (oneMore e entry) i (omega arith)
             ∙ ap (awaitable (e .flow)) (kept-before (e .entries) full (e .w) room entry i h)
             ∙ sym (fits-before e i h)
             ∙ fits-at e full g i
         go false _ true behind =
             let h : e .w < i = ltb-true (e .w) i behind in
-            fits-behind (more e entry) i (omega arith)
+            fits-behind (oneMore e entry) i (omega arith)
             ∙ ap isNone (kept-behind (e .entries) full (e .w) room entry i h)
             ∙ sym (fits-behind e i (omega arith))
             ∙ fits-at e full g i
         go false not-before false not-behind =
             let here : i ≡ e .w = omega (arith, ltb-false i (e .w) not-before, ltb-false (e .w) i not-behind) in
-            ap (entryFits (more e entry)) here
-            ∙ fits-before (more e entry) (e .w) (omega arith)
+            ap (entryFits (oneMore e entry)) here
+            ∙ fits-before (oneMore e entry) (e .w) (omega arith)
             ∙ ap (λ (message : ℕ). eqb message 3 || (eqb message 4 && eqb (e .flow) producer)) (type-put (e .entries) full (e .w) room entry)
             ∙ awaits
 
-    more-waits : waitFits (more e entry) ≡ true
+    more-waits : waitFits (oneMore e entry) ≡ true
     unfolding waitFits
     more-waits =
         simp (ne-eqb (e .phase) fresh (λ same. omega arith), ne-eqb (e .phase) opening (λ same. omega arith), ne-eqb (e .phase) shut (λ same. omega arith))
 
-    more-good : e .w < 16 → good (more e entry) ≡ true
+    more-good : e .w < 16 → good (oneMore e entry) ≡ true
     unfolding countFits entriesFit
     more-good room =
         let told = good-told e g in
-        told-good (more e entry)
+        told-good (oneMore e entry)
         (record {
           roles = told .roles;
           flows = told .flows;
@@ -207,9 +196,9 @@ module _ (e : Endpoint) (full : length (e .entries) ≡ 48) (g : good e ≡ true
           waits = omega arith;
           counted = told .counted;
           waiting = more-waits;
-          fitting = every-from capacity (entryFits (more e entry)) (λ i h. more-fits room i);
+          fitting = every-from capacity (entryFits (oneMore e entry)) (λ i h. more-fits room i);
           tallied =
-              reports-with (entryAt (e .entries)) (entryAt (more e entry .entries)) entry (e .w) (e .unconfirmed) room
+              reports-with (entryAt (e .entries)) (entryAt (oneMore e entry .entries)) entry (e .w) (e .unconfirmed) room
               (kept-before (e .entries) full (e .w) room entry) (type-put (e .entries) full (e .w) room entry) (told .tallied);
           bounded = told .bounded;
         })
@@ -219,7 +208,7 @@ module _ (e : Endpoint) (full : length (e .entries) ≡ 48) (g : good e ≡ true
     unfolding asked
     asked-good = go (ltb (e .w) capacity) refl
       where
-        go : (t : Bool) → ltb (e .w) capacity ≡ t → good (cond t (more e entry) e) ≡ true
+        go : (t : Bool) → ltb (e .w) capacity ≡ t → good (cond t (oneMore e entry) e) ≡ true
         go true room = more-good (ltb-true (e .w) capacity room)
         go false full = g
 
@@ -248,7 +237,7 @@ module _ (e : Endpoint) (sized : Sized e) where
   pub without-sized : (i : ℕ) → Sized (without e i)
   without-sized i = go (ltb i capacity) refl
     where
-      go : (t : Bool) → ltb i capacity ≡ t → Sized (cond t (fewer e i) e)
+      go : (t : Bool) → ltb i capacity ≡ t → Sized (cond t (oneLess e i) e)
       go true inside =
           record {
             full = length-without (e .entries) i (sized .full) (ltb-true i capacity inside);
@@ -260,7 +249,7 @@ module _ (e : Endpoint) (sized : Sized e) where
   unfolding confirmed
   confirmed-sized = without-sized 0
 
-  more-sized : (entry : Entry) → entry .message < 256 → Sized (more e entry)
+  more-sized : (entry : Entry) → entry .message < 256 → Sized (oneMore e entry)
   more-sized entry small =
       record {
         full = length-put (e .entries) (3 * e .w) (entryBytes entry) ∙ sized .full;
@@ -272,6 +261,6 @@ module _ (e : Endpoint) (sized : Sized e) where
   unfolding asked
   asked-sized entry awaits = go (ltb (e .w) capacity)
     where
-      go : (t : Bool) → Sized (cond t (more e entry) e)
+      go : (t : Bool) → Sized (cond t (oneMore e entry) e)
       go true = more-sized entry (awaitable-small (e .flow) entry awaits)
       go false = sized

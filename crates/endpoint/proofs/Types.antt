@@ -4,15 +4,13 @@ use Prim.Native.Nat.{ℕ, zero, suc, _+_, _-_, _*_, _≤_}
 use mathlib.Core.List.{List, [], _∷_, _++_}
 use mathlib.Core.Bool.{Bool, _&&_, _||_, cond, true, false, false≢true}
 use native.Mathlib.Omega.{arith}
-use native.Mathlib.Numerals.{add-one}
 use lib.Dec.{eqb}
 use borrow.Author.Tests.{eq-eqb, eqb-false, eqb-true, le-ltb, lt-ltb, ne-eqb}
 use Rattle.bytes_be.specs.Part.{tabulate}
-use Rattle.bytes_be.proofs.Parts.{tabulate-more}
 use Rattle.bytes_be.proofs.Tests.{both-true}
 use Rattle.endpoint.specs.declared.Entry.{Entry}
 use Rattle.endpoint.specs.Record.{awaitable, every, fits, isNone, ofData, producer}
-use Rattle.endpoint.proofs.Reports.{report-of, reports, reports-more}
+use Rattle.endpoint.proofs.Reports.{report-of, reports, reports-more, tabulate-next}
 
 abbrev pub typesIn : List Entry → ℕ
 typesIn [] = 0
@@ -23,11 +21,7 @@ types-last [] entry = omega arith
 types-last (first ∷ rest) entry = omega (arith, types-last rest entry)
 
 pub types-more : (f : ℕ → Entry) (count : ℕ) → typesIn (tabulate 0 (suc count) f) ≡ typesIn (tabulate 0 count f) + f count .message
-types-more f count =
-    let last : 0 + count ≡ count = omega arith in
-    ap (λ (k : ℕ). typesIn (tabulate 0 k f)) (sym (add-one count))
-    ∙ ap typesIn (tabulate-more f 0 count ∙ ap (λ (k : ℕ). tabulate 0 count f ++ (f k ∷ [])) last)
-    ∙ types-last (tabulate 0 count f) (f count)
+types-more f count = ap typesIn (tabulate-next f count) ∙ types-last (tabulate 0 count f) (f count)
 
 -- an entry that may be awaited, and one that is none
 awaited-type : (flow : ℕ) (entry : Entry) → awaitable flow entry ≡ true → entry .message ≡ 3 + reports (entry ∷ [])

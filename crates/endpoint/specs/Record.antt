@@ -65,13 +65,18 @@ noEntries = replicate 48 0
 abbrev pub awaited : Endpoint → List Entry
 awaited e = tabulate 0 (e .w) (entryAt (e .entries))
 
--- C-14: "how many of the awaited confirmations belong to DATA": the type-data of those of "type-4", in their order
+-- what is read off those elements of a list that pass a test, in their order
+abbrev pub readOff : {A : Type 0} → (A → Bool) → (A → ℕ) → List A → List ℕ
+readOff test number [] = []
+readOff test number (x ∷ rest) = cond (test x) (number x ∷ readOff test number rest) (readOff test number rest)
+
+-- C-14: an entry "of type-4"
 abbrev pub ofData : Entry → Bool
 ofData entry = eqb (entry .message) 4
 
+-- "how many of the awaited confirmations belong to DATA": those that do, by their type-data
 abbrev pub reportsIn : List Entry → List ℕ
-reportsIn [] = []
-reportsIn (entry ∷ rest) = cond (ofData entry) (entry .«type_data» ∷ reportsIn rest) (reportsIn rest)
+reportsIn entries = readOff ofData (λ entry. entry .«type_data») entries
 
 -- "A block is good if these ranges hold"
 abbrev pub goodFlow : ℕ → Bool
@@ -120,6 +125,11 @@ entriesFit e = every capacity (entryFits e)
 unfoldable pub unconfirmedFits : Endpoint → Bool
 unconfirmedFits e = eqb (e .unconfirmed) (length (reportsIn (awaited e)))
 
+-- both tests of the entries, of these 48 bytes, with this flow, this W and this count
+abbrev pub allFit : List ℕ → ℕ → ℕ → ℕ → Bool
+allFit entries flow w unconfirmed =
+    every capacity (λ i. fits flow w (entryAt entries i) i) && eqb unconfirmed (length (reportsIn (tabulate 0 w (entryAt entries))))
+
 -- "A block is good if .."; "limit is 1,000,000..50,000,000"
 unfoldable pub good : Endpoint → Bool
 good e = inRanges e && countFits e && waitFits e && entriesFit e && unconfirmedFits e && inLimits (e .limit)
@@ -166,18 +176,18 @@ unfoldable pub atPhase : Endpoint → ℕ → ℕ → Endpoint
 atPhase e phase n =
     record { role = e .role; flow = e .flow; phase = phase; w = e .w; n = n; unconfirmed = e .unconfirmed; limit = e .limit; entries = e .entries }
 
--- C-14, with an entry more and with one less: an entry of DATA counts, where fewer than sixteen do
+-- C-14, with an entry more and with one less: an entry of DATA counts, and one that is taken out counts no more. Above sixteen and below zero
+-- the count does not go, which no good record comes to.
 unfoldable pub unconfirmedWith : ℕ → Entry → ℕ
 unconfirmedWith unconfirmed entry = cond (ltb unconfirmed capacity && ofData entry) (unconfirmed + 1) unconfirmed
 
 unfoldable pub unconfirmedWithout : ℕ → Entry → ℕ
 unconfirmedWithout unconfirmed entry = cond (ofData entry) (unconfirmed - 1) unconfirmed
 
--- "An ask adds an entry", where there is room for one more
-unfoldable pub asked : Endpoint → Entry → Endpoint
-asked e entry =
-    cond (ltb (e .w) capacity)
-    (record {
+-- the same endpoint with an entry more behind the first W
+abbrev pub oneMore : Endpoint → Entry → Endpoint
+oneMore e entry =
+    record {
       role = e .role;
       flow = e .flow;
       phase = e .phase;
@@ -186,8 +196,11 @@ asked e entry =
       unconfirmed = unconfirmedWith (e .unconfirmed) entry;
       limit = e .limit;
       entries = putAt (e .entries) (3 * e .w) (entryBytes entry);
-    })
-    e
+    }
+
+-- "An ask adds an entry", where there is room for one more
+unfoldable pub asked : Endpoint → Entry → Endpoint
+asked e entry = cond (ltb (e .w) capacity) (oneMore e entry) e
 
 -- entry i of the record, of three zeros where i is 16 or more
 abbrev pub entryOf : Endpoint → ℕ → Entry
@@ -201,11 +214,10 @@ oldest e = entryOf e 0
 abbrev pub withoutEntry : List ℕ → ℕ → List ℕ
 withoutEntry entries i = take (3 * i) entries ++ drop (3 * i + 3) entries ++ (0 ∷ 0 ∷ 0 ∷ [])
 
--- "it removes it": the same endpoint without entry i, and W one less, where i is below 16; else the endpoint as it is
-abbrev pub without : Endpoint → ℕ → Endpoint
-without e i =
-    cond (ltb i capacity)
-    (record {
+-- the same endpoint without entry i: W is one less, and the count where that entry is of DATA
+abbrev pub oneLess : Endpoint → ℕ → Endpoint
+oneLess e i =
+    record {
       role = e .role;
       flow = e .flow;
       phase = e .phase;
@@ -214,8 +226,11 @@ without e i =
       unconfirmed = unconfirmedWithout (e .unconfirmed) (entryOf e i);
       limit = e .limit;
       entries = withoutEntry (e .entries) i;
-    })
-    e
+    }
+
+-- "it removes it", where i is below 16; else the endpoint as it is
+abbrev pub without : Endpoint → ℕ → Endpoint
+without e i = cond (ltb i capacity) (oneLess e i) e
 
 -- "it removes it", the oldest
 unfoldable pub confirmed : Endpoint → Endpoint

@@ -3,10 +3,10 @@ ghost use mathlib.Core.Path.{_≡_};
 ghost use Prim.Native.Nat.{_+_, _-_, _*_, _≤_, _<_};
 ghost use mathlib.Core.Bool.{cond, _&&_};
 ghost use lib.ListN.{length};
-ghost use lib.Dec.{eqb, leb};
-ghost use Rattle.bytes_be.specs.Part.{part, putAt, tabulate};
+ghost use lib.Dec.{leb};
+ghost use Rattle.bytes_be.specs.Part.{part, putAt};
 ghost use Rattle.double.specs.Limit.{inLimits};
-ghost use Rattle.endpoint.specs.Record.{entryBytes, entryAt, noEntries, inRanges, countFits, waitFits, isNone, awaitable, fits, every, reportsIn, unconfirmedWith, unconfirmedWithout, good as Record·good, givenOf, givenNumber, freshOf, freshClient, freshServer, noEndpoint, madeOf, closed as Record·closed, atPhase, asked as Record·asked, entryOf, withoutEntry, without as Record·without, confirmed as Record·confirmed, limited as Record·limited, oldest as Record·oldest};
+ghost use Rattle.endpoint.specs.Record.{entryBytes, entryAt, noEntries, inRanges, countFits, waitFits, isNone, awaitable, fits, every, allFit, unconfirmedWith, unconfirmedWithout, good as Record·good, givenOf, givenNumber, freshOf, freshClient, freshServer, noEndpoint, madeOf, closed as Record·closed, atPhase, asked as Record·asked, entryOf, withoutEntry, without as Record·without, confirmed as Record·confirmed, limited as Record·limited, oldest as Record·oldest};
 ghost use Rattle.endpoint.specs.Block.{headBytes, bytesOf, recordIn, spareIsZero, loadOf};
 
 // A confirmation that is awaited.
@@ -112,10 +112,10 @@ fn type_in(entry: Entry) -> u16
     entry.message as u16
 }
 
-// The first W entries that fit are of type 3 or 4 and the others of type 0, so the sum of the types tells how many are of type 4.
+// Whether each entry fits, and `unconfirmed` of them are of DATA: the first W that fit have type 3 or 4 and the others 0, so the sum of the types tells.
 fn each_fits(entries: [u8; 48], flow: u8, w: u8, unconfirmed: u8) -> bool
     requires { ⌜ w ≤ 16 ⌝ }
-    ensures { λ r. ⌜ r ≡ every 16 (λ i. fits flow w (entryAt entries i) i) && eqb unconfirmed (length (reportsIn (tabulate 0 w (entryAt entries)))) ⌝ }
+    ensures { λ r. ⌜ r ≡ allFit entries flow w unconfirmed ⌝ }
 {
     let mut fit = true;
     let mut types = 0;
@@ -143,10 +143,9 @@ fn none_awaited(entries: [u8; 48]) -> bool
     zero
 }
 
-// Whether each entry fits, and as many as are told are of DATA.
 fn entries_fit(entries: [u8; 48], flow: u8, w: u8, unconfirmed: u8) -> bool
     requires { ⌜ w ≤ 16 ⌝ }
-    ensures { λ r. ⌜ r ≡ every 16 (λ i. fits flow w (entryAt entries i) i) && eqb unconfirmed (length (reportsIn (tabulate 0 w (entryAt entries)))) ⌝ }
+    ensures { λ r. ⌜ r ≡ allFit entries flow w unconfirmed ⌝ }
 {
     if w == 0 {
         return none_awaited(entries) & (unconfirmed == 0);
@@ -160,12 +159,19 @@ fn in_limits(limit: u32) -> bool
     (1000000 <= limit) & (limit <= 50000000)
 }
 
+// Whether all but the entries and their count is as it should be.
+fn numbers_fit(e: Endpoint) -> bool
+    ensures { λ r. ⌜ r ≡ inRanges e && countFits e && waitFits e && inLimits (e .limit) ⌝ }
+{
+    in_ranges(e) & count_fits(e) & wait_fits(e) & in_limits(e.limit)
+}
+
 // Whether a record is good.
 pub fn good(e: Endpoint) -> bool
     ensures { λ r. ⌜ r ≡ Record·good e ⌝ }
 {
-    let ranges = in_ranges(e) & count_fits(e) & wait_fits(e) & in_limits(e.limit);
-    if ranges {
+    let fit = numbers_fit(e);
+    if fit {
         let entries = e.entries;
         return entries_fit(entries, e.flow, e.w, e.unconfirmed);
     }
@@ -364,7 +370,7 @@ fn without_entry(entries: [u8; 48], i: usize) -> [u8; 48]
     rest
 }
 
-// The endpoint without entry i, and with W one less, where i is below 16.
+// The endpoint without entry i, with W one less, and the count one less where that entry is of DATA, where i is below 16.
 pub fn without(e: Endpoint, i: usize) -> Endpoint
     ensures { λ r. ⌜ r ≡ Record·without e i ⌝ }
 {

@@ -1,4 +1,4 @@
--- `endpoint::good` meets its contract: the entries are tested where all else is in its ranges.
+-- `endpoint::good` meets its contract: the entries are tested where all else fits.
 -- Assumes nothing.
 use mathlib.Core.Path.{_∙_, _≡_, ap, refl, sym}
 use Prim.Native.Nat.{_≤_}
@@ -13,9 +13,9 @@ use Rattle.endpoint.specs.Record.{capacity, client, countFits, entriesFi
 use Rattle.endpoint.proofs.good.Statement.{statement}
 use Rattle.endpoint.proofs.good.Tie as tie
 
--- the tests in another order
-abbrev ranges : Endpoint → Bool
-ranges e = inRanges e && countFits e && waitFits e && inLimits (e .limit)
+-- all tests but those of the entries
+abbrev numbersFit : Endpoint → Bool
+numbersFit e = inRanges e && countFits e && waitFits e && inLimits (e .limit)
 
 reordered : (a b c d : Bool) → (a && d) && (b && c) ≡ a && b && c && d
 reordered true true true true = refl
@@ -26,11 +26,11 @@ reordered true false c true = refl
 reordered true false c false = refl
 reordered false b c d = refl
 
-good-ranges : (e : Endpoint) → ranges e && (entriesFit e && unconfirmedFits e) ≡ good e
+good-reordered : (e : Endpoint) → numbersFit e && (entriesFit e && unconfirmedFits e) ≡ good e
 unfolding good
-good-ranges e = reordered (inRanges e && countFits e && waitFits e) (entriesFit e) (unconfirmedFits e) (inLimits (e .limit))
+good-reordered e = reordered (inRanges e && countFits e && waitFits e) (entriesFit e) (unconfirmedFits e) (inLimits (e .limit))
 
-few-awaited : (e : Endpoint) → ranges e ≡ true → e .w ≤ 16
+few-awaited : (e : Endpoint) → numbersFit e ≡ true → e .w ≤ 16
 unfolding inRanges
 few-awaited e fit =
     let p = both-true (inRanges e && countFits e && waitFits e) (inLimits (e .limit)) fit in
@@ -39,51 +39,24 @@ few-awaited e fit =
     let first : Bool = leb client (e .role) && leb (e .role) server && goodFlow (e .flow) && leb (e .phase) shut in
     leb-true (e .w) capacity (both-true first (leb (e .w) capacity) (r .0) .1)
 
-in-ranges-requires : tie.Need-in-ranges-requires
-in-ranges-requires c κs = search needs
-
-count-fits-requires : tie.Need-count-fits-requires
-count-fits-requires c κs = search needs
-
-wait-fits-requires : tie.Need-wait-fits-requires
-wait-fits-requires c κs = search needs
-
-in-limits-requires : tie.Need-in-limits-requires
-in-limits-requires c κs = search needs
+numbers-fit-requires : tie.Need-numbers-fit-requires
+numbers-fit-requires c κs = search needs
 
 entries-fit-requires : tie.Need-entries-fit-requires
-entries-fit-requires c κs =
-    let tested = c .before .before in
-    let e = c .before .before .before .before .before .before .args .e in
-    let fit : ranges e ≡ true =
-    simp (← (tested .in-limits .ensures), ← (tested .before .wait-fits .ensures), ← (tested .before .before .count-fits .ensures), ← (tested .before .before .before .in-ranges .ensures)) (c .before .if1 .taken) in
-    few-awaited e fit
+entries-fit-requires c κs = few-awaited (c .before .before .before .args .e) (sym (c .before .before .numbers-fit .ensures) ∙ c .before .if1 .taken)
 
 returns : tie.Need-returns
 unfolding entriesFit entryFits unconfirmedFits
 returns c =
-    let tested = c .before .before .before in
-    let e = c .before .before .before .before .before .before .before .args .e in
-    let fit : ranges e ≡ true =
-    simp (← (tested .in-limits .ensures), ← (tested .before .wait-fits .ensures), ← (tested .before .before .count-fits .ensures), ← (tested .before .before .before .in-ranges .ensures)) (c .before .before .if1 .taken) in
-    c .entries-fit .ensures ∙ sym (ap (λ (t : Bool). t && (entriesFit e && unconfirmedFits e)) fit) ∙ good-ranges e
+    let e = c .before .before .before .before .args .e in
+    let fit = sym (c .before .before .before .numbers-fit .ensures) ∙ c .before .before .if1 .taken in
+    c .entries-fit .ensures ∙ sym (ap (λ (t : Bool). t && (entriesFit e && unconfirmedFits e)) fit) ∙ good-reordered e
 
 returns-2 : tie.Need-returns-2
 returns-2 c =
-    let tested = c .before in
-    let e = c .before .before .before .before .before .args .e in
-    let unfit : ranges e ≡ false =
-    simp (← (tested .in-limits .ensures), ← (tested .before .wait-fits .ensures), ← (tested .before .before .count-fits .ensures), ← (tested .before .before .before .in-ranges .ensures)) (c .if1 .left) in
-    sym (ap (λ (t : Bool). t && (entriesFit e && unconfirmedFits e)) unfit) ∙ good-ranges e
+    let e = c .before .before .args .e in
+    let unfit = sym (c .before .numbers-fit .ensures) ∙ c .if1 .left in
+    sym (ap (λ (t : Bool). t && (entriesFit e && unconfirmedFits e)) unfit) ∙ good-reordered e
 
 pub good-spec : {M : Type 1} → statement M
-good-spec =
-    tie.close
-    (tie.spec
-    in-ranges-requires
-    count-fits-requires
-    wait-fits-requires
-    in-limits-requires
-    entries-fit-requires
-    returns
-    returns-2)
+good-spec = tie.close (tie.spec numbers-fit-requires entries-fit-requires returns returns-2)

@@ -1,8 +1,9 @@
 -- `endpoint::unconfirmed_with` meets its contract: where fewer than sixteen are counted, an entry of DATA is one more.
 -- Assumes nothing.
+use Prim.Native.Nat.{_<_}
 use borrow.Author.Needs.{needs}
 use borrow.Author.Tests.{eq-eqb, le-ltb, lt-ltb, ne-eqb}
-use Rattle.endpoint.specs.Record.{unconfirmedWith}
+use Rattle.endpoint.specs.Record.{capacity, unconfirmedWith}
 use Rattle.endpoint.proofs.unconfirmed_with.Statement.{statement}
 use Rattle.endpoint.proofs.unconfirmed_with.Tie as tie
 
@@ -11,11 +12,15 @@ add-result c = search needs
 
 returns : tie.Need-returns
 unfolding unconfirmedWith
-returns c = simp (lt-ltb _ _ (c .before .before .if1 .taken), eq-eqb _ _ (c .if2 .taken))
+returns c =
+    let few : c .before .before .before .args .unconfirmed < capacity = search needs in
+    simp (lt-ltb _ _ few, eq-eqb _ _ (c .if2 .taken))
 
 returns-2 : tie.Need-returns-2
 unfolding unconfirmedWith
-returns-2 c = simp (lt-ltb _ _ (c .before .before .if1 .taken), ne-eqb _ _ (c .if2 .left))
+returns-2 c =
+    let few : c .before .before .before .args .unconfirmed < capacity = search needs in
+    simp (lt-ltb _ _ few, ne-eqb _ _ (c .if2 .left))
 
 returns-3 : tie.Need-returns-3
 unfolding unconfirmedWith
