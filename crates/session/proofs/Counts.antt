@@ -17,9 +17,9 @@ use Rattle.endpoint.proofs.Told.{good-told}
 use Rattle.sending.specs.Calls.{Datum, Call, messageOf, typeDataOf, OPEN, READY, DATA, NOOP, CLOSE}
 use Rattle.machine.specs.Good.{Sound}
 use Rattle.machine.specs.Programs.{Queued}
-use Rattle.session.specs.World.{End, across, Ending, History, dataSent, readyCount, recentAfter, nothingBrought, afterCall, afterMessage, Client, Server}
+use Rattle.session.specs.World.{End, across, Ending, History, dataSent, readyCount, recentAfter, afterCall, afterMessage, Client, Server}
 use Rattle.session.specs.Packets.{Packet, rowMessage, typeDataIn, dataIn, readyIn, Called, Confirms, Closes}
-use Rattle.session.specs.Confirmations.{broughtIn}
+use Rattle.session.specs.Confirmations.{broughtIn, nothingBrought}
 use Rattle.session.specs.Turns.{roleOf}
 use Rattle.session.specs.Demand.{agreed, offersAt, sum, newest, nonZero, EachAtMost}
 use Rattle.session.specs.Invariant.{left, Within, OffersTaken, Counted}

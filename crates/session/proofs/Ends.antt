@@ -19,11 +19,11 @@ use Rattle.machine.proofs.Rows.{closed-sound}
 use Rattle.machine.specs.Good.{Sound}
 use Rattle.machine.specs.Programs.{Making, AsClient, AsServer, freshBy, Queued, SendOutcome}
 use Rattle.session.specs.World.{End, Makings, makingOf, noHistory, made, Client, Server, across, Ending, Side, endedBy, afterCall}
-use Rattle.session.specs.World.{Brought, nothingBrought, afterMessage, Going, HeardClose, WroteClose}
+use Rattle.session.specs.World.{Brought, afterMessage, Going, HeardClose, WroteClose}
 use Rattle.session.specs.Packets.{Packet, dataIn, readyIn, queuedIn, rowMessage, typeDataIn, Called, Confirms, Closes}
 use Rattle.session.specs.Turns.{roleOf, Standing, nothing, empty, ahead}
 use Rattle.session.specs.Demand.{agreed, offersAt, Ledger, nothingDue, Fresh, PhaseFits, producing}
-use Rattle.session.specs.Confirmations.{Accounts, Awaits, broughtIn, confirmsIn}
+use Rattle.session.specs.Confirmations.{Accounts, Awaits, broughtIn, confirmsIn, nothingBrought}
 use Rattle.session.specs.Invariant.{Within, OffersTaken, Delivers, Knows, Model, flowAt, Settled, OneEnd, Linked, Joint, source, Proper, AllProper}
 use Rattle.session.specs.Laws.{answersIn, Comes, limitAfter, SentOn}
 use Rattle.session.proofs.Table.{Moved, opens, offers, takes, gives, rests, closes, row-moved, moved-low, Landed, goes-on, closes-both}

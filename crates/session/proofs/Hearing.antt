@@ -9,6 +9,7 @@ use lib.Dec.{eqb}
 use lib.ListN.{length, length-append}
 use borrow.Author.Tests.{eqb-true}
 use Rattle.bytes_be.specs.Part.{same}
+use Rattle.bytes_be.proofs.Sameness.{equal-same}
 use Rattle.bytes_be.proofs.Tests.{both-true, clash}
 use Rattle.control.specs.declared.MessageType.{MessageType}
 use Rattle.control.specs.declared.MessageType.the-variants.{Open, Ready, Noop, Data, Close}
@@ -25,14 +26,14 @@ use Rattle.table.specs.Table.{other, rowOf}
 use Rattle.sending.specs.Calls.{Call, OPEN, READY, DATA, NOOP, CLOSE, askOf, messageOf, typeDataOf}
 use Rattle.machine.specs.Programs.{Queued, nothingTold, ReceiveOutcome}
 use Rattle.machine.specs.Runs.{asReply}
-use Rattle.session.specs.World.{End, across, Makings, Ending, Side, dataTold, readyTold, askedFor, confirmedTold, nothingBrought, broughtBy, confirmsBy}
+use Rattle.session.specs.World.{End, across, Makings, Ending, Side, dataTold, readyTold, askedFor, confirmedTold, broughtBy, confirmsBy}
 use Rattle.session.specs.World.{endedBy, endedAfter, withQueue, viewedSide, Client}
 use Rattle.session.specs.World.{Server, Going, HeardClose, WroteClose}
 use Rattle.session.specs.Packets.{Packet, queuedIn, bytesIn, toldIn, rowMessage, typeDataIn, dataIn, readyIn, Called, Confirms, Closes}
 use Rattle.session.specs.Turns.{roleOf, Kind, kindOf, Stage, stageOf, Standing, stands, standing, IsOpen, Hears, Converge}
 use Rattle.session.specs.Turns.{Moves, Stays, Ends, At, ClosedByItself, moved, rested, closed as Hears·closed}
 use Rattle.session.specs.Demand.{Ledger, producing, turn}
-use Rattle.session.specs.Confirmations.{askedIn, broughtIn, confirmedIn, confirmsIn}
+use Rattle.session.specs.Confirmations.{askedIn, broughtIn, confirmedIn, confirmsIn, nothingBrought}
 use Rattle.session.specs.Invariant.{Knows, Model, source, Proper, OneEnd, Linked}
 use Rattle.session.proofs.Table.{Sends, calms, Moved, opens, gives, row-moved, row-hears, other-role, phaseIn, nIn, leads-alive, leads-active}
 use Rattle.session.proofs.Turns.{across-differs, sends-converge, refuses-converge}
@@ -89,7 +90,7 @@ answers-none prompt taken none (Called e call) = go (askOf call) (prompt (messag
 answers-none prompt taken none (Confirms message type-data) = refl
 answers-none prompt taken none (Closes code) = refl
 
--- an end that replies to DATA that asks confirms it
+-- an end that replies to DATA that asks with its confirmation confirms it
 answers-confirm : (prompt : MessageType → Bool) (m : Packet)
     → confirmsBy (broughtIn m) (map queuedIn (answersIn prompt m)) ≡ flatMap confirmsIn (answersIn prompt m)
 unfolding flatMap
@@ -100,9 +101,10 @@ answers-confirm prompt (Called e (DATA datum)) = go (datum .ask) (prompt Data)
     replies : Bool → Bool → List Packet
     replies ask at-once = cond ask (cond at-once (Confirms Data (datum .type-data) ∷ []) []) []
 
-    go : (ask at-once : Bool) → cond (eqb (length (map queuedIn (replies ask at-once))) 0) [] (cond ask (datum .type-data ∷ []) [])
+    go : (ask at-once : Bool)
+        → confirmsBy (broughtIn (Called e (DATA (record { type-data = datum .type-data; ask = ask; body = datum .body })))) (map queuedIn (replies ask at-once))
         ≡ flatMap confirmsIn (replies ask at-once)
-    go true true = refl
+    go true true = rw (equal-same (bytesIn (Confirms Data (datum .type-data)))) refl
     go true false = refl
     go false at-once = refl
 answers-confirm prompt (Called e (NOOP type-data ask)) = go ask (prompt Noop)
@@ -110,7 +112,8 @@ answers-confirm prompt (Called e (NOOP type-data ask)) = go ask (prompt Noop)
     replies : Bool → Bool → List Packet
     replies asks at-once = cond asks (cond at-once (Confirms Noop type-data ∷ []) []) []
 
-    go : (asks at-once : Bool) → cond {A = List ℕ} (eqb (length (map queuedIn (replies asks at-once))) 0) [] [] ≡ flatMap confirmsIn (replies asks at-once)
+    go : (asks at-once : Bool) → confirmsBy (broughtIn (Called e (NOOP type-data ask))) (map queuedIn (replies asks at-once))
+        ≡ flatMap confirmsIn (replies asks at-once)
     go true true = refl
     go true false = refl
     go false at-once = refl

@@ -17,7 +17,7 @@ use Rattle.session.specs.Turns.{Stage, stageOf, Standing, Listens, stand
 use Rattle.session.specs.Demand.{MaySend, MayAnswer, PhaseFits, agreed, sum, nextEnd, nextCall, AtRest, Holds}
 use Rattle.session.specs.Invariant.{Model, Delivers, source, Linked, Joint, Invariant}
 use Rattle.session.specs.Packets.{Packet, queuedIn, dataIn, readyIn}
-use Rattle.session.specs.Confirmations.{askedIn, confirmedIn}
+use Rattle.session.specs.Confirmations.{askedIn, confirmedIn, confirmsIn}
 use Rattle.session.proofs.Turns.{rests-converge, shut-across, shut-converge, close-converge}
 use Rattle.session.proofs.Step.{seen-from}
 use Rattle.session.proofs.Accounts.{accounts-hold, is-open}
@@ -139,10 +139,12 @@ module _ {A : Type 0} {model : Model A} (w : World A) (holds : Invariant model w
 
   all-arrived : (side w end .past .ending ≡ WroteClose → ⊥) → side w (across end) .queue ≡ []
       → (side w end .past .accepted ≡ side w (across end) .past .sent) × (side w end .past .readies-heard ≡ side w (across end) .past .readies)
+      × (side w end .past .confirmations-heard ≡ side w (across end) .past .confirmations)
   all-arrived still none =
       let listens = listens-still (seen-end end) still in
       let empty-queue = none-queued (at .from-across) (sym (at .linked .there .queued) ∙ none) in
-      (all-heard dataIn (at .linked .delivers-across) listens empty-queue, all-heard readyIn (at .linked .readies-across) listens empty-queue)
+      (all-heard dataIn (at .linked .delivers-across) listens empty-queue, all-heard readyIn (at .linked .readies-across) listens empty-queue,
+      all-heard confirmsIn (at .linked .confirmations-across) listens empty-queue)
 
 -- the clauses on answers, on room and on what may be sent, and with them all
 module _ {A O : Type 0} (prog : Program A O) (model : Model A) (w : World A) (holds : Invariant model w) where

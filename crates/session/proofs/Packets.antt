@@ -13,7 +13,7 @@ use Rattle.control.specs.declared.MessageType.the-variants.{Open, Ready, Noop, 
 use Rattle.open.specs.Offer.{Offer}
 use Rattle.endpoint.specs.declared.Endpoint.{Endpoint}
 use Rattle.endpoint.specs.declared.Entry.{Entry}
-use Rattle.endpoint.specs.Record.{asked, atPhase, awaited, capacity, closed, entryBytes, shut, unconfirmedWith}
+use Rattle.endpoint.specs.Record.{asked, atPhase, awaited, capacity, closed, oneMore, shut}
 use Rattle.endpoint.proofs.Awaited.{asked-awaited, phase-awaited}
 use Rattle.table.specs.declared.Row.{Row}
 use Rattle.table.specs.declared.Row.the-variants.{NotAllowed, AboveOffer, To}
@@ -107,20 +107,7 @@ module _ (e after : Endpoint) (phase n limit : ℕ) (comes : Comes e phase n lim
   unfolding asked
   asked-comes = go (ltb (after .w) capacity)
     where
-      more : Endpoint
-      more =
-          record {
-            role = after .role;
-            flow = after .flow;
-            phase = after .phase;
-            w = after .w + 1;
-            n = after .n;
-            unconfirmed = unconfirmedWith (after .unconfirmed) entry;
-            limit = after .limit;
-            entries = putAt (after .entries) (3 * after .w) (entryBytes entry);
-          }
-
-      go : (t : Bool) → Sound (cond t more after) → Comes e phase n limit (cond t more after)
+      go : (t : Bool) → Sound (cond t (oneMore after entry) after) → Comes e phase n limit (cond t (oneMore after entry) after)
       go true sound =
           record {
             sound = sound;

@@ -7,14 +7,14 @@ use native.Mathlib.Omega.{arith}
 use lib.ListN.{length, length-append}
 use Rattle.endpoint.specs.declared.Entry.{Entry}
 use Rattle.endpoint.specs.Record.{capacity, reportsIn}
-use Rattle.endpoint.proofs.Reports.{reports-append}
+use Rattle.endpoint.proofs.Reports.{read-off-append, reports-append}
 use Rattle.control.specs.declared.MessageType.the-variants.{Data}
 use Rattle.sending.specs.Calls.{Datum, Call, OPEN, READY, DATA, NOOP, CLOSE}
 use Rattle.machine.specs.Programs.{Queued}
-use Rattle.session.specs.World.{End, Ending, History, dataSent, askedFor, Brought, nothingBrought, confirmsBy, afterCall, afterMessage}
+use Rattle.session.specs.World.{End, Ending, History, dataSent, askedFor, Brought, confirmsBy, afterCall, afterMessage}
 use Rattle.session.specs.Packets.{Packet, Called, Confirms, Closes, dataIn}
 use Rattle.session.specs.Turns.{Stage, Standing, IsOpen, Listens, At, ClosedByItself, ClosedByOther}
-use Rattle.session.specs.Confirmations.{entryFor, askedIn, confirmedIn, confirmsIn, Accounts, Awaits}
+use Rattle.session.specs.Confirmations.{entryFor, askedIn, confirmedIn, confirmsIn, nothingBrought, Accounts, Awaits}
 use Rattle.session.specs.Invariant.{Delivers}
 use Rattle.session.specs.Laws.{Lines}
 
@@ -148,7 +148,7 @@ module _ (pick : List Entry → List Entry) where
     unfolding flatMap
     across-hears-awaits a b s m r left after balance keeps c = across-awaits a b s r (asks m) left after refl balance keeps c
 
--- data and READYs
+-- data, READYs and confirmations of DATA
 
 module _ {A : Type 0} (carried : Packet → List A) {sent heard : List A} {p : List Packet} where
   -- an end writes packets, and one, and some that carry nothing
@@ -190,14 +190,8 @@ module _ {A : Type 0} (carried : Packet → List A) {sent heard : List A} {p : L
 
 -- accounts
 
-pub asked-append : (a b : List Datum) → askedFor (a ++ b) ≡ askedFor a ++ askedFor b
-asked-append [] b = refl
-asked-append (datum ∷ rest) b = go (datum .ask) (asked-append rest b)
-  where
-    go : (t : Bool) {both : List ℕ} → both ≡ askedFor rest ++ askedFor b
-        → cond t (datum .type-data ∷ both) both ≡ cond t (datum .type-data ∷ askedFor rest) (askedFor rest) ++ askedFor b
-    go true same = ap (λ (l : List ℕ). datum .type-data ∷ l) same
-    go false same = same
+asked-append : (a b : List Datum) → askedFor (a ++ b) ≡ askedFor a ++ askedFor b
+asked-append = read-off-append (λ datum. datum .ask) (λ datum. datum .type-data)
 
 -- what a packet asks for of DATA is what it carries of data that ask
 pub asked-reports : (m : Packet) → reportsIn (askedIn m) ≡ askedFor (dataIn m)

@@ -32,9 +32,12 @@ confirmedIn (Closes code) = []
 abbrev pub confirmsIn : Packet → List ℕ
 confirmsIn m = reportsIn (confirmedIn m)
 
--- what it brings
+-- what it brings, and what a message brings of which nothing is told
 abbrev pub broughtIn : Packet → Brought
 broughtIn m = record { carried = dataIn m; readies = readyIn m; confirmed = confirmsIn m }
+
+abbrev pub nothingBrought : Brought
+nothingBrought = record { carried = []; readies = []; confirmed = [] }
 
 -- on one line, an end at a that wrote p awaits these entries: first those that q confirms, which the one at b wrote, then those that it owes, and
 -- then those that p asks for; once the other has closed, the latter two are lost
@@ -46,8 +49,8 @@ pub record Awaits (pick : List Entry → List Entry) (a : Standing) (entries : L
   -- and those still to be confirmed are never more than an end may await, whether or not it has closed since
   pub few : IsOpen b → length owes + length (flatMap (λ (m : Packet). pick (askedIn m)) p) ≤ capacity
 
--- C-14: of an end at a, the DATA that it sent with an ask are those whose confirmation it heard, and then those that it awaits; and of those
--- that it accepted with an ask the first are those that it confirmed, and then come those that it owes
+-- C-14: of an end at a, until it closes: the DATA that it sent with an ask are those whose confirmation it heard, and then those that it awaits;
+-- and those that it accepted with an ask are those that it confirmed, and then those that it owes. Those confirmed stay the first of them.
 pub record Accounts (a : Standing) (past : History) (awaits owes : List Entry) : Type 0 where
   pub awaited : IsOpen a → askedFor (past .sent) ≡ past .confirmations-heard ++ reportsIn awaits
   pub rest : List ℕ

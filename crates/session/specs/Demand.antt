@@ -95,10 +95,11 @@ EachAtMost (count ∷ rest) (most ∷ others) = (count ≤ most) × EachAtMost r
 
 -- C-14: "how many of the awaited confirmations belong to DATA", at an end that did and heard this, across from one that did and heard that
 pub record Accounted (here there : History) (e : Endpoint) : Type 0 where
-  -- of the DATA sent with an ask the first are those whose confirmation was heard; until the end closes, it awaits that of the others
+  -- until the end closes, the DATA that it sent with an ask are those whose confirmation it heard, and then those that it awaits
   pub waits-for-rest : here .ending ≡ Going → askedFor (here .sent) ≡ here .confirmations-heard ++ reportsIn (awaited e)
-  -- so the count is of those sent with an ask less those confirmed
+  -- so the count is of those sent with an ask less those confirmed; and a close clears it
   pub unconfirmed : here .ending ≡ Going → length (askedFor (here .sent)) ≡ length (here .confirmations-heard) + e .unconfirmed
+  pub cleared : (here .ending ≡ Going → ⊥) → e .unconfirmed ≡ 0
   -- a confirmation that is heard was sent, and what an end confirms it accepted with an ask, each in order
   pub confirmations-lead : IsPrefix (here .confirmations-heard) (there .confirmations)
   pub confirms-accepted : IsPrefix (here .confirmations) (askedFor (here .accepted))
@@ -174,8 +175,10 @@ module _ {A O : Type 0} (p : Program A O) (view : View A) where
     pub data-leads : (end : End) → IsPrefix (side w end .past .accepted) (side w (across end) .past .sent)
     pub readies-lead : (end : End) → IsPrefix (side w end .past .readies-heard) (side w (across end) .past .readies)
     -- and nothing is lost: an end that has not itself closed, and to which nothing is coming, has accepted all that was sent, and heard every READY
+    -- and every confirmation of DATA
     pub nothing-lost : (end : End) → (side w end .past .ending ≡ WroteClose → ⊥) → side w (across end) .queue ≡ []
         → (side w end .past .accepted ≡ side w (across end) .past .sent) × (side w end .past .readies-heard ≡ side w (across end) .past .readies)
+        × (side w end .past .confirmations-heard ≡ side w (across end) .past .confirmations)
     -- "and never more than the batches agreed": in all of them, by either end's count, and in the newest, at the end that accepts; a batch that is over
     -- was the newest until the READY that began the next, so this holds of each
     pub within : length (w .client .past .accepted) + length (w .server .past .accepted) ≤ sum (agreed Client (w .client .past))

@@ -7,10 +7,14 @@ use mathlib.Core.List.{List, [], _∷_, _++_}
 use mathlib.Core.Bool.{cond, not, _&&_, _||_}
 use lib.Dec.{eqb}
 use lib.ListN.{length}
+use Rattle.bytes_be.specs.Part.{same}
 use Rattle.control.specs.declared.MessageType.{MessageType}
 use Rattle.control.specs.declared.MessageType.the-variants.{Open, Ready, Noop, Data, Close}
 use Rattle.control.specs.Frame.{ackRequest, ackReply, typeOf}
 use Rattle.open.specs.Offer.{Offer}
+use Rattle.endpoint.specs.Record.{readOff}
+use Rattle.receiving.specs.declared.Reply.the-variants.{Frame}
+use Rattle.receiving.specs.Receiving.{replyBytes}
 use Rattle.sending.specs.Calls.{Datum, Call, OPEN, READY, DATA, NOOP, CLOSE, messageOf, typeDataOf}
 use Rattle.machine.specs.Good.{Fits}
 use Rattle.machine.specs.Programs.{Making, AsClient, AsServer, Queued, Told, Program}
@@ -84,8 +88,7 @@ dataTold told =
 
 -- the type-data of the data that ask for a confirmation
 abbrev pub askedFor : List Datum → List ℕ
-askedFor [] = []
-askedFor (datum ∷ rest) = cond (datum .ask) (datum .type-data ∷ askedFor rest) (askedFor rest)
+askedFor data-sent = readOff (λ datum. datum .ask) (λ datum. datum .type-data) data-sent
 
 -- the DATA whose confirmation is told: "DATA" with ACK-REPLY
 abbrev pub confirmedTold : Told → List ℕ
@@ -108,15 +111,14 @@ pub record Brought : Type 0 where
   pub readies : List ℕ
   pub confirmed : List ℕ
 
-abbrev pub nothingBrought : Brought
-nothingBrought = record { carried = []; readies = []; confirmed = [] }
-
 abbrev pub broughtBy : Told → Brought
 broughtBy told = record { carried = dataTold told; readies = readyTold told; confirmed = confirmedTold told }
 
--- what an end confirms that was brought this and replied these
+-- what an end confirms that was brought this and replied these: "the reply is the control frame with flags 2 for 1"
 abbrev pub confirmsBy : Brought → List Queued → List ℕ
-confirmsBy brought replied = cond (eqb (length replied) 0) [] (askedFor (brought .carried))
+confirmsBy brought [] = []
+confirmsBy brought (reply ∷ rest) =
+    readOff (λ type-data. same (reply .bytes) (replyBytes (Frame Data ackReply type-data))) (λ type-data. type-data) (askedFor (brought .carried))
 
 -- the data of the newest batch, after an end wrote these READYs: the client's begin a new one
 abbrev pub recentAfter : End → List ℕ → List Datum → List Datum

@@ -31,10 +31,10 @@ sender = atPhase (freshClient producer limit) batch 1
 abbrev hearer : Endpoint
 hearer = atPhase (limited (freshServer consumer) limit) batch 1
 
--- each end sent a READY and heard one
 abbrev offered : Brought
 offered = record { carried = []; readies = 1 ∷ []; confirmed = [] }
 
+-- each end sent a READY and heard one
 abbrev inBatch : Endpoint → Side Endpoint
 inBatch e = record { self = e; queue = []; past = afterMessage Server (afterCall Server noHistory (READY 1)) offered [] Going }
 
