@@ -2,20 +2,20 @@
 use mathlib.Core.Path.{_≡_, _∙_, ap, refl, sym}
 use Prim.Native.Nat.{ℕ, _+_, _≤_}
 use mathlib.Core.List.{List, []}
-use mathlib.Core.Bool.{true, cond}
+use mathlib.Core.Bool.{Bool, false, true, cond}
 use native.Mathlib.Omega.{arith}
 use lib.ListN.{length, take}
 use lib.Dec.{eqb}
 use lib.Seq.{take-all}
-use borrow.Author.Tests.{eqb-true, ne-eqb}
+use borrow.Author.Tests.{eqb-false, eqb-true, ne-eqb}
 use Rattle.bytes_be.proofs.Tests.{clash, took-first}
 use Rattle.bytes_be.specs.Part.{putAt}
 use Rattle.bytes_be.proofs.Parts.{length-put, part-put}
 use Rattle.open.specs.Offer.{Offer}
 use Rattle.endpoint.specs.declared.Endpoint.{Endpoint}
-use Rattle.endpoint.specs.Record.{givenOf, givenNumber, madeOf}
-use Rattle.endpoint.specs.Block.{bytesOf, loadOf}
-use Rattle.endpoint.proofs.Round.{block-told, byte-six-counts, loaded-good, stored-loads}
+use Rattle.endpoint.specs.Record.{givenOf, givenNumber, good, madeOf}
+use Rattle.endpoint.specs.Block.{bytesOf, isGood, loadOf}
+use Rattle.endpoint.proofs.Round.{block-told, byte-six-counts, loaded-good, loaded-sized, stored-loads}
 use Rattle.endpoint.proofs.Stored.{length-block}
 use Rattle.receiving.specs.declared.Answer.{Answer}
 use Rattle.receiving.specs.declared.Answer.the-variants.{Heard, Stays, Closes}
@@ -30,12 +30,13 @@ use Rattle.sending.specs.Sending.{leftBy, sendOf}
 use Rattle.sending.proofs.Decided.{accepted-passed, accepted-sent}
 use Rattle.machine.specs.Good.{Sound, Fits}
 use Rattle.machine.specs.Refusals.{DoesAs, saidBy}
+use Rattle.machine.proofs.Good.{heard-good, sent-good}
 use Rattle.machine.proofs.Refusals.{receive-does}
 use Rattle.machine.proofs.Stages.{uncoded}
 use Rattle.fbdp.specs.Slots.{answerSlots, heardSlots, slotsIn}
 use Rattle.fbdp.specs.Blocks.{MakeAnswer, makeNumber, SendOnBlock, ReceiveOnBlock, keptAfter, keptBy, replyLength, stays, stored}
 use Rattle.machine.specs.Programs.{Making, freshBy, toldOf, replies, outcomeOf, ReceiveOutcome, ignored, tables}
-use Rattle.entries.specs.Entries.{Entries, Meets, onBlocks, toldBy, receiveTold, repliesBy, TablesMeet, byTables, MadeAreFresh, DemandOnBlocks, ByteSixTells}
+use Rattle.entries.specs.Entries.{Entries, Meets, onBlocks, toldBy, receiveTold, repliesBy, TablesMeet, byTables, MadeAreFresh, DemandOnBlocks, GoodBlocksStayGood, ByteSixTells}
 use Rattle.session.specs.World.{side}
 use Rattle.session.specs.Demand.{promptLedger}
 use Rattle.session.specs.Laws.{onRecords}
@@ -73,6 +74,10 @@ module _ (e : Endpoint) (sound : Sound e) (block : List ℕ) (full : length bloc
 block-full : (block : List ℕ) → Sound (loadOf block) → length block ≡ 64
 block-full block sound = block-told block (sym (loaded-good block) ∙ sound .is-good) .full
 
+-- and a block that holds a good record is good
+holds-good : (block : List ℕ) (e : Endpoint) → loadOf block ≡ e → Sound e → isGood block ≡ true
+holds-good block e holds sound = sym (loaded-good block) ∙ ap good holds ∙ sound .is-good
+
 -- a send: the bytes that the entry wrote are those of the call, and its block holds the record after it
 
 module _ (block : List ℕ) (call : Call) (out : List ℕ) (number count : ℕ) (block′ out′ : List ℕ)
@@ -100,6 +105,19 @@ module _ (block : List ℕ) (call : Call) (out : List ℕ) (number count : ℕ) 
   refused-kept : (number ≡ 0 → ⊥) → block′ ≡ block
   unfolding keptAfter
   refused-kept refusal = rw (← answer .finished .numbered, ne-eqb number 0 refusal) at (answer .finished .kept)
+
+  -- and the block stays good
+  sent-stays-good : Sound (loadOf block) → Fits call → isGood block′ ≡ true
+  sent-stays-good sound fits = go (eqb (result .number) 0) refl
+    where
+      go : (t : Bool) → eqb (result .number) 0 ≡ t → isGood block′ ≡ true
+      go true accepts =
+          let next-sound = sent-good (loadOf block) sound call fits (length out) in
+          holds-good block′ _ (sent-back (eqb-true (result .number) 0 accepts) sound next-sound) next-sound
+      go false refuses =
+          ap isGood (refused-kept (λ none. eqb-false (result .number) 0 refuses (sym (answer .finished .numbered) ∙ none)))
+          ∙ sym (loaded-good block)
+          ∙ sound .is-good
 
 -- a receive: what the entry told, wrote and left is what the record in its block came to
 
@@ -137,15 +155,20 @@ module _ (s : List ℕ) (pipe : Offer) (block out : List ℕ) (number : ℕ) (sl
   received-told : outcome .told ≡ toldOf s (heard .answer)
   received-told = ap (λ (numbers : List ℕ). toldBy s (slotsIn numbers)) (answer .told) ∙ answer-told (loadOf block) s pipe (length out) (replyLength (heard .reply)) (heard .answer) refl
 
-  received-alike : 14 ≤ length out → Sound (loadOf block) → Sound (heard .next) → Alike loadOf outcome (outcomeOf s heard)
+  -- the block holds the record after it
+  received-holds : Sound (loadOf block) → Sound (heard .next) → loadOf block′ ≡ heard .next
   unfolding keptBy
-  received-alike room sound next-sound =
+  received-holds sound next-sound =
       let does = receive-does (loadOf block) s pipe (length out) in
+      ap loadOf (answer .kept) ∙ received-back s block (heard .answer) (heard .next) (heard .reply) does (block-full block sound) next-sound
+
+  received-alike : 14 ≤ length out → Sound (loadOf block) → Sound (heard .next) → Alike loadOf outcome (outcomeOf s heard)
+  received-alike room sound next-sound =
       record {
         number = answer .numbered;
         told = received-told;
         replied = (λ i. repliesBy (slotsIn (answer .told i)) (answer .left i)) ∙ reply-told (heard .answer) (heard .reply) out room;
-        next = ap loadOf (answer .kept) ∙ received-back s block (heard .answer) (heard .next) (heard .reply) does (block-full block sound) next-sound;
+        next = received-holds sound next-sound;
       }
 
   received-ignored : (k : ℕ) → (2 ≤ k) × (k ≤ 3) → outcomeOf s heard ≡ ignored k (loadOf block) → outcome ≡ ignored k block
@@ -213,6 +236,16 @@ pub demand-on-blocks : DemandOnBlocks
 demand-on-blocks entries meets =
     laws-suffice (List ℕ) (List ℕ) (onBlocks entries) (heldBy loadOf onRecords)
     (follows-laws (onBlocks entries) tables loadOf length onRecords (entries-follow entries meets) tables-laws)
+
+-- every send and every receive leaves a good block good
+pub good-blocks-stay-good : GoodBlocksStayGood
+good-blocks-stay-good block bytes g =
+    let sound : Sound (loadOf block) = record { sized = loaded-sized block bytes; is-good = loaded-good block ∙ g } in (
+      λ call fits out number count block′ out′ answer. sent-stays-good block call out number count block′ out′ answer sound fits,
+      λ s s-bytes pipe out number slots block′ out′ answer.
+          let next-sound = heard-good (loadOf block) sound s s-bytes pipe (length out) in
+          holds-good block′ _ (received-holds s pipe block out number slots block′ out′ answer sound next-sound) next-sound,
+    )
 
 pub byte-six-tells : ByteSixTells
 byte-six-tells p w holds end going =

@@ -1,16 +1,16 @@
 -- Demand 3 for the C entries: two 64-byte blocks, each changed only by `fbdp_make_client`, `fbdp_make_server`, the sends and `fbdp_receive`, with
 -- any outputs. What is queued are the bytes that an entry wrote to its output, and what is told is read off the numbers that it gave.
-use Prim.Native.Nat.{ℕ, _+_}
+use Prim.Native.Nat.{ℕ, _+_, _<_}
 use mathlib.Core.Path.{_≡_}
 use mathlib.Core.List.{List, [], _∷_}
-use mathlib.Core.Bool.{cond}
+use mathlib.Core.Bool.{cond, true}
 use lib.ListN.{getD, length, take}
 use lib.Dec.{eqb}
 use Rattle.bytes_be.specs.Part.{partAt}
 use Rattle.open.specs.Offer.{Offer}
 use Rattle.endpoint.specs.declared.Made.{Made}
 use Rattle.endpoint.specs.Record.{madeOf, noEndpoint}
-use Rattle.endpoint.specs.Block.{loadOf}
+use Rattle.endpoint.specs.Block.{isGood, loadOf}
 use Rattle.receiving.specs.declared.Received.{Received}
 use Rattle.receiving.specs.Receiving.{answerNumber, replied}
 use Rattle.sending.specs.declared.Sent.{Sent}
@@ -148,7 +148,17 @@ MadeAreFresh =
 abbrev pub DemandOnBlocks : Type 0
 DemandOnBlocks = (entries : Entries) → Meets entries → DemandOf (onBlocks entries) inBlocks
 
--- C-14: wherever it holds, byte 6 of an end that has not closed is the number of DATA that it sent with an ask less those confirmed
+-- C-14: "true after every send, receive and close": every send and every receive leaves a good block good, whatever it answers, and byte 6 of a good
+-- block is its count (`endpoint/specs/Round: ByteSixCounts`)
+abbrev pub GoodBlocksStayGood : Type 0
+GoodBlocksStayGood =
+    (block : List ℕ) → ((i : ℕ) → getD block i 0 < 256) → isGood block ≡ true
+    → ((call : Call) → Fits call → (out : List ℕ) (number count : ℕ) (block′ out′ : List ℕ)
+    → SendOnBlock call block out number count block′ out′ → isGood block′ ≡ true)
+    × ((s : List ℕ) → ((i : ℕ) → getD s i 0 < 256) → (pipe : Offer) (out : List ℕ) (number : ℕ) (slots block′ out′ : List ℕ)
+    → ReceiveOnBlock s pipe block out number slots block′ out′ → isGood block′ ≡ true)
+
+-- wherever demand 3 holds, byte 6 of an end that has not closed is the number of DATA that it sent with an ask less those confirmed
 abbrev pub ByteSixTells : Type 0
 ByteSixTells =
     (p : Program (List ℕ) (List ℕ)) (w : World (List ℕ)) → Holds p inBlocks w → (end : End) → side w end .past .ending ≡ Going

@@ -6,11 +6,11 @@ use mathlib.Core.Bool.{Bool, _&&_, _||_, cond, false, not, true}
 use native.Mathlib.Omega.{arith}
 use lib.Dec.{eqb, leb, ltb}
 use lib.ListN.{drop, length}
-use borrow.Author.Tests.{eqb-true, leb-false, leb-true, lt-ltb, ltb-true, ne-eqb, not-false}
+use borrow.Author.Tests.{eq-eqb, eqb-true, leb-false, leb-true, lt-ltb, ltb-true, ne-eqb, not-false}
 use Rattle.bytes_be.proofs.Tests.{both-true, clash}
 use Rattle.control.specs.declared.MessageType.{MessageType}
 use Rattle.control.specs.declared.MessageType.the-variants.{Open, Ready, Noop, Data, Close}
-use Rattle.control.specs.Frame.{ackReply}
+use Rattle.control.specs.Frame.{ackReply, typeOf}
 use Rattle.open.specs.Offer.{Offer}
 use Rattle.message.specs.declared.Message.{Message}
 use Rattle.endpoint.specs.declared.Endpoint.{Endpoint}
@@ -188,28 +188,34 @@ making-leaves e making = go (eqb number 0) refl
 -- ---- receives
 
 module _ (e : Endpoint) (sound : Sound e) where
+  -- a confirmation that matches has the type of the oldest
+  matched-type : (message : MessageType) (type-data : ℕ) → matchesOldest e message type-data ≡ true → (0 < e .w) × (oldest e .message ≡ typeOf message)
+  unfolding matchesOldest
+  matched-type message type-data matches =
+      let both = both-true (ltb 0 (e .w) && eqb (oldest e .message) (typeOf message)) (eqb (oldest e .«type_data») type-data) matches in
+      let first = both-true (ltb 0 (e .w)) (eqb (oldest e .message) (typeOf message)) (both .0) in
+      (ltb-true 0 (e .w) (first .0), eqb-true (oldest e .message) (typeOf message) (first .1))
+
+  -- and in an endpoint that awaits the same the oldest is the same
+  oldest-kept : (after : Endpoint) → Keeps e after → (message : ℕ) → oldest e .message ≡ message → eqb (oldest after .message) 4 ≡ eqb message 4
+  oldest-kept after kept message typed =
+      ap (λ (entries : List ℕ). eqb (entryAt entries 0 .message) 4) (kept .lists) ∙ ap (λ (type : ℕ). eqb type 4) typed
+
   -- a confirmation of DATA takes the oldest, which is of DATA
   data-confirmed : (after : Endpoint) → Keeps e after → (type-data : ℕ) → matchesOldest e Data type-data ≡ true → e .unconfirmed ≡ confirmed after .unconfirmed + 1
-  unfolding confirmed matchesOldest unconfirmedWithout
+  unfolding confirmed unconfirmedWithout
   data-confirmed after kept type-data matches =
-      let both = both-true (ltb 0 (e .w) && eqb (oldest e .message) 4) (eqb (oldest e .«type_data») type-data) matches in
-      let first = both-true (ltb 0 (e .w)) (eqb (oldest e .message) 4) (both .0) in
-      let awaits = oldest-awaited e (ltb-true 0 (e .w) (first .0)) in
-      let counted = good-told e (sound .is-good) .tallied ∙ ap reports awaits ∙ some (first .1) in
-      let typed : eqb (entryAt (after .entries) 0 .message) 4 ≡ true = ap (λ (entries : List ℕ). eqb (entryAt entries 0 .message) 4) (kept .lists) ∙ first .1 in
-      simp typed (omega (arith, counted, kept .counts))
+      let first = matched-type Data type-data matches in
+      let counted = good-told e (sound .is-good) .tallied ∙ ap reports (oldest-awaited e (first .0)) ∙ some (eq-eqb _ _ (first .1)) in
+      simp (oldest-kept after kept 4 (first .1)) (omega (arith, counted, kept .counts))
     where
       some : eqb (oldest e .message) 4 ≡ true → reports (oldest e ∷ drop 1 (awaited e)) ≡ suc (reports (drop 1 (awaited e)))
       some typed = simp typed refl
 
   -- and one of NOOP leaves the count
   noop-confirmed : (after : Endpoint) → Keeps e after → (type-data : ℕ) → matchesOldest e Noop type-data ≡ true → confirmed after .unconfirmed ≡ e .unconfirmed
-  unfolding confirmed matchesOldest unconfirmedWithout
-  noop-confirmed after kept type-data matches =
-      let both = both-true (ltb 0 (e .w) && eqb (oldest e .message) 3) (eqb (oldest e .«type_data») type-data) matches in
-      let noop = eqb-true (oldest e .message) 3 (both-true (ltb 0 (e .w)) (eqb (oldest e .message) 3) (both .0) .1) in
-      let typed : eqb (entryAt (after .entries) 0 .message) 4 ≡ false = ap (λ (entries : List ℕ). eqb (entryAt entries 0 .message) 4) (kept .lists) ∙ ap (λ (message : ℕ). eqb message 4) noop in
-      simp typed (kept .counts)
+  unfolding confirmed unconfirmedWithout
+  noop-confirmed after kept type-data matches = simp (oldest-kept after kept 3 (matched-type Noop type-data matches .1)) (kept .counts)
 
   -- the message that is heard, with its row
 

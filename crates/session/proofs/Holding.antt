@@ -142,9 +142,11 @@ module _ {A : Type 0} {model : Model A} (w : World A) (holds : Invariant model w
       × (side w end .past .confirmations-heard ≡ side w (across end) .past .confirmations)
   all-arrived still none =
       let listens = listens-still (seen-end end) still in
-      let empty-queue = none-queued (at .from-across) (sym (at .linked .there .queued) ∙ none) in
-      (all-heard dataIn (at .linked .delivers-across) listens empty-queue, all-heard readyIn (at .linked .readies-across) listens empty-queue,
-      all-heard confirmsIn (at .linked .confirmations-across) listens empty-queue)
+      let empty-queue = none-queued (at .from-across) (sym (at .linked .there .queued) ∙ none) in (
+        all-heard dataIn (at .linked .delivers-across) listens empty-queue,
+        all-heard readyIn (at .linked .readies-across) listens empty-queue,
+        all-heard confirmsIn (at .linked .confirmations-across) listens empty-queue,
+      )
 
 -- the clauses on answers, on room and on what may be sent, and with them all
 module _ {A O : Type 0} (prog : Program A O) (model : Model A) (w : World A) (holds : Invariant model w) where
