@@ -1,4 +1,5 @@
--- Entries that meet their contracts do on a block what the tables do on the record that it holds, and so demand 3 holds of them. Assumes nothing.
+-- Entries that meet their contracts do on a block what the tables do on the record that it holds, and so demand 3 holds of them
+-- and byte 6 is true. Assumes nothing.
 use mathlib.Core.Path.{_≡_, _∙_, ap, refl, sym}
 use Prim.Native.Nat.{ℕ, _+_, _≤_}
 use mathlib.Core.List.{List, []}

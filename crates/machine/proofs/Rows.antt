@@ -25,6 +25,26 @@ at-sound e sound phase n known counts waits =
 pub closed-sound : (e : Endpoint) → Sound e → Sound (closed e)
 closed-sound e sound = record { sized = closed-sized e; is-good = closed-good e (sound .is-good) }
 
+-- what holds of an endpoint, and of it where a row leads, holds where the row leads if it is allowed
+
+module _ (Holds : Endpoint → Type 0) (e : Endpoint) (itself : Holds e) where
+  pub allowed-holds : (t : Bool) (row : Row) → (t ≡ true → Holds (moved e row)) → Holds (moved e (allowed t row))
+  allowed-holds true row there = there refl
+  allowed-holds false row there = itself
+
+  up-to-holds : (t : Bool) (row : Row) → Holds (moved e row) → Holds (moved e (upTo t row))
+  up-to-holds true row there = there
+  up-to-holds false row there = itself
+
+  pub ready-holds : (role count : ℕ) → Holds (moved e (begun batch count)) → Holds (moved e (begun offer count))
+      → Holds (moved e (readyRow role (e .phase) (e .n) count))
+  unfolding readyRow
+  ready-holds role count takes offers = go (eqb role client)
+    where
+      go : (t : Bool) → Holds (moved e (cond t (allowed (eqb (e .phase) offer) (upTo (leb count (e .n)) (begun batch count))) (allowed (eqb (e .phase) opening || eqb (e .phase) idle) (begun offer count))))
+      go true = allowed-holds (eqb (e .phase) offer) _ (λ there. up-to-holds (leb count (e .n)) _ takes)
+      go false = allowed-holds (eqb (e .phase) opening || eqb (e .phase) idle) _ (λ there. offers)
+
 -- an endpoint of the same flow that may ask for a confirmation
 pub record Acts (e after : Endpoint) : Type 0 where
   pub sound : Sound after
@@ -90,20 +110,7 @@ module _ (e : Endpoint) (sound : Sound e) where
       (record { sound = at-sound e sound (e .phase) (e .n) (told .phases) (told .counted) (told .waiting); early = early; late = late; same = refl })
 
   allowed-sound : (t : Bool) (row : Row) → (t ≡ true → Sound (moved e row)) → Sound (moved e (allowed t row))
-  allowed-sound true row there = there refl
-  allowed-sound false row there = sound
-
-  up-to-sound : (t : Bool) (row : Row) → Sound (moved e row) → Sound (moved e (upTo t row))
-  up-to-sound true row there = there
-  up-to-sound false row there = sound
-
-  ready-sound : (role count : ℕ) → count < 256 ^ 2 → Sound (moved e (readyRow role (e .phase) (e .n) count))
-  unfolding readyRow
-  ready-sound role count few = go (eqb role client)
-    where
-      go : (t : Bool) → Sound (moved e (cond t (allowed (eqb (e .phase) offer) (upTo (leb count (e .n)) (begun batch count))) (allowed (eqb (e .phase) opening || eqb (e .phase) idle) (begun offer count))))
-      go true = allowed-sound (eqb (e .phase) offer) _ (λ there. up-to-sound (leb count (e .n)) _ (begun-acts batch count (batch-acts count few) .sound))
-      go false = allowed-sound (eqb (e .phase) opening || eqb (e .phase) idle) _ (λ there. begun-acts offer count (offer-acts count few) .sound)
+  allowed-sound = allowed-holds Sound e sound
 
   -- where the row of DATA or NOOP allows it, the endpoint may ask
   data-acts : Acts e (moved e (begun batch (e .n - 1)))
@@ -119,7 +126,9 @@ module _ (e : Endpoint) (sound : Sound e) where
   unfolding openRow dataRow noopRow closeRow atRow
   row-sound role flow Open type-data few =
       allowed-sound (eqb role client && eqb (e .phase) fresh) _ (λ there. opening-sound (eqb-true (e .phase) fresh (both-true (eqb role client) (eqb (e .phase) fresh) there .1)))
-  row-sound role flow Ready type-data few = ready-sound role type-data few
+  row-sound role flow Ready type-data few =
+      ready-holds Sound e sound role type-data (begun-acts batch type-data (batch-acts type-data few) .sound)
+      (begun-acts offer type-data (offer-acts type-data few) .sound)
   row-sound role flow Noop type-data few = allowed-sound (leb idle (e .phase) && leb (e .phase) batch) _ (λ there. noop-acts there .sound)
   row-sound role flow Data type-data few = allowed-sound (eqb flow producer && eqb (e .phase) batch) _ (λ there. data-acts .sound)
   row-sound role flow Close type-data few = allowed-sound (leb opening (e .phase) && leb (e .phase) batch) _ (λ there. closed-sound e sound)

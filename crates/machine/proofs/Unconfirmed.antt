@@ -2,7 +2,7 @@
 use mathlib.Core.Path.{_≡_, _∙_, ap, refl, subst, sym}
 use Prim.Native.Nat.{ℕ, suc, _+_, _-_, _≤_, _<_}
 use mathlib.Core.List.{List, _∷_}
-use mathlib.Core.Bool.{Bool, _&&_, _||_, cond, false, not, true}
+use mathlib.Core.Bool.{Bool, _&&_, cond, false, not, true}
 use native.Mathlib.Omega.{arith}
 use lib.Dec.{eqb, leb, ltb}
 use lib.ListN.{drop, length}
@@ -21,7 +21,7 @@ use Rattle.endpoint.proofs.Reports.{reports, reports-few}
 use Rattle.endpoint.proofs.Told.{good-told}
 use Rattle.table.specs.declared.Row.{Row}
 use Rattle.table.specs.declared.Row.the-variants.{To}
-use Rattle.table.specs.Table.{allowed, atRow, begun, closeRow, dataRow, moved, noopRow, notAllowed, openRow, other, readyRow, rowOf, upTo}
+use Rattle.table.specs.Table.{allowed, atRow, begun, closeRow, dataRow, moved, noopRow, notAllowed, openRow, other, readyRow, rowOf}
 use Rattle.receiving.specs.declared.Content.{Content}
 use Rattle.receiving.specs.declared.Content.the-variants.{Nothing, Opening, Body as Content·Body}
 use Rattle.receiving.specs.declared.Received.{Received}
@@ -34,6 +34,7 @@ use Rattle.sending.proofs.Decided.{all-passed}
 use Rattle.machine.specs.Good.{Sound}
 use Rattle.machine.specs.Programs.{Making, AsClient, AsServer, freshBy}
 use Rattle.machine.specs.Unconfirmed.{Change, Same, OneMore, OneLess, Cleared, Leaves, ifAccepted, sendChange, messageChange, answerChange, MakingLeaves, SendLeaves, ReceiveLeaves}
+use Rattle.machine.proofs.Rows.{allowed-holds, ready-holds}
 use Rattle.machine.proofs.Stages.{Passed, received-holds}
 
 -- ---- rows: the row of any message but CLOSE keeps what is awaited
@@ -61,24 +62,14 @@ module _ (e : Endpoint) where
       go false = at-kept phase count goes
 
   allowed-kept : (t : Bool) (row : Row) → (t ≡ true → Keeps e (moved e row)) → Keeps e (moved e (allowed t row))
-  allowed-kept true row kept = kept refl
-  allowed-kept false row kept = itself
-
-  up-to-kept : (t : Bool) (row : Row) → Keeps e (moved e row) → Keeps e (moved e (upTo t row))
-  up-to-kept true row kept = kept
-  up-to-kept false row kept = itself
+  allowed-kept = allowed-holds (Keeps e) e itself
 
   open-kept : (role : ℕ) → Keeps e (moved e (openRow role (e .phase)))
   unfolding openRow
   open-kept role = allowed-kept (eqb role client && eqb (e .phase) fresh) _ (λ there. at-kept opening 0 refl)
 
   ready-kept : (role count : ℕ) → Keeps e (moved e (readyRow role (e .phase) (e .n) count))
-  unfolding readyRow
-  ready-kept role count = go (eqb role client)
-    where
-      go : (t : Bool) → Keeps e (moved e (cond t (allowed (eqb (e .phase) offer) (upTo (leb count (e .n)) (begun batch count))) (allowed (eqb (e .phase) opening || eqb (e .phase) idle) (begun offer count))))
-      go true = allowed-kept (eqb (e .phase) offer) _ (λ there. up-to-kept (leb count (e .n)) _ (begun-kept batch count refl))
-      go false = allowed-kept (eqb (e .phase) opening || eqb (e .phase) idle) _ (λ there. begun-kept offer count refl)
+  ready-kept role count = ready-holds (Keeps e) e itself role count (begun-kept batch count refl) (begun-kept offer count refl)
 
   data-kept : (flow : ℕ) → Keeps e (moved e (dataRow flow (e .phase) (e .n)))
   unfolding dataRow

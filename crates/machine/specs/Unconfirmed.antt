@@ -53,7 +53,7 @@ answerChange (Heard heard) = messageChange (heard .message) (heard .flags)
 answerChange (Stays number) = Same
 answerChange (Closes number) = Cleared
 
--- of every good endpoint, whatever is done to it
+-- of every endpoint by a making, and of every good one by a send or a receive, whatever is answered
 
 abbrev pub MakingLeaves : Type 0
 MakingLeaves =

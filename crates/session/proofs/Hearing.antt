@@ -194,7 +194,8 @@ module _ {A : Type 0} (makings : Makings) (model : Model A) where
       offered-source (r .flow) (e .flow) (eqb-true _ _ (named .1)) ∙ ap (producing Client) (made .flows)
   open-source end r m (another later always stays) pipe made moves offers is = clash cc
 
-  module _ (lines : Lines (model .rules .pick)) (end : End) (x y : Side Endpoint) (p q : List Packet) (m : Packet) (dues dues-across : Ledger) (linked : Linked makings (model .rules) end x y p (m ∷ q) dues dues-across) where
+  module _ (lines : Lines (model .rules .pick)) (end : End) (x y : Side Endpoint) (p q : List Packet) (m : Packet) (dues dues-across : Ledger)
+      (linked : Linked makings (model .rules) end x y p (m ∷ q) dues dues-across) where
     abbrev e : Endpoint
     e = x .self
 

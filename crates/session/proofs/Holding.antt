@@ -1,5 +1,5 @@
 -- Where the invariant holds, each clause of the demand does that speaks of no answer: good states, how the ends have closed, what is accepted and
--- agreed, and both ends at rest. The clauses on answers, on room and on what may be sent are given. Assumes nothing.
+-- agreed, what is accounted for, and both ends at rest. The clauses on answers, on room and on what may be sent are given. Assumes nothing.
 use mathlib.Core.Path.{_≡_, refl, sym, _∙_, ap, subst}
 use Prim.Native.Nat.{ℕ, _≤_, _+_, _<_}
 use mathlib.Core.List.{[], _∷_, List, _++_, append-nil, map, flatMap}

@@ -10,8 +10,8 @@ use Rattle.open.specs.Offer.{Offer}
 use Rattle.endpoint.specs.declared.Endpoint.{Endpoint}
 use Rattle.endpoint.specs.Record.{shut}
 use Rattle.sending.specs.Calls.{Call}
-use Rattle.machine.specs.Good.{Fits}
 use Rattle.sending.specs.Options.{howOf}
+use Rattle.machine.specs.Good.{Fits}
 use Rattle.machine.specs.Programs.{Program, Queued, SendOutcome, ReceiveOutcome}
 use Rattle.machine.specs.Runs.{isKept, Sends, Receives}
 use Rattle.session.specs.World.{End, across, Makings, makingOf, Ending, afterCall, Side, World, EventFits, side, joined, withQueue, acted, afterReceive}
