@@ -1,4 +1,4 @@
--- A program that makes up n or W does not give what the tables give. Assumes nothing.
+-- A program that makes up n, W or the count of unconfirmed reports does not give what the tables give. Assumes nothing.
 use mathlib.Core.Path.{_≡_, _∙_, ap, refl, sym}
 use mathlib.Core.List.{List, [], _∷_}
 use Prim.Native.Nat.{ℕ}
@@ -23,7 +23,7 @@ made-up-rejected-at at count p (by-message s pipe block out other) meets =
     other (ap (λ (result : ReceiveResult). part (result .block) at count) (only-tables p meets .messages s pipe block out))
 
 pub made-up-rejected : MadeUpRejected
-made-up-rejected p = (made-up-rejected-at 4 2 p, made-up-rejected-at 3 1 p)
+made-up-rejected p = (made-up-rejected-at 4 2 p, made-up-rejected-at 3 1 p, made-up-rejected-at 6 1 p)
 
 -- where the tables accept a call, a program that makes up these bytes and meets the contracts makes up the bytes that the tables leave
 made-up-is : (at : ℕ) (made bytes : List ℕ) (call : Call) (block out : List ℕ) → Fits call → BytesLeft (byTables .sends call block out) at bytes

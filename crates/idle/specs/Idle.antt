@@ -147,9 +147,9 @@ pub data MadeUp (at count : ℕ) (p : Entries) : Type 0 where
       → (part (p .receives s pipe block out .block) at count ≡ part (byTables .receives s pipe block out .block) at count → ⊥)
       → MadeUp at count p
 
--- "4-5 n, big-endian" and "3 W"
+-- "4-5 n, big-endian" and "3 W"; and C-14: "the number in byte 6"
 abbrev pub MadeUpRejected : Type 0
-MadeUpRejected = (p : Entries) → (MadeUp 4 2 p → Rejected p) × (MadeUp 3 1 p → Rejected p)
+MadeUpRejected = (p : Entries) → (MadeUp 4 2 p → Rejected p) × (MadeUp 3 1 p → Rejected p) × (MadeUp 6 1 p → Rejected p)
 
 -- the block after each call or message that is accepted has these bytes at this place
 abbrev pub makingUp : ℕ → List ℕ → Entries
