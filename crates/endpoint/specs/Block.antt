@@ -1,5 +1,6 @@
--- "0 role ..; 1 flow ..; 2 phase ..; 3 W, confirmations awaited, 0..16; 4-5 n, big-endian"; C-14: "in byte 6" the count of those that belong to DATA;
--- "7 zero; 8-11 limit, big-endian; 12-15 zero; 16-63 sixteen entries of 3 bytes (type, type-data), oldest first."
+-- "0 role ..; 1 flow ..; 2 phase ..; 3 W, confirmations awaited, 0..16; 4-5 n, big-endian; 6-7 zero; 8-11 limit, big-endian; 12-15 zero;
+-- 16-63 sixteen entries of 3 bytes (type, type-data), oldest first."; but C-14: "how many of the awaited confirmations belong to DATA. Keep the number
+-- in byte 6 of the state block".
 use Prim.Native.Nat.{ℕ}
 use mathlib.Core.List.{List, [], _∷_, _++_}
 use mathlib.Core.Bool.{Bool, cond, _&&_}
@@ -35,7 +36,7 @@ recordIn block =
       entries = part block 16 48;
     }
 
--- "7 zero", "12-15 zero"
+-- "6-7 zero", but for byte 6, and "12-15 zero"
 unfoldable pub spareIsZero : List ℕ → Bool
 spareIsZero block = eqb (numberAt 1 block 7) 0 && eqb (numberAt 4 block 12) 0
 

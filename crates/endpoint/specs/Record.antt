@@ -70,7 +70,7 @@ abbrev pub readOff : {A : Type 0} → (A → Bool) → (A → ℕ) → List A �
 readOff test number [] = []
 readOff test number (x ∷ rest) = cond (test x) (number x ∷ readOff test number rest) (readOff test number rest)
 
--- C-14: an entry "of type-4"
+-- C-14: "type-4 entries"
 abbrev pub ofData : Entry → Bool
 ofData entry = eqb (entry .message) 4
 

@@ -112,7 +112,8 @@ fn type_in(entry: Entry) -> u16
     entry.message as u16
 }
 
-// Whether each entry fits, and `unconfirmed` of them are of DATA: the first W that fit have type 3 or 4 and the others 0, so the sum of the types tells.
+// Whether each entry fits, and `unconfirmed` of them are of DATA. The first W that fit have type 3 or 4 and the others 0, so the sum of the types
+// tells how many are.
 fn each_fits(entries: [u8; 48], flow: u8, w: u8, unconfirmed: u8) -> bool
     requires { ⌜ w ≤ 16 ⌝ }
     ensures { λ r. ⌜ r ≡ allFit entries flow w unconfirmed ⌝ }
