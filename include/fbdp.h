@@ -204,8 +204,8 @@ uint32_t fbdp_send_ready(uint8_t *block, size_t block_length, uint16_t count, ui
 /* Sends DATA, by a producer in a batch: a number of the host's, and a body that may be empty. `how` is 0, FBDP_ASK,
  * FBDP_NO_BODY or both; with FBDP_NO_BODY neither `body` nor `body_length` is looked at, so that NULL and 0 will do.
  * Refuses what every send does; with FBDP_ASK also FBDP_TOO_MANY_ASKS; without FBDP_NO_BODY also FBDP_SEND_TOO_LARGE.
- * Leaves one message less to send, after the last one FBDP_PHASE_IDLE; with FBDP_ASK one more awaited; and in `out`
- * body_length + FBDP_DATA_OVERHEAD bytes, or with FBDP_NO_BODY FBDP_CONTROL_BYTES. */
+ * Leaves one message less to send, after the last one FBDP_PHASE_IDLE; with FBDP_ASK one more awaited and one more
+ * unconfirmed; and in `out` body_length + FBDP_DATA_OVERHEAD bytes, or with FBDP_NO_BODY FBDP_CONTROL_BYTES. */
 uint32_t fbdp_send_data(uint8_t *block, size_t block_length, uint16_t type_data, uint8_t how, const uint8_t *body,
                         size_t body_length, uint8_t *out, size_t out_length, uint64_t *written);
 
