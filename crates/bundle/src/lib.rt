@@ -1,4 +1,6 @@
 // Bundles: the frames of a lent bundle, and the writers of a bundle of one frame and of two.
+#![tactic(auto)]
+
 ghost use Rattle.std.specs.Prelude.{◌≡◌, [], ◌∷◌, ◌*◌, ◌≤◌};
 ghost use Rattle.bytes_be.specs.Part.{put_at};
 ghost use Rattle.bundle.specs.Reading.{count_of, length_of, lengths_before, contents_of, contents_number, frame_of, frame_number};

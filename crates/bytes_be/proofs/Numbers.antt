@@ -1,6 +1,6 @@
 -- Laws of big-endian numbers, at any width: each of the two readings undoes the other. Assumes nothing.
-use mathlib.Core.Path.{◌≡◌, refl, sym, ap, ◌∙◌, subst}
-use mathlib.Core.List.{List, [], ◌∷◌, ◌++◌, append_assoc, append-nil, reverse, reverse-cons}
+use mathlib.Core.Path.{◌≡◌, refl, sym, ap, ◌∙◌}
+use mathlib.Core.List.{List, [], ◌∷◌, ◌++◌, append_assoc, append-nil}
 use Prim.Native.Nat.{ℕ, zero, suc, ◌+◌, ◌*◌, ◌/◌, ◌%◌, ◌^◌, ◌≤◌, ◌<◌, ◌-◌}
 use native.Mathlib.Nat.{add-zero, zero-add, add-suc, suc-add, one-le-pow, pow-le-pow_right, lt_of_lt_of_le}
 use native.Mathlib.Numerals.{add-one}
@@ -121,15 +121,6 @@ pub bytes_append : (xs ys : List ℕ) → Bytes xs → Bytes ys → Bytes (xs ++
 bytes_append [] ys front back i = back i
 bytes_append (x ∷ xs) ys front back zero = front 0
 bytes_append (x ∷ xs) ys front back (suc i) = bytes_append xs ys (λ k. front (suc k)) back i
-
--- and of a list of bytes backwards
-pub bytes_reverse : (xs : List ℕ) → Bytes xs → Bytes (reverse xs)
-bytes_reverse [] h = h
-bytes_reverse (x ∷ xs) h = subst Bytes (sym (reverse-cons x xs)) (bytes_append (reverse xs) (x ∷ []) (bytes_reverse xs (λ i. h (suc i))) one)
-  where
-    one : Bytes (x ∷ [])
-    one zero = h 0
-    one (suc i) = lit< tt
 
 -- and of a list that bytes were written to
 pub bytes_put : (out : List ℕ) (at : ℕ) (ys : List ℕ) → Bytes out → Bytes ys → Bytes (put_at out at ys)

@@ -10,7 +10,7 @@ use lib.ListN.{length, get_or, set, take, drop, length-append, length-drop, take
 use lib.Seq.{take-add, take-append-le, drop-append-le, take-suc, take-take, take_at, drop_at, get_or-set_other, get_or-take, get_or-drop, length-take-le, drop-drop, take-length, paste, length-paste, sets, sets-eq}
 use lib.Dec.{leb}
 use borrow.Author.Tests.{le-leb, lt-leb, leb-true, leb-false}
-use Rattle.bytes_be.specs.Part.{tabulate, holds, part, put_at, between}
+use Rattle.bytes_be.specs.Part.{tabulate, holds, part, put_at}
 
 -- the test for room, with no sum that could wrap
 pub holds_less : (n at size : ℕ) → size ≤ n → leb at (n - size) ≡ holds n at size
@@ -75,12 +75,6 @@ module _ {A : Type 0} where
 
   pub part_part : (xs : List A) (from n at size : ℕ) → at + size ≤ n → part (part xs from n) at size ≡ part xs (from + at) size
   part_part xs from n at size h = part_of_front at size n (drop from xs) h ∙ ap (take size) (drop-drop at from xs)
-
-  -- what stands between two places of a part, where it stands in the whole
-  pub between_by : (xs : List A) (n size at next : ℕ) → at ≤ next → next ≤ size → between xs (n + at) (n + next) ≡ between (part xs n size) at next
-  between_by xs n size at next h l =
-      let room : n + next - (n + at) ≡ next - at = omega arith in
-      rw room (sym (part_part xs n size at (next - at) (omega arith)))
 
   pub get_d_part : (xs : List A) (from n i : ℕ) (d : A) → i < n → get_or (part xs from n) i d ≡ get_or xs (from + i) d
   get_d_part xs from n i d h = get_or-take n (drop from xs) i d h ∙ get_or-drop from xs i d

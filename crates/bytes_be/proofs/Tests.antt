@@ -8,23 +8,12 @@ use native.Mathlib.Omega.{arith}
 pub clash : {A : Type 0} → ◌≡◌ {A = ℕ} 0 1 → A
 clash same = absurd (omega (arith, same))
 
-pub true_not_false : {A : Type 0} → true ≡ false → A
-true_not_false e = clash cc
-
-pub or_false : (t : Bool) → t || false ≡ t
-or_false true = refl
-or_false false = refl
-
 -- both halves of a conjunction that holds
 pub both_true : (a b : Bool) → a && b ≡ true → (a ≡ true) × (b ≡ true)
 both_true true b e = (refl, e)
 both_true false b e = clash cc
 
--- the first half of a disjunction that does not hold, and the second
-pub first_false : (a b : Bool) → a || b ≡ false → a ≡ false
-first_false true b e = clash cc
-first_false false b e = refl
-
+-- the second half of a disjunction that does not hold
 pub last_false : (a b : Bool) → a || b ≡ false → b ≡ false
 last_false true b e = clash cc
 last_false false b e = e

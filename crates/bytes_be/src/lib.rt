@@ -1,4 +1,6 @@
 // Numbers at a place of a slice, and the copy that everything written to an output uses.
+#![tactic(auto)]
+
 ghost use Rattle.std.specs.Prelude.{◌≡◌, reverse, cond, ◌+◌, ◌≤◌, ◌<◌, ◌^◌, length};
 ghost use Rattle.bytes_be.specs.Part.{part, put_at};
 ghost use Rattle.bytes_be.specs.Part.{holds as Part·holds, same as Part·same};

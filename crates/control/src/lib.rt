@@ -1,4 +1,6 @@
 // The 8-byte control frame: read in stages, one for each number that can refuse it, and written.
+#![tactic(auto)]
+
 ghost use Rattle.std.specs.Prelude.{◌≡◌};
 ghost use Rattle.control.specs.Frame.{type_of, signed_of, version_of, known_type_of, control_of, number_of, bytes_of};
 

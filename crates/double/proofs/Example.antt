@@ -1,8 +1,6 @@
 -- "K5 the double 1,000,000: 00 00 00 00 80 84 2E 41", as it is written and as it is read, and doubles at the edges of the limit.
 -- Assumes nothing.
-use mathlib.Core.Path.{◌≡◌, refl}
-use mathlib.Core.List.{List, [], ◌∷◌, map}
-use Prim.Native.Nat.{ℕ}
+use Rattle.std.proofs.Common.{◌≡◌, ℕ, List, [], ◌∷◌, map, refl}
 use lib.Ieee.{binary64, of_bits, to_bits, of_int, whole, in_unsigned, to_unsigned}
 use Rattle.bytes_be.specs.Number.{to_bytes, from_bytes, from_bytes_behind}
 use Rattle.double.specs.declared.Limit.{Limit}

@@ -1,28 +1,17 @@
 -- Laws of the limit: when a double is one, that nothing of it is lost, and that the limit that was written is read back. Assumes nothing.
-use mathlib.Core.Path.{◌≡◌, refl, sym, ap, ◌∙◌, subst}
-use mathlib.Core.List.{List}
-use mathlib.Core.Bool.{Bool, true, false, cond, ◌&&◌}
-use Prim.Native.Nat.{ℕ, ◌+◌, ◌*◌, ◌^◌, ◌≤◌, ◌<◌}
-use native.Mathlib.Omega.{arith}
-use lib.Dec.{T, leb, eqb, le→leb, eqb→eq, lit≤}
-use lib.ListN.{length}
-use lib.IntN.{pos}
-use lib.Ieee.{Float, fin, binary64, of_bits, to_bits, of_int, fits, in_unsigned, in_float, le}
+use Rattle.std.proofs.Common.{◌≡◌, ℕ, ◌+◌, ◌*◌, ◌/◌, ◌^◌, ◌<◌, ◌≤◌, Bool, true, false, cond, ◌&&◌, T, ltb, leb, List, length, pos, sym, refl, ap, ◌∙◌, subst, div-lt_iff_lt-mul, arith, le→leb, ltb→lt, lt→ltb, le-leb, leb-true}
+use lib.Ieee.{Float, nan, inf, fin, binary64, up, down, of_bits, to_bits, of_int, fits, in_unsigned, to_unsigned, in_float, whole, lt}
 use lib.Ieee.Bits.{of_bits-to_bits, to_bits-lt, is_true}
-use lib.Ieee.Back.{round_whole, unsigned_back, whole_unique, Float-back_unsigned}
-use lib.Ieee.Exact.{HasValue}
-use lib.Ieee.Fits.{of_int-fits, and_i, eq→eqb}
-use lib.Ieee.Order.{le_of_values}
-use lib.Ieee.Positive.{num, den, positive, cross→le, between, positive_of_value, values_of_le, le_trans_positive}
+use lib.Ieee.Back.{unsigned_back, Float-back_unsigned}
+use lib.Ieee.Fits.{of_int-fits, and_r, and_i, down_pos}
 use lib.Ieee.Casts.{to_unsigned-lt}
-use borrow.Author.Tests.{le-leb, leb-true}
 use Rattle.bytes_be.specs.Part.{part}
 use Rattle.bytes_be.proofs.Tests.{both_true, clash, took_first}
 use Rattle.double.specs.declared.Limit.TheVariants.{Whole, Bad}
 use Rattle.double.specs.Double.{bits_at, bytes_of}
-use Rattle.double.specs.Limit.{is_whole, integer_of, in_limits, limit_of, NothingIsLost}
+use Rattle.double.specs.Limit.{is_whole, integer_of, in_limits, limit_of}
 use Rattle.double.proofs.Order.{bits_there}
-use Rattle.double.proofs.Fractions.{fraction, one, largest, whole_there, none_there}
+use Rattle.double.proofs.Patterns.{same_bits}
 
 -- 32 bits hold no number that a double does not
 in-float : (n : ℕ) → n < 2 ^ 32 → T (in_float binary64 (pos n))
@@ -36,17 +25,17 @@ limit_of_whole n low high =
     let back = unsigned_back binary64 32 n (in-float n (omega arith)) (omega arith) in
     simp (is_true (in_unsigned binary64 32 (of_int binary64 (pos n))) back.0, back.1, le-leb 1000000 n low, le-leb n 50000000 high)
 
--- its value is that number
-value_of_whole : (n : ℕ) → n < 2 ^ 32 → HasValue (of_int binary64 (pos n)) false n 1
-unfolding of_int
-value_of_whole n h = round_whole binary64 false n (omega arith)
+-- and so does a double with the same bits
+pub limit_same_bits : (x : Float) (n : ℕ) → T (fits binary64 x) → 1000000 ≤ n → n ≤ 50000000 → to_bits binary64 (of_int binary64 (pos n)) ≡ to_bits binary64 x → Whole n ≡ limit_of x
+limit_same_bits x n p low high same =
+    sym (limit_of_whole n low high) ∙ ap limit_of (same_bits (of_int binary64 (pos n)) x (of_int-fits binary64 (pos n)) p same)
 
--- a double that is whole is that of its integer
-whole_is : (x : Float) → T (fits binary64 x) → T (is_whole x) → of_int binary64 (pos (integer_of x)) ≡ x
-whole_is x p t = (Float-back_unsigned binary64 32 x p t).1
-
-whole_value : (x : Float) → T (fits binary64 x) → T (is_whole x) → HasValue x false (integer_of x) 1
-whole_value x p t = subst (λ (y : Float). HasValue y false (integer_of x) 1) (whole_is x p t) (value_of_whole (integer_of x) (to_unsigned-lt 32 x))
+-- a double that is whole is that of its integer, at 64 bits as at 32
+whole_is : (x : Float) → T (fits binary64 x) → T (is_whole x) → (to_unsigned 64 x ≡ integer_of x) × (of_int binary64 (pos (integer_of x)) ≡ x)
+whole_is x p t =
+    let back = Float-back_unsigned binary64 32 x p t in
+    let small : integer_of x < 2 ^ 32 = to_unsigned-lt 32 x in
+    (subst (λ (y : Float). to_unsigned 64 y ≡ integer_of x) back.1 (unsigned_back binary64 64 (integer_of x) back.0 (omega arith)).1, back.1)
 
 -- the test of the limits, as two bounds
 within : (n : ℕ) → in_limits n ≡ true → (1000000 ≤ n) × (n ≤ 50000000)
@@ -65,6 +54,18 @@ limit_not x f = go (is_whole x) (in_limits (integer_of x)) (λ t b. let ends = w
     go false b g = refl
 
 module _ (x : Float) (p : T (fits binary64 x)) where
+  -- less than the limits, or more, when truncated
+  pub limit_small : (n : ℕ) → n ≡ to_unsigned 64 x → n < 1000000 → Bad ≡ limit_of x
+  limit_small n cut small = limit_not x (λ t low high. let same = (whole_is x p t).0 in omega arith)
+
+  pub limit_large : (n : ℕ) → n ≡ to_unsigned 64 x → 50000000 < n → Bad ≡ limit_of x
+  limit_large n cut large = limit_not x (λ t low high. let same = (whole_is x p t).0 in omega arith)
+
+  -- something was lost when truncated
+  pub limit_lost : (n : ℕ) → n ≡ to_unsigned 64 x → (to_bits binary64 (of_int binary64 (pos n)) ≡ to_bits binary64 x → ⊥) → Bad ≡ limit_of x
+  limit_lost n cut other =
+      limit_not x (λ t low high. let same = whole_is x p t in other (ap (λ (k : ℕ). to_bits binary64 (of_int binary64 (pos k))) (cut ∙ same.0) ∙ ap (to_bits binary64) same.1))
+
   -- a limit is the double itself, and within the limits
   pub limit_exact : (n : ℕ) → limit_of x ≡ Whole n → (of_int binary64 (pos n) ≡ x) × (1000000 ≤ n) × (n ≤ 50000000)
   unfolding limit_of
@@ -73,87 +74,36 @@ module _ (x : Float) (p : T (fits binary64 x)) where
       let same : integer_of x ≡ n = cc in
       let tests = both_true (is_whole x) (in_limits (integer_of x)) taken.0 in
       let ends = within (integer_of x) tests.1 in
-      rw (← same) (whole_is x p (subst T (sym tests.0) tt), ends.0, ends.1)
+      rw (← same) ((whole_is x p (subst T (sym tests.0) tt)).1, ends.0, ends.1)
     where
       not_bad : Bad ≡ Whole n → ⊥
       not_bad z = clash cc
 
-pub nothing_is_lost : NothingIsLost
-nothing_is_lost double p number e = (limit_exact double p number e).0
+-- above -1 and below 2 ^ 64, where a double can be truncated to 64 bits
+abbrev pub truncates : Float → Bool
+truncates x = lt (fin true 1 (pos 0)) x && lt x (fin false 1 (pos 64))
 
--- ---- the tests on the double itself
+-- the test of both, one by one
+pub truncates_ends : (x : Float) → truncates x ≡ true → T (lt (fin true 1 (pos 0)) x) × T (lt x (fin false 1 (pos 64)))
+truncates_ends x e =
+    let ends = both_true (lt (fin true 1 (pos 0)) x) (lt x (fin false 1 (pos 64))) e in
+    (subst T (sym ends.0) tt, subst T (sym ends.1) tt)
 
--- no digit behind the point is set exactly where it is whole
-module _ (x : Float) (p : T (fits binary64 x)) (low : T (le one x)) (high : T (le x largest)) where
-  -- what has the value of a whole number is whole
-  whole_valued : (n : ℕ) → HasValue x false n 1 → T (is_whole x)
-  whole_valued n value =
-      let below = values_of_le x largest n 1 4294967295 1 (between one x largest tt tt low high) tt value (refl, refl) high in
-      let same = whole_unique binary64 (of_int binary64 (pos n)) x false n (of_int-fits binary64 (pos n)) p (value_of_whole n (omega arith)) value in
-      subst (λ (y : Float). T (is_whole y)) same (unsigned_back binary64 32 n (in-float n (omega arith)) (omega arith)).0
+-- what is whole can be truncated
+whole_truncates : (x : Float) → T (is_whole x) → T (truncates x)
+unfolding lt in_unsigned
+whole_truncates nan t = absurd t
+whole_truncates (inf s) t = absurd t
+whole_truncates (fin true m e) t = absurd (and_r (whole binary64 (fin true m e)) (false && ltb (m * up e / down e) (2 ^ 32)) t)
+whole_truncates (fin false m e) t =
+    let positive = down_pos e in
+    let cut : m * up e / down e < 2 ^ 32 = ltb→lt (m * up e / down e) (2 ^ 32) (and_r (whole binary64 (fin false m e)) (true && ltb (m * up e / down e) (2 ^ 32)) t) in
+    let small : m * up e < 2 ^ 32 * down e = (div-lt_iff_lt-mul positive).0 cut in
+    and_i (lt (fin true 1 (pos 0)) (fin false m e)) (lt (fin false m e) (fin false 1 (pos 64))) (omega (arith, lt→ltb)) (omega (arith, lt→ltb))
 
-  pub whole_tested : eqb (fraction x) 0 ≡ is_whole x
-  whole_tested =
-      go (eqb (fraction x) 0) (is_whole x)
-      (λ (t : T (eqb (fraction x) 0)). let there = whole_there x p low high (eqb→eq (fraction x) 0 t) in whole_valued there.0 there.1)
-      (λ (t : T (is_whole x)). eq→eqb (none_there x p low high (integer_of x) (whole_value x p t)))
-    where
-      go : (a b : Bool) → (T a → T b) → (T b → T a) → a ≡ b
-      go true true f g = refl
-      go false false f g = refl
-      go true false f g = absurd (f tt)
-      go false true f g = absurd (g tt)
-
--- 1,000,000 and 50,000,000
-abbrev pub least : Float
-least = fin false 15625 (pos 6)
-
-abbrev pub most : Float
-most = fin false 390625 (pos 7)
-
--- a double is tested against two others, which are positive
-module _ (from to x : Float) (p : T (positive from)) (q : T (positive to)) where
-  -- both tests, one by one
-  pub range_ends : le from x && le x to ≡ true → T (le from x) × T (le x to)
-  range_ends e =
-      let ends = both_true (le from x) (le x to) e in
-      (subst T (sym ends.0) tt, subst T (sym ends.1) tt)
-
-  -- between two that are from 1 to 4,294,967,295, it is so too
-  pub range_within : 1 * den from ≤ num from * 1 → num to * 1 ≤ 4294967295 * den to → le from x && le x to ≡ true → T (le one x) × T (le x largest)
-  range_within low high e =
-      let ends = range_ends e in
-      let above_zero = between from x to p q ends.0 ends.1 in
-      (le_trans_positive one from x tt p above_zero (cross→le one from tt p low) ends.0, le_trans_positive x to largest above_zero q tt ends.1 (cross→le to largest q tt high))
-
-  -- out of a range that holds the limits, it is no limit
-  pub limit_outside : T (fits binary64 x) → num from * 1 ≤ 1000000 * den from → 50000000 * den to ≤ num to * 1 → le from x && le x to ≡ false → Bad ≡ limit_of x
-  limit_outside held low high e = limit_not x in_range
-    where
-      in_range : T (is_whole x) → 1000000 ≤ integer_of x → integer_of x ≤ 50000000 → ⊥
-      in_range t from-least up-to-most =
-          let value = whole_value x held t in
-          let above_zero : T (positive x) = positive_of_value x (integer_of x) 1 value (omega arith) in
-          let above : T (le least x) = le_of_values least x 1000000 1 (integer_of x) 1 (lit≤ tt) (lit≤ tt) (refl, refl) value (omega arith) in
-          let below : T (le x most) = le_of_values x most (integer_of x) 1 50000000 1 (lit≤ tt) (lit≤ tt) value (refl, refl) (omega arith) in
-          subst T e (and_i (le from x) (le x to) (le_trans_positive from least x p tt above_zero (cross→le from least p tt low) above) (le_trans_positive x most to above_zero tt q below (cross→le most to tt q high)))
-
--- what is not whole is no limit
-pub limit_fraction : (x : Float) → is_whole x ≡ false → Bad ≡ limit_of x
-unfolding limit_of
-limit_fraction x e = simp e
-
--- what is whole and in range is one
-pub limit_whole : (x : Float) → T (fits binary64 x) → is_whole x ≡ true → le least x && le x most ≡ true → Whole (integer_of x) ≡ limit_of x
-unfolding limit_of
-limit_whole x p t e =
-    let n = integer_of x in
-    let value = whole_value x p (subst T (sym t) tt) in
-    let ends = range_ends least most x tt tt e in
-    let above_zero = between least x most tt tt ends.0 ends.1 in
-    let above = values_of_le least x 1000000 1 n 1 tt above_zero (refl, refl) value ends.0 in
-    let below = values_of_le x most n 1 50000000 1 above_zero tt value (refl, refl) ends.1 in
-    simp (t, le-leb 1000000 n (omega arith), le-leb n 50000000 (omega arith))
+-- what cannot be truncated is no limit
+pub limit_far : (x : Float) → truncates x ≡ false → Bad ≡ limit_of x
+limit_far x e = limit_not x (λ t low high. subst T e (whole_truncates x t))
 
 -- the limit that was written is read back, wherever its eight bytes stand
 pub limit_back : (s : List ℕ) (at n : ℕ) → at + 8 ≤ length s → part s at 8 ≡ bytes_of n → 1000000 ≤ n → n ≤ 50000000 → limit_of (of_bits binary64 (bits_at s at)) ≡ Whole n

@@ -1,13 +1,8 @@
 -- Laws of eight bytes, the least significant first: the bits that were written are read back, wherever they stand. Assumes nothing.
-use mathlib.Core.Path.{◌≡◌, ◌∙◌}
-use mathlib.Core.List.{List, reverse, reverse-reverse}
-use Prim.Native.Nat.{ℕ, ◌+◌, ◌^◌, ◌≤◌, ◌<◌}
-use native.Mathlib.Omega.{arith}
-use lib.ListN.{length, length-reverse}
-use lib.Seq.{take_all}
-use lib.IntN.{pos}
+use Rattle.std.proofs.Common.{◌≡◌, ℕ, ◌+◌, ◌^◌, ◌<◌, ◌≤◌, List, reverse, length, pos, ◌∙◌, arith, take_all, le-leb}
+use mathlib.Core.List.{reverse-reverse}
+use lib.ListN.{length-reverse}
 use lib.Ieee.{binary64, to_bits, of_int}
-use borrow.Author.Tests.{le-leb}
 use Rattle.bytes_be.specs.Part.{part}
 use Rattle.bytes_be.specs.Number.{to_bytes}
 use Rattle.bytes_be.proofs.Numbers.{length_to_bytes, from_to}

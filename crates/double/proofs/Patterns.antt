@@ -1,15 +1,10 @@
--- Laws of NaN: which patterns are NaN, and which doubles are not. Assumes nothing.
-use mathlib.Core.Path.{◌≡◌, refl, sym, ◌∙◌, subst}
-use mathlib.Core.Bool.{Bool, true, false, not}
-use Prim.Native.Nat.{ℕ, ◌%◌, ◌^◌, ◌≤◌, ◌<◌}
-use native.Mathlib.Omega.{arith}
-use lib.Dec.{T}
-use lib.IntN.{pos}
-use lib.Ieee.{Float, nan, inf, fin, binary64, of_bits, of_int, is_nan, nan_bits, round}
-use lib.Ieee.Bits.{nan_bits_is, nan_bits_above}
+-- Laws of NaN and of bit patterns: which patterns are NaN, which doubles are not, and that no two doubles have the same pattern.
+-- Assumes nothing.
+use Rattle.std.proofs.Common.{◌≡◌, ℕ, ◌%◌, ◌^◌, ◌<◌, ◌≤◌, Bool, true, false, not, T, pos, sym, refl, ap, ◌∙◌, subst, arith, le-ltb, lt-ltb}
+use lib.Ieee.{Float, nan, inf, fin, binary64, of_bits, to_bits, of_int, fits, is_nan, nan_bits, lt, round}
+use lib.Ieee.Bits.{nan_bits_is, nan_bits_above, of_bits-to_bits}
 use lib.Ieee.Back.{round_whole}
 use lib.Ieee.Exact.{HasValue}
-use borrow.Author.Tests.{lt-ltb, le-ltb}
 
 -- there is one NaN
 nan_is : (x : Float) → is_nan x ≡ true → x ≡ nan
@@ -29,7 +24,7 @@ no_nan_up_to bits h =
     subst (λ (t : Bool). T (not t)) (sym (nan_bits_above binary64 bits ∙ le-ltb 0x7FF0_0000_0000_0000 (bits % 0x8000_0000_0000_0000) h)) tt
 
 -- what has a value is no NaN
-pub value_no_nan : (x : Float) (s : Bool) (a c : ℕ) → HasValue x s a c → T (not (is_nan x))
+value_no_nan : (x : Float) (s : Bool) (a c : ℕ) → HasValue x s a c → T (not (is_nan x))
 unfolding is_nan
 value_no_nan nan s a c v = absurd v
 value_no_nan (inf t) s a c v = tt
@@ -39,3 +34,16 @@ value_no_nan (fin t m e) s a c v = tt
 pub whole_no_nan : (n : ℕ) → n < 2 ^ 32 → T (not (is_nan (of_int binary64 (pos n))))
 unfolding of_int
 whole_no_nan n h = value_no_nan (round binary64 false n 1) false n 1 (round_whole binary64 false n (omega arith))
+
+-- what is greater than something is no NaN
+pub above_no_nan : (y x : Float) → lt y x ≡ true → T (not (is_nan x))
+unfolding lt is_nan
+above_no_nan nan nan e = absurd (subst T (sym e) tt)
+above_no_nan (inf s) nan e = absurd (subst T (sym e) tt)
+above_no_nan (fin s m d) nan e = absurd (subst T (sym e) tt)
+above_no_nan y (inf s) e = tt
+above_no_nan y (fin s m d) e = tt
+
+-- doubles with the same pattern are the same
+pub same_bits : (x y : Float) → T (fits binary64 x) → T (fits binary64 y) → to_bits binary64 x ≡ to_bits binary64 y → x ≡ y
+same_bits x y p q e = sym (of_bits-to_bits binary64 x p) ∙ ap (of_bits binary64) e ∙ of_bits-to_bits binary64 y q

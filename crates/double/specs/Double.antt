@@ -1,7 +1,7 @@
 -- "number (8 bytes, little-endian double)": the bits that eight bytes say, and the eight bytes of the double of a whole number.
-use Rattle.std.specs.Prelude.{ℕ, List, reverse, cond, length, pos}
+use Rattle.std.specs.Prelude.{ℕ, cond, List, reverse, length, pos, to_bits}
 use Rattle.std.specs.Float.{binary64}
-use Rattle.std.specs.Float.Ieee.{to_bits, of_int}
+use Rattle.std.specs.Float.Ieee.{of_int}
 use Rattle.bytes_be.specs.Part.{holds, part}
 use Rattle.bytes_be.specs.Number.{from_bytes, to_bytes}
 

@@ -1,12 +1,11 @@
 -- "The limit parameter must be a number that is whole, 1,000,000 to 50,000,000; it is turned into an integer only where nothing is lost."
-use Rattle.std.specs.Prelude.{ℕ, ◌≡◌, Bool, ◌&&◌, cond, T, leb, pos, Float}
+use Rattle.std.specs.Prelude.{ℕ, Bool, cond, ◌&&◌, nat_le, Float}
 use Rattle.std.specs.Float.{binary64}
-use Rattle.std.specs.Float.Ieee.{fits, of_int, in_unsigned, to_unsigned}
+use Rattle.std.specs.Float.Ieee.{in_unsigned, to_unsigned}
 use Rattle.double.specs.declared.Limit.{Limit}
 use Rattle.double.specs.declared.Limit.TheVariants.{Whole, Bad}
 
--- "a number that is whole", and one that 32 bits hold, which is more than the range asks for: finite, with no fraction, neither negative nor
--- -0; no NaN and no infinity is one
+-- "a number that is whole": finite, with no fraction, neither negative nor -0, and below 2^32; no NaN and no infinity is one
 abbrev pub is_whole : Float → Bool
 is_whole double = in_unsigned binary64 32 double
 
@@ -22,12 +21,8 @@ abbrev pub most_limit : ℕ
 most_limit = 50000000
 
 abbrev pub in_limits : ℕ → Bool
-in_limits number = leb least_limit number && leb number most_limit
+in_limits number = nat_le least_limit number && nat_le number most_limit
 
--- "only where nothing is lost": the limit that a double says
+-- "only where nothing is lost": the limit that a double says; the double of its integer is that double again (`limit-exact`)
 unfoldable pub limit_of : Float → Limit
 limit_of double = cond (is_whole double && in_limits (integer_of double)) (Whole (integer_of double)) Bad
-
--- nothing is lost: the double of the integer is that double again
-abbrev pub NothingIsLost : Type 0
-NothingIsLost = (double : Float) → T (fits binary64 double) → (number : ℕ) → limit_of double ≡ Whole number → of_int binary64 (pos number) ≡ double

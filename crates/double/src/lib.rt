@@ -1,9 +1,10 @@
 // Doubles as eight bytes, and the limit that a double says.
-ghost use Rattle.std.specs.Prelude.{◌≡◌, reverse, false, T, pos};
-ghost use Rattle.std.specs.Float.{fin, binary64};
-ghost use Rattle.std.specs.Float.Ieee.{of_bits, le};
+#![tactic(auto)]
+
+ghost use Rattle.std.specs.Prelude.{◌≡◌, reverse, from_bits};
+ghost use Rattle.std.specs.Float.{binary64};
 ghost use Rattle.double.specs.Double.{bits_at, bytes_of};
-ghost use Rattle.double.specs.Limit.{is_whole, limit_of};
+ghost use Rattle.double.specs.Limit.{limit_of};
 
 #[derive(Drop)]
 pub enum Limit {
@@ -22,7 +23,7 @@ pub fn bits_at(s: &[u8], at: usize) -> u64
 
 // The double of a bit pattern. Each NaN pattern is a NaN.
 pub fn double_of(bits: u64) -> f64
-    ensures { result ≡ of_bits binary64 bits }
+    ensures { result ≡ from_bits binary64 bits }
 {
     // The pattern without its sign is greater than that of the infinity where it is a NaN, and nowhere else.
     let unsigned = bits % 0x8000_0000_0000_0000;
@@ -49,32 +50,25 @@ pub fn bytes_of(number: u32) -> [u8; 8]
     backwards(bytes_be::bytes64(bits))
 }
 
-// Whether a double from 1 to 4,294,967,295 is whole.
-fn is_whole(double: f64) -> bool
-    requires fact_1 { T (le (fin false 1 (pos 0)) double) }
-    requires fact_2 { T (le double (fin false 4294967295 (pos 0))) }
-    ensures { result ≡ is_whole double }
-{
-    let bits = f64::to_bits(double);
-    // The exponent, plus 1023: the sign above it is 0.
-    let exponent = bits >> 52;
-    // The digits behind the point: the exponent and the digits in front of it are shifted out.
-    let fraction = bits << (exponent - 1011);
-    fraction == 0
-}
-
-// The limit that a double says. Its range and its fraction are tested on the double, so that nothing is lost where it is turned into an integer.
+// The limit that a double says. It is compared as an integer, and equal bits show that nothing was lost.
 pub fn limit_of(double: f64) -> Limit
     ensures { result ≡ limit_of double }
 {
-    // A NaN is in no range.
-    let within = (1000000.0 <= double) & (double <= 50000000.0);
-    if !within {
+    // Above -1 and below 2^64, so that 64 bits hold it without its fraction; a NaN is neither.
+    let truncates = (double > -1.0) & (double < 18446744073709551616.0);
+    if !truncates {
         return Limit::Bad;
     }
-    let whole = is_whole(double);
-    if !whole {
+    let truncated = std::num::truncating_f64_to_u64(double);
+    if truncated < 1000000 {
         return Limit::Bad;
     }
-    Limit::Whole(double as u32)
+    if 50000000 < truncated {
+        return Limit::Bad;
+    }
+    let number = truncated as u32;
+    if f64::to_bits(number as f64) == f64::to_bits(double) {
+        return Limit::Whole(number);
+    }
+    Limit::Bad
 }

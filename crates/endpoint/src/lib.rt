@@ -1,4 +1,6 @@
 // One endpoint: its record, what a good one is, how it changes, and its block of 64 bytes.
+#![tactic(auto)]
+
 ghost use Rattle.std.specs.Prelude.{◌≡◌, ◌+◌, ◌-◌, ◌*◌, ◌≤◌, ◌<◌, cond, ◌&&◌, length, leb};
 ghost use Rattle.bytes_be.specs.Part.{part, put_at};
 ghost use Rattle.double.specs.Limit.{in_limits};

@@ -1,4 +1,6 @@
 // The C interface: numbers and byte slices in, a number out.
+#![tactic(auto)]
+
 ghost use Rattle.std.specs.Prelude.{◌≡◌, ◌≤◌};
 ghost use Rattle.open.specs.Offer.{offer_of};
 ghost use Rattle.endpoint.specs.Record.{fresh_client, fresh_server};

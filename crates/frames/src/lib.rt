@@ -1,4 +1,6 @@
 // A reader over a lent bundle, which hands out its frames one by one.
+#![tactic(auto)]
+
 ghost use Rattle.std.specs.Prelude.{◌≡◌};
 ghost use Rattle.frames.specs.Frames.{handed_at, begun_over, NextAnswer};
 

@@ -1,1 +1,2 @@
 // Programs of the tables' type that do not meet the contracts. Definitions and proofs only.
+#![tactic(auto)]

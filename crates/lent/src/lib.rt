@@ -1,5 +1,7 @@
 // The endpoint record that is lent and changed in place: the two makings, the five sends and receive. A refused making leaves the record as it
 // was, and a refused send record and output.
+#![tactic(auto)]
+
 ghost use Rattle.std.specs.Prelude.{◌≡◌, cond, eqb};
 ghost use Rattle.open.specs.Offer.{offer_of};
 ghost use Rattle.endpoint.specs.Record.{fresh_client, fresh_server, made_of};

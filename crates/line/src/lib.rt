@@ -1,4 +1,6 @@
 // The line that is written for a bundle's control frame.
+#![tactic(auto)]
+
 ghost use Rattle.std.specs.Prelude.{◌≡◌, ◌+◌, ◌≤◌, ◌++◌, length};
 ghost use Rattle.line.specs.Text.{decimal};
 ghost use Rattle.line.specs.Report.{report_of_control, report_of, name_of, line_of, Put, Spelled};
@@ -32,19 +34,20 @@ fn report_of_control(control: Control, frames: usize) -> Report
     ensures { result ≡ report_of_control control frames }
 {
     let number = control::number_of(control);
-    let Control::Read {
-        message,
-        flags,
-        type_data,
-    } = control
-    else {
-        return Report::Refused(number);
-    };
-    Report::Message {
-        message: message,
-        flags: flags,
-        type_data: type_data,
-        frames: frames,
+    match control {
+        Control::Read {
+            message,
+            flags,
+            type_data,
+        } => Report::Message {
+            message: message,
+            flags: flags,
+            type_data: type_data,
+            frames: frames,
+        },
+        Control::BadSignature => Report::Refused(number),
+        Control::OtherVersion => Report::Refused(number),
+        Control::UnknownType => Report::Refused(number),
     }
 }
 

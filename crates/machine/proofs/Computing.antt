@@ -12,13 +12,13 @@ use Rattle.wire.specs.Varint.{said_at, varint_at, shortest_within, shortest_of}
 use Rattle.wire.specs.Written.{tag_of, varint_field, eight_field, bytes_field}
 use Rattle.double.specs.Double.{bits_at, bytes_of as Double·bytesOf}
 use Rattle.double.specs.Limit.{limit_of}
-use Rattle.params.specs.Keys.{key_of, value_place, find_in, keys_of, is_in}
-use Rattle.params.specs.Message.{count_of as Message·countOf, is_there, judged, first_of, place_in}
-use Rattle.params.specs.Rules.{kind_of, value_rule, value_field, value_check, bytes_rule, key_rule, entry_field}
+use Rattle.params.specs.Keys.{key_of, value_place, find_in}
+use Rattle.params.specs.Message.{walk, first_of, place_in}
+use Rattle.params.specs.Rules.{value_wire, value_text, value_allowed, value_rule, value_field, value_check, bytes_rule, key_rule, seen_of, entry_field}
 use Rattle.params.specs.Rules.{entry_done, entry_check, item_field, items_check, inside, struct_check}
 use Rattle.terms.specs.Announced.{limit_in}
 use Rattle.terms.specs.Value.{held_by, value_at}
-use Rattle.open.specs.Frame.{field_of, frame_rule, frame_field, place_if, socket_if, keep, kept, frame_check, parts_of}
+use Rattle.open.specs.Frame.{oversized, frame_wire, is_there, frame_text, frame_rule, frame_field, place_if, socket_if, keep, kept, frame_check, parts_of}
 use Rattle.open.specs.Open.{opening_of, readable, out_of_range, in_range, known_socket, offered_pipe, offered_format, open_of, offered}
 use Rattle.open_write.specs.Frame.{good_name, good_format, is_good, format_field, parameters_field, frame_for}
 use Rattle.message.specs.Reading.{strange_flags, body_of, read_as, reading_of}
@@ -47,13 +47,13 @@ fields = tt
 
 -- Structs and Values
 unfoldable pub structs : Unit {0}
-unfolding key_of value_place find_in keys_of is_in Message·countOf is_there judged first_of place_in kind_of value_rule value_field value_check bytes_rule key_rule
+unfolding key_of value_place find_in walk first_of place_in value_wire value_text value_allowed value_rule value_field value_check bytes_rule key_rule seen_of
     entry_field entry_done entry_check item_field items_check inside struct_check limit_in held_by value_at
 structs = tt
 
 -- the OPEN frame, read and written
 unfoldable pub opening : Unit {0}
-unfolding field_of frame_rule frame_field place_if socket_if keep kept frame_check parts_of opening_of readable out_of_range
+unfolding oversized frame_wire is_there frame_text frame_rule frame_field place_if socket_if keep kept frame_check parts_of opening_of readable out_of_range
     in_range known_socket offered_pipe offered_format open_of offered good_name good_format is_good format_field parameters_field frame_for
 opening = tt
 

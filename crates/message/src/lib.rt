@@ -1,4 +1,6 @@
 // A message as a bundle carries it: its control frame and its data frame, if it has one, or the first of 10 to 15 that refuses it.
+#![tactic(auto)]
+
 ghost use Rattle.std.specs.Prelude.{◌≡◌};
 ghost use Rattle.message.specs.Reading.{test_of, strange_flags, bad_flags, bad_frames, carries as Reading·carries, body_place, refused as Reading·refused, tested as Reading·tested, reading_of, reading_number, said_in};
 ghost use Rattle.message.specs.Held.{body_behind};

@@ -1,5 +1,5 @@
 -- One stage behind another, what holds behind all of them, and that what is heard lies in the bytes. Assumes nothing.
-use mathlib.Core.Path.{◌≡◌, refl, sym, ap, ◌∙◌, subst}
+use mathlib.Core.Path.{◌≡◌, refl, sym, ◌∙◌, subst}
 use Prim.Native.Nat.{ℕ, ◌+◌, ◌≤◌}
 use mathlib.Core.List.{List}
 use mathlib.Core.Bool.{Bool, true, false, not, ◌||◌}
@@ -19,7 +19,6 @@ use Rattle.open.specs.declared.Refusal.TheVariants.{Unreadable, OutOfRange, Unkn
 use Rattle.open.specs.Frame.{frame_check, parts_of}
 use Rattle.open.specs.Offer.{Offer}
 use Rattle.open.specs.Open.{opening_of, if_good, readable, refused_if, out_of_range, in_range, known_socket, offered_socket, offered_pipe, offered_format, ◌then◌, open_of, offered, heard_by}
-use Rattle.open.specs.Held.{nothing_said}
 use Rattle.open.proofs.Kept.{parts_lie}
 
 -- what the stages before came to, as a call has found it
@@ -35,14 +34,9 @@ module _ (r said : Open) (is : r ≡ said) (stage : Opening → Open) where
       rw goes h
 
 module _ (s : List ℕ) (from to : ℕ) where
-  refused_18 : (why : Fault) → Check-as-Refused why ≡ frame_check s from to → Refused (Unreadable why) ≡ readable s from to
+  pub unreadable : (why : Fault) → Check-as-Refused why ≡ frame_check s from to → Refused (Unreadable why) ≡ readable s from to
   unfolding readable
-  refused_18 why e = rw (← e)
-
-  -- a field that cannot be read, or is not good
-  pub unreadable : (r : Open) (check : Check) → r ≡ if_good check nothing_said → (why : Fault) → check ≡ Check-as-Refused why → check ≡ frame_check s from to
-      → r ≡ readable s from to
-  unreadable r check is why e known = is ∙ ap (λ (check : Check). if_good check nothing_said) e ∙ refused_18 why (sym e ∙ known)
+  unreadable why e = rw (← e)
 
   pub read_whole : Good ≡ frame_check s from to → (parts : Parts) → parts ≡ parts_of s from to → (opening : Opening) → opening ≡ opening_of s parts → Heard opening ≡ readable s from to
   unfolding readable

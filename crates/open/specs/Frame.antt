@@ -1,9 +1,10 @@
 -- "Fields: 1 data_pipe (string), 2 pipe_socket (uint32), 3 data_format (string), 4 parameters (Struct). Each at most once, with its own
--- wire type. Fields 5 and up are skipped for wire types 0, 1, 2, 5." The house's own are the order of the tests at a field, behind tag and
--- payload (what a varint may say, wire type, repetition, UTF-8; then inside), the kind of a fault and its place.
-use Rattle.std.specs.Prelude.{ℕ, List, [], ◌∷◌, Bool, true, cond, not, ◌&&◌, ltb, leb, eqb}
+-- wire type. Fields 5 and up are skipped for wire types 0, 1, 2, 5." Behind tag and payload the tests at a field run: an oversized socket,
+-- wire type, repetition, UTF-8; only then inside.
+use Rattle.std.specs.Prelude.{ℕ, List, [], ◌∷◌, Bool, true, false, cond, not, ◌&&◌, ◌||◌, ltb, eqb}
 use Rattle.bytes_be.specs.Part.{between}
 use Rattle.bytes_be.specs.declared.Place.{Place}
+use Rattle.utf8.specs.Text.{well_formed}
 use Rattle.wire.specs.declared.Kind.TheVariants.{BadVarint, WireType, Repeated, BadText}
 use Rattle.wire.specs.declared.Field.{Field}
 use Rattle.wire.specs.declared.Reading.{Reading}
@@ -11,7 +12,7 @@ use Rattle.wire.specs.declared.Reading.TheVariants.{Read, Refused}
 use Rattle.wire.specs.Fields.{fields_of}
 use Rattle.params.specs.declared.Check.{Check}
 use Rattle.params.specs.declared.Check.TheVariants.{Good}
-use Rattle.params.specs.Message.{refuse_if, and_then, is_there, judged, Row, varint, string, message, no_own, good_text, place_of, nowhere}
+use Rattle.params.specs.Message.{refuse_if, and_then, walk, place_of, nowhere}
 use Rattle.params.specs.Rules.{struct_check}
 use Rattle.open.specs.declared.Parts.{Parts}
 
@@ -24,42 +25,42 @@ by_field number name socket format parameters skipped =
     (cond (eqb number 4) parameters
     skipped)))
 
--- a row per field, "with its own wire type"; refused is "a socket above 2^32-1"; fields 5 and up have no wire type of their own, and
--- `payloadAt` has refused what is none of 0, 1, 2 and 5
-unfoldable pub field_of : ℕ → Row
-field_of number =
-    by_field number
-    string
-    (varint (λ says. leb says 0xFFFF_FFFF))
-    string
-    message
-    (no_own true)
+-- "a socket above 2^32-1"
+unfoldable pub oversized : ℕ → ℕ → Bool
+oversized number value = eqb number 2 && ltb 0xFFFF_FFFF value
 
--- a field, where `repeated` says whether there was one before that it may not repeat
-unfoldable pub frame_rule : List ℕ → Bool → Field → Check
-frame_rule s repeated field =
-    refuse_if (not ((field_of field.number).allowed field.value)) BadVarint field.tag
-    (refuse_if (not ((field_of field.number).wire field.wire)) WireType field.tag
-    (refuse_if repeated Repeated field.tag
-    (refuse_if (not (good_text (field_of field.number) (between s field.at field.next))) BadText field.tag
+-- "with its own wire type": a length and so many bytes, or a varint; fields 5 and up have none of their own, and `payloadAt` has refused
+-- what is none of 0, 1, 2 and 5
+unfoldable pub frame_wire : ℕ → ℕ → Bool
+frame_wire number wire = by_field number (eqb wire 2) (eqb wire 0) (eqb wire 2) (eqb wire 2) true
+
+-- "Each at most once": whether there was one before; a payload stands behind its tag, and so never at 0
+unfoldable pub is_there : Parts → ℕ → Bool
+is_there parts number =
+    by_field number
+    (not (eqb parts.name.at 0))
+    (not (eqb parts.asked.at 0))
+    (not (eqb parts.format.at 0))
+    (not (eqb parts.parameters.at 0))
+    false
+
+-- "bad UTF-8 in any string"
+unfoldable pub frame_text : List ℕ → ℕ → ℕ → ℕ → Bool
+frame_text s number at next = cond (eqb number 1 || eqb number 3) (well_formed (between s at next)) true
+
+-- a field, behind the parts that were there before it
+unfoldable pub frame_rule : List ℕ → Parts → Field → Check
+frame_rule s parts field =
+    refuse_if (oversized field.number field.value) BadVarint field.tag
+    (refuse_if (not (frame_wire field.number field.wire)) WireType field.tag
+    (refuse_if (is_there parts field.number) Repeated field.tag
+    (refuse_if (not (frame_text s field.number field.at field.next)) BadText field.tag
     Good)))
 
 -- "4 parameters (Struct)"
-unfoldable pub frame_field : List ℕ → Bool → Field → Check
-frame_field s repeated field =
-    and_then (frame_rule s repeated field) (cond (eqb field.number 4) (struct_check s field.at field.next) Good)
-
--- "Each at most once"; those that are skipped as often as they come
-abbrev pub frame_judge : List ℕ → List Field → Field → Check
-frame_judge s front field = frame_field s (ltb field.number 5 && is_there field.number front) field
-
--- nothing that a frame lacks makes it unreadable
-abbrev pub frame_done : List Field → Check
-frame_done fields = Good
-
--- the frame from `from` to `to`: whether it is readable
-unfoldable pub frame_check : List ℕ → ℕ → ℕ → Check
-frame_check s from to = judged (frame_judge s) frame_done [] (fields_of s from to)
+unfoldable pub frame_field : List ℕ → Parts → Field → Check
+frame_field s parts field =
+    and_then (frame_rule s parts field) (cond (eqb field.number 4) (struct_check s field.at field.next) Good)
 
 -- the parts before the first field: "an absent one as the empty place at 0", and an absent socket says 0
 abbrev pub nothing : Parts
@@ -83,12 +84,19 @@ keep parts field =
       socket = socket_if field parts.socket;
     }
 
--- the parts after the last field; in a readable frame no field of them comes twice, and so they are also the first
+-- the parts after the last field
 unfoldable pub kept : List Reading → Parts → Parts
 kept [] parts = parts
 kept (Refused why ∷ rest) parts = parts
 kept (Read field ∷ rest) parts = kept rest (keep parts field)
 
--- the parts of the frame from `from` to `to`
+-- nothing that a frame lacks makes it unreadable
+abbrev pub frame_done : Parts → Check
+frame_done parts = Good
+
+-- the frame from `from` to `to`: whether it is readable, and its parts
+unfoldable pub frame_check : List ℕ → ℕ → ℕ → Check
+frame_check s from to = walk (frame_field s) keep frame_done (fields_of s from to) nothing
+
 unfoldable pub parts_of : List ℕ → ℕ → ℕ → Parts
 parts_of s from to = kept (fields_of s from to) nothing

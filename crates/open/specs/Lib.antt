@@ -2,5 +2,3 @@
 pub mod Frame
 pub mod Offer
 pub mod Open
-pub mod Laws
-pub mod Held

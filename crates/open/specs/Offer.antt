@@ -1,5 +1,4 @@
--- A pipe name and a format, of any bytes: what an OPEN asks for, which 34 tests, and what a server offers, which is "only compared, never
--- tested".
+-- A pipe name and a format, of any bytes: what an OPEN asks for, which 34 tests, and what a server offers, which is "only compared, never tested".
 use Rattle.std.specs.Prelude.{ℕ, List, []}
 
 pub record Offer : Type 0 where

@@ -58,7 +58,7 @@ abbrev pub offered_socket : ℕ → ℕ
 offered_socket flow = cond (eqb flow 1) 2 1
 
 -- "21 pipe name or socket not the offered one"; name and format "are only compared, never tested: one outside the ranges matches nothing",
--- as 18 and 19 have refused an OPEN that asks for one outside them
+-- as 18 and 19 have refused what is outside them
 unfoldable pub offered_pipe : List ℕ → ℕ → List ℕ → Opening → Open
 offered_pipe s flow name opening =
     refused_if (not (same (part_at s opening.name) name) || not (eqb opening.socket (offered_socket flow))) OtherPipe opening

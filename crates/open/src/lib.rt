@@ -1,11 +1,11 @@
 // The OPEN data frame: what it says, and which of 18 to 22 refuses it.
-ghost use Rattle.std.specs.Prelude.{◌≡◌, ◌+◌, ◌≤◌, length, false, not, eqb};
-ghost use Rattle.bytes_be.specs.Part.{between, part_at, same};
-ghost use Rattle.params.specs.Message.{good_text};
-ghost use Rattle.open.specs.Frame.{by_field, field_of, frame_rule, frame_field, place_if, socket_if, keep as Frame·keep};
+#![tactic(auto)]
+
+ghost use Rattle.std.specs.Prelude.{◌≡◌, ◌+◌, ◌≤◌, length};
+ghost use Rattle.bytes_be.specs.Part.{part_at, same};
+ghost use Rattle.open.specs.Frame.{oversized, frame_wire, is_there, frame_text, frame_rule, frame_field, place_if, socket_if, keep as Frame·keep};
 ghost use Rattle.open.specs.Offer.{offer_of};
-ghost use Rattle.open.specs.Open.{opening_of, if_good, readable as Open·readable, refused_if, out_of_range, in_range, known_socket, offered_socket, offered_pipe, offered_format, open_of, heard_by, refusal_number, open_number};
-ghost use Rattle.open.specs.Held.{nothing_said};
+ghost use Rattle.open.specs.Open.{opening_of, readable as Open·readable, refused_if, out_of_range, in_range, known_socket, offered_socket, offered_pipe, offered_format, open_of, heard_by, refusal_number, open_number};
 
 use bytes_be::Place;
 use params::Check;
@@ -77,16 +77,15 @@ pub fn open_number(said: Open) -> u8
     }
 }
 
-// Whether a field of the frame may say what its varint says.
-fn frame_allowed(number: u64, value: u64) -> bool
-    ensures { result ≡ (field_of number).allowed value }
+fn is_oversized(number: u64, value: u64) -> bool
+    ensures { result ≡ oversized number value }
 {
-    (number != 2) | (value <= 0xFFFF_FFFF)
+    (number == 2) & (0xFFFF_FFFF < value)
 }
 
 // Whether a field of the frame has its own wire type, or is one that is skipped.
 fn frame_wire(number: u64, wire: u64) -> bool
-    ensures { result ≡ (field_of number).wire wire }
+    ensures { result ≡ frame_wire number wire }
 {
     match number {
         1 => wire == 2,
@@ -97,20 +96,9 @@ fn frame_wire(number: u64, wire: u64) -> bool
     }
 }
 
-// Whether a field of the frame is text where it is a string.
-fn frame_text(s: &[u8], number: u64, at: usize, next: usize) -> bool
-    requires { (at ≤ next) × (next ≤ length s.now) }
-    ensures { result ≡ good_text (field_of number) (between s.now at next) }
-{
-    if (number == 1) | (number == 3) {
-        return utf8::well_formed(&s[at..next]);
-    }
-    true
-}
-
-// Whether the parts have one of this number, where it may not be repeated: a payload stands behind its tag, and so never at 0.
+// Whether there was a field of this number before.
 fn is_there(parts: Parts, number: u64) -> bool
-    ensures { result ≡ by_field number (not (eqb parts.name.at 0)) (not (eqb parts.asked.at 0)) (not (eqb parts.format.at 0)) (not (eqb parts.parameters.at 0)) false }
+    ensures { result ≡ is_there parts number }
 {
     match number {
         1 => parts.name.at != 0,
@@ -121,18 +109,29 @@ fn is_there(parts: Parts, number: u64) -> bool
     }
 }
 
-// What a field comes to before its inside is looked at.
-fn frame_rule(s: &[u8], repeated: bool, field: Field) -> Check
-    requires { (field.at ≤ field.next) × (field.next ≤ length s.now) }
-    ensures { result ≡ frame_rule s.now repeated field }
+// Whether a field of the frame is text where it is a string.
+fn frame_text(s: &[u8], number: u64, at: usize, next: usize) -> bool
+    requires { (at ≤ next) × (next ≤ length s.now) }
+    ensures { result ≡ frame_text s.now number at next }
 {
-    if !frame_allowed(field.number, field.value) {
+    if (number == 1) | (number == 3) {
+        return utf8::well_formed(&s[at..next]);
+    }
+    true
+}
+
+// What a field comes to before its inside is looked at, behind the parts that were there before it.
+fn frame_rule(s: &[u8], parts: Parts, field: Field) -> Check
+    requires { (field.at ≤ field.next) × (field.next ≤ length s.now) }
+    ensures { result ≡ frame_rule s.now parts field }
+{
+    if is_oversized(field.number, field.value) {
         return params::fault_of(Kind::BadVarint, field.tag);
     }
     if !frame_wire(field.number, field.wire) {
         return params::fault_of(Kind::WireType, field.tag);
     }
-    if repeated {
+    if is_there(parts, field.number) {
         return params::fault_of(Kind::Repeated, field.tag);
     }
     if !frame_text(s, field.number, field.at, field.next) {
@@ -141,11 +140,11 @@ fn frame_rule(s: &[u8], repeated: bool, field: Field) -> Check
     Check::Good
 }
 
-fn frame_field(s: &[u8], repeated: bool, field: Field) -> Check
+fn frame_field(s: &[u8], parts: Parts, field: Field) -> Check
     requires { (field.at ≤ field.next) × (field.next ≤ length s.now) }
-    ensures { result ≡ frame_field s.now repeated field }
+    ensures { result ≡ frame_field s.now parts field }
 {
-    let rule = frame_rule(s, repeated, field);
+    let rule = frame_rule(s, parts, field);
     let Check::Good = rule else {
         return rule;
     };
@@ -212,23 +211,6 @@ fn opening_of(s: &[u8], parts: Parts) -> Opening
     }
 }
 
-// 18 for a frame that the check refuses; nothing is said of one that is good.
-fn unreadable(check: Check) -> Open
-    ensures { result ≡ if_good check nothing_said }
-{
-    let nowhere = Place { at: 0, length: 0 };
-    match check {
-        Check::Good => Open::Heard(Opening {
-            socket: 0,
-            name: nowhere,
-            format: nowhere,
-            parameters: nowhere,
-            announced: Announced::Nothing,
-        }),
-        Check::Refused(why) => Open::Refused(Refusal::Unreadable(why)),
-    }
-}
-
 // 18: an unreadable frame. Each of its fields is read once.
 fn readable(s: &[u8], from: usize, to: usize) -> Open
     ensures { result ≡ Open·readable s.now from to }
@@ -243,16 +225,20 @@ fn readable(s: &[u8], from: usize, to: usize) -> Open
     };
     let mut at = from;
     while at < to {
-        let reading = wire::field_at(s, at, to);
-        let Reading::Read(field) = reading else {
-            return unreadable(params::unread(reading));
-        };
-        let check = frame_field(s, is_there(parts, field.number), field);
-        let Check::Good = check else {
-            return unreadable(check);
-        };
-        parts = keep(parts, field);
-        at = field.next;
+        match wire::field_at(s, at, to) {
+            Reading::Refused(why) => {
+                return Open::Refused(Refusal::Unreadable(why));
+            }
+            Reading::Read(field) => match frame_field(s, parts, field) {
+                Check::Refused(why) => {
+                    return Open::Refused(Refusal::Unreadable(why));
+                }
+                Check::Good => {
+                    parts = keep(parts, field);
+                    at = field.next;
+                }
+            },
+        }
     }
     Open::Heard(opening_of(s, parts))
 }

@@ -22,9 +22,9 @@ use Rattle.double.specs.Double.{bytes_of}
 use Rattle.double.proofs.Order.{length_bytes_of}
 use Rattle.double.proofs.Limits.{limit_back}
 use Rattle.params.specs.declared.Check.TheVariants.{Good}
-use Rattle.params.specs.Message.{is_there, count_of, judged, first_of, place_in}
-use Rattle.params.specs.Keys.{key_of, value_place, find_in, keys_of, is_in}
-use Rattle.params.specs.Rules.{kind_of, value_rule, value_field, value_check, bytes_rule, key_rule, entry_field, entry_done, entry_check, item_field, items_check, struct_check}
+use Rattle.params.specs.Message.{walk, first_of, place_in}
+use Rattle.params.specs.Keys.{key_of, value_place, find_in}
+use Rattle.params.specs.Rules.{value_wire, value_text, value_allowed, value_rule, value_field, value_check, bytes_rule, key_rule, seen_of, entry_field, entry_done, entry_check, item_field, items_check, inside, struct_check}
 use Rattle.terms.specs.declared.Announced.TheVariants.{Limit}
 use Rattle.terms.specs.Value.{held_by, value_at}
 use Rattle.terms.specs.Announced.{limit_key, limit_in}
@@ -103,8 +103,8 @@ module _ (limit : ℕ) (s : List ℕ) (from : ℕ) (rest : List ℕ) (stands : d
 
   -- it is readable
   pub limit_readable : struct_check s from (from + length (limit_struct limit)) ≡ Good
-  unfolding struct_check items_check item_field bytes_rule entry_check entry_field entry_done value_check value_field value_rule kind_of key_rule judged is_there count_of keys_of is_in
-  limit_readable = simp (struct_fields, entry_fields, value_fields, the_key.whole, key_text)
+  unfolding struct_check items_check item_field bytes_rule entry_check entry_field seen_of entry_done value_check value_field value_rule value_wire value_text value_allowed key_rule walk find_in first_of
+  limit_readable = simp (struct_fields, entry_fields, value_fields, no_fields s from from (omega arith), the_key.whole, key_text)
 
   -- the number that stands in it
   number_read : field_at s value_field_at.at value_field_at.next ≡ Read number_field_at

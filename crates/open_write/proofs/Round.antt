@@ -7,7 +7,7 @@ use mathlib.Core.Bool.{Bool, true, false, cond, not, ◌||◌}
 use lib.ListN.{length, drop, length-append, length-drop, take-append-drop}
 use lib.Dec.{leb, eqb}
 use native.Mathlib.Omega.{arith}
-use borrow.Author.Tests.{le-ltb, le-leb, lt-leb, eq-eqb, ne_eqb, eqb-true, eqb-false, leb-true}
+use borrow.Author.Tests.{le-ltb, lt-leb, eq-eqb, ne_eqb, eqb-true, eqb-false, leb-true}
 use Rattle.bytes_be.specs.Part.{part, part_at, same, put_at}
 use Rattle.bytes_be.specs.declared.Place.{Place}
 use Rattle.bytes_be.proofs.Tests.{both_true}
@@ -22,13 +22,12 @@ use Rattle.wire.proofs.Readings.{no_fields}
 use Rattle.wire.proofs.Written.{bytes_field_at, varint_field_at, varint_first, bytes_stand, length_bytes_field}
 use Rattle.double.specs.Limit.{least_limit, most_limit}
 use Rattle.params.specs.declared.Check.TheVariants.{Good}
-use Rattle.params.specs.Message.{count_of, is_there, judged, first_of, place_of, nowhere}
+use Rattle.params.specs.Message.{walk, first_of, place_of, nowhere}
 use Rattle.params.specs.Keys.{find_in}
 use Rattle.params.specs.Rules.{struct_check}
-use Rattle.params.proofs.Counts.{there_more}
 use Rattle.terms.specs.Announced.{limit_in, announced_number, announced_limit}
 use Rattle.open.specs.declared.Parts.{Parts}
-use Rattle.open.specs.Frame.{field_of, frame_rule, frame_field, frame_judge, frame_done, frame_check, place_if, socket_if, keep, kept, parts_of}
+use Rattle.open.specs.Frame.{frame_wire, oversized, is_there, frame_text, frame_rule, frame_field, place_if, socket_if, keep, kept, frame_done, frame_check, parts_of}
 use Rattle.open.specs.declared.Opening.{Opening}
 use Rattle.open.specs.declared.Refusal.TheVariants.{OtherPipe}
 use Rattle.open.specs.declared.Open.{Open}
@@ -52,22 +51,22 @@ module _ (s : List ℕ) (to : ℕ) (there : to ≤ length s) (limit : ℕ) (low 
   record ParametersBack (at : ℕ) (name socket format : Place) (number : ℕ) : Type 0 where
     place : Place
     bytes : part_at s place ≡ cond (eqb limit most_limit) [] (limit_struct limit)
-    good : (front : List Field) → is_there 4 front ≡ false → judged (frame_judge s) frame_done front (fields_of s at to) ≡ Good
+    good : walk (frame_field s) keep frame_done (fields_of s at to) (holding name socket format nowhere number) ≡ Good
     held : kept (fields_of s at to) (holding name socket format nowhere number) ≡ holding name socket format place number
     fine : announced_number (limit_in s place.at (place.at + place.length)) ≡ 0
     said : announced_limit (limit_in s place.at (place.at + place.length)) ≡ limit
 
   no_parameters : (at : ℕ) → limit ≡ 50000000 → at + length (parameters_field limit) ≡ to
       → (name socket format : Place) (number : ℕ) → ParametersBack at name socket format number
-  unfolding judged kept limit_in find_in first_of
+  unfolding walk kept limit_in find_in first_of
   no_parameters at most ends name socket format number =
       let none = no_fields s at to (omega (arith, ap length (parameters_none limit most))) in
       let nothing = no_fields s 0 0 (omega arith) in
-      record { place = nowhere; bytes = simp (eq-eqb limit 50000000 most); good = λ front fourth. simp none; held = simp none; fine = simp nothing; said = simp nothing (sym most) }
+      record { place = nowhere; bytes = simp (eq-eqb limit 50000000 most); good = simp none; held = simp none; fine = simp nothing; said = simp nothing (sym most) }
 
   some_parameters : (at : ℕ) (rest : List ℕ) → (limit ≡ 50000000 → ⊥) → drop at s ≡ bytes_field 4 (limit_struct limit) ++ rest → at + length (bytes_field 4 (limit_struct limit)) ≡ to
       → (name socket format : Place) (number : ℕ) → ParametersBack at name socket format number
-  unfolding judged kept keep place_if socket_if frame_field frame_rule field_of
+  unfolding walk kept keep place_if socket_if frame_field frame_rule frame_wire oversized is_there frame_text
   some_parameters at rest other stands ends name socket format number =
       let field : Field = bytes_field_at at 4 (limit_struct limit) in
       let found = bytes_stand s at to there 4 (limit_struct limit) rest (omega arith, omega arith) (omega (arith, length_struct limit)) stands (omega arith) in
@@ -77,7 +76,7 @@ module _ (s : List ℕ) (to : ℕ) (there : to ≤ length s) (limit : ℕ) (low 
       let long : field.next - field.at ≡ length (limit_struct limit) = omega arith in
       let readable : struct_check s field.at field.next ≡ Good = rw inside at (limit_readable limit s field.at rest found.payload room) in
       let announced = limit_announced limit s field.at rest found.payload room low high in
-      record { place = place_of field; bytes = simp (ne_eqb limit 50000000 other) found.whole; good = λ front fourth. simp (only, readable, fourth); held = simp only; fine = simp (long, announced); said = simp (long, announced) }
+      record { place = place_of field; bytes = simp (ne_eqb limit 50000000 other) found.whole; good = simp (only, readable); held = simp only; fine = simp (long, announced); said = simp (long, announced) }
 
   parameters_back : (at : ℕ) (rest : List ℕ) → drop at s ≡ parameters_field limit ++ rest → at + length (parameters_field limit) ≡ to
       → (name socket format : Place) (number : ℕ) → ParametersBack at name socket format number
@@ -97,7 +96,7 @@ module _ (s : List ℕ) (to : ℕ) (there : to ≤ length s) (limit : ℕ) (low 
     bytes : part_at s place ≡ format
     parameters : Place
     held_bytes : part_at s parameters ≡ cond (eqb limit most_limit) [] (limit_struct limit)
-    good : (front : List Field) → is_there 3 front ≡ false → is_there 4 front ≡ false → judged (frame_judge s) frame_done front (fields_of s at to) ≡ Good
+    good : walk (frame_field s) keep frame_done (fields_of s at to) (holding name socket nowhere nowhere number) ≡ Good
     held : kept (fields_of s at to) (holding name socket nowhere nowhere number) ≡ holding name socket place parameters number
     fine : announced_number (limit_in s parameters.at (parameters.at + parameters.length)) ≡ 0
     said : announced_limit (limit_in s parameters.at (parameters.at + parameters.length)) ≡ limit
@@ -112,7 +111,7 @@ module _ (s : List ℕ) (to : ℕ) (there : to ≤ length s) (limit : ℕ) (low 
         bytes = no_bytes format none;
         parameters = behind.place;
         held_bytes = behind.bytes;
-        good = λ front third. behind.good front;
+        good = behind.good;
         held = behind.held;
         fine = behind.fine;
         said = behind.said;
@@ -120,7 +119,7 @@ module _ (s : List ℕ) (to : ℕ) (there : to ≤ length s) (limit : ℕ) (low 
 
   some_format : (format : List ℕ) (at : ℕ) (rest : List ℕ) → length format ≤ 255 → well_formed format ≡ true → drop at s ≡ bytes_field 3 format ++ (parameters_field limit ++ rest)
       → at + length (bytes_field 3 format) + length (parameters_field limit) ≡ to → (name socket : Place) (number : ℕ) → FormatBack format at name socket number
-  unfolding judged kept keep place_if socket_if frame_field frame_rule field_of
+  unfolding walk kept keep place_if socket_if frame_field frame_rule frame_wire oversized is_there frame_text
   some_format format at rest short text stands ends name socket number =
       let field : Field = bytes_field_at at 3 format in
       let found = bytes_stand s at to there 3 format (parameters_field limit ++ rest) (omega arith, omega arith) (omega arith) stands (omega arith) in
@@ -133,7 +132,7 @@ module _ (s : List ℕ) (to : ℕ) (there : to ≤ length s) (limit : ℕ) (low 
         bytes = found.whole;
         parameters = behind.place;
         held_bytes = behind.bytes;
-        good = λ front third fourth. simp (first, found.whole, text, third) (behind.good (front ++ (field ∷ [])) (there_more 4 front field ∙ rw fourth refl));
+        good = simp (first, found.whole, text) behind.good;
         held = simp first behind.held;
         fine = behind.fine;
         said = behind.said;
@@ -163,7 +162,7 @@ module _ (s : List ℕ) (to : ℕ) (there : to ≤ length s) (limit : ℕ) (low 
 
   frame_back : (flow : ℕ) (name format : List ℕ) (from : ℕ) (rest : List ℕ) → length name ≤ 255 → well_formed name ≡ true
       → length format ≤ 255 → well_formed format ≡ true → drop from s ≡ frame_for flow (offer_of name format) limit ++ rest → from + length (frame_for flow (offer_of name format) limit) ≡ to → FrameBack flow name format from
-  unfolding frame_check parts_of judged is_there count_of kept keep place_if socket_if frame_field frame_rule field_of frame_for
+  unfolding frame_check parts_of walk kept keep place_if socket_if frame_field frame_rule frame_wire oversized is_there frame_text frame_for
   frame_back flow name format from rest short text short-format format-text stands ends =
       let few = known-socket flow in
       let parameters = parameters_field limit in
@@ -191,7 +190,7 @@ module _ (s : List ℕ) (to : ℕ) (there : to ≤ length s) (limit : ℕ) (low 
         bytes = found.whole;
         socket = place_of asked;
         behind = behind;
-        good = simp (found.first, next, found.whole, text, le-leb (socket_of flow) 0xFFFF_FFFF (omega arith)) (behind.good (field ∷ asked ∷ []) refl refl);
+        good = simp (found.first, next, found.whole, text, le-ltb 0xFFFF_FFFF (socket_of flow) (omega arith)) behind.good;
         held = simp (found.first, next) behind.held;
       }
 

@@ -1,4 +1,3 @@
--- Document 01, "Sending": the OPEN frame as it is written, what is heard of it, and which offers match.
+-- Document 01, "Sending": the OPEN frame as it is written, and what is heard of it.
 pub mod Frame
 pub mod Round
-pub mod Compared

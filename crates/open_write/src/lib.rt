@@ -1,4 +1,6 @@
 // The OPEN data frame as a client writes it.
+#![tactic(auto)]
+
 ghost use Rattle.std.specs.Prelude.{◌≡◌, ◌+◌, ◌≤◌, length};
 ghost use Rattle.bytes_be.specs.Part.{put_at};
 ghost use Rattle.wire.specs.Varint.{varint_length};

@@ -11,9 +11,9 @@ use Rattle.wire.specs.Varint.{said_at, varint_at}
 use Rattle.wire.specs.Fields.{payload_at, field_at, fields_within, fields_of}
 use Rattle.params.specs.declared.Check.{Check}
 use Rattle.params.specs.declared.Check.TheVariants.{Good}
-use Rattle.params.specs.Message.{fault, count_of, is_there, judged, first_of, place_in}
-use Rattle.params.specs.Keys.{key_of, keys_of, is_in}
-use Rattle.params.specs.Rules.{kind_of, value_rule, value_field, value_check, bytes_rule, key_rule, entry_field, entry_done, entry_check, item_field, items_check, inside, struct_check}
+use Rattle.params.specs.Message.{fault, walk, first_of, place_in}
+use Rattle.params.specs.Keys.{key_of, value_place, find_in}
+use Rattle.params.specs.Rules.{value_wire, value_text, value_allowed, value_rule, value_field, value_check, bytes_rule, key_rule, seen_of, entry_field, entry_done, entry_check, item_field, items_check, inside, struct_check}
 
 -- a field of bytes, and an entry of such fields, where a length has one byte
 abbrev bytes : ℕ → List ℕ → List ℕ
@@ -51,5 +51,5 @@ pub examples :
     × (checked repeated ≡ fault Repeated 15)
     × (checked (entry (ascii "a") (0x20 ∷ 2 ∷ [])) ≡ fault Other 7)
     × (checked (bytes 0x0A (bytes 0x0A (ascii "a"))) ≡ fault Other 5)
-unfolding struct_check items_check item_field bytes_rule entry_check entry_field entry_done value_check value_field value_rule kind_of key_rule inside judged is_there count_of keys_of is_in key_of place_in first_of same fields_of fields_within field_at payload_at varint_at said_at well_formed rest due_behind table
+unfolding struct_check items_check item_field bytes_rule entry_check entry_field seen_of entry_done value_check value_field value_rule value_wire value_text value_allowed key_rule inside walk find_in first_of key_of value_place place_in same fields_of fields_within field_at payload_at varint_at said_at well_formed rest due_behind table
 examples = (refl, refl, refl, refl, refl, refl)

@@ -1,5 +1,5 @@
--- "Struct: field 1 repeated, an entry {1 key, 2 Value}"; "no key means the empty key"; "no key twice in one Struct".
-use Rattle.std.specs.Prelude.{ℕ, List, [], ◌∷◌, Bool, false, ◌||◌}
+-- "Struct: field 1 repeated, an entry {1 key, 2 Value}"; "no key means the empty key".
+use Rattle.std.specs.Prelude.{ℕ, List, Bool, true, false}
 use Rattle.bytes_be.specs.Part.{part_at, same}
 use Rattle.bytes_be.specs.declared.Place.{Place}
 use Rattle.wire.specs.declared.Field.{Field}
@@ -27,12 +27,6 @@ value_found s field = At (value_place s field.at field.next)
 unfoldable pub find_in : List ℕ → ℕ → ℕ → List ℕ → Found
 find_in s from to key = first_of (has_key s key) (value_found s) Nothing (fields_of s from to)
 
--- the keys of the entries that these fields hold
-unfoldable pub keys_of : List ℕ → List Field → List (List ℕ)
-keys_of s [] = []
-keys_of s (field ∷ fields) = key_of s field.at field.next ∷ keys_of s fields
-
--- whether a key is one of these
-unfoldable pub is_in : List ℕ → List (List ℕ) → Bool
-is_in key [] = false
-is_in key (other ∷ others) = same other key || is_in key others
+abbrev pub is_found : Found → Bool
+is_found (At place) = true
+is_found Nothing = false

@@ -1,8 +1,7 @@
--- "Every breach of these rules or of those for Struct and Value below is refused as 18". 01 says what is refused; which of several faults is
--- told, its kind and its place are the house's own order: from left to right, the first.
-use Rattle.std.specs.Prelude.{ℕ, suc, ◌-◌, List, [], ◌∷◌, ◌++◌, Bool, true, false, cond, not, ltb, eqb}
+-- "Every breach of these rules or of those for Struct and Value below is refused as 18": a message is judged field by field, from left to
+-- right, and its first fault is the answer.
+use Rattle.std.specs.Prelude.{ℕ, ◌-◌, List, [], ◌∷◌, Bool, cond, not, eqb}
 use Rattle.bytes_be.specs.declared.Place.{Place}
-use Rattle.utf8.specs.Text.{well_formed}
 use Rattle.wire.specs.declared.Kind.{Kind}
 use Rattle.wire.specs.declared.Kind.TheVariants.{Other}
 use Rattle.wire.specs.declared.Fault.{Fault}
@@ -36,47 +35,12 @@ abbrev pub and_then : Check → Check → Check
 and_then Good behind = behind
 and_then (Refused why) behind = Refused why
 
--- how many of these fields have the number
-unfoldable pub count_of : ℕ → List Field → ℕ
-count_of number [] = 0
-count_of number (field ∷ fields) = cond (eqb field.number number) (suc (count_of number fields)) (count_of number fields)
-
--- "at most once": whether one of these fields has the number already
-unfoldable pub is_there : ℕ → List Field → Bool
-is_there number front = ltb 0 (count_of number front)
-
--- a message from left to right: each field is judged behind those in front of it, and `done` says what the message lacks at its end
-unfoldable pub judged : (List Field → Field → Check) → (List Field → Check) → List Field → List Reading → Check
-judged judge done front [] = done front
-judged judge done front (Reading-as-Refused why ∷ rest) = Refused why
-judged judge done front (Read field ∷ rest) = and_then (judge front field) (judged judge done (front ++ (field ∷ [])) rest)
-
--- what a field must be, by its field number: its wire type, whether its bytes are a string, and what its varint may say
-pub record Row : Type 0 where
-  pub wire : ℕ → Bool
-  pub string : Bool
-  pub allowed : ℕ → Bool
-
--- a varint that says what is allowed; eight bytes; a string; a Struct or a list
-abbrev pub varint : (ℕ → Bool) → Row
-varint allowed = record { wire = λ wire. eqb wire 0; string = false; allowed = allowed }
-
-abbrev pub eight_bytes : Row
-eight_bytes = record { wire = λ wire. eqb wire 1; string = false; allowed = λ says. true }
-
-abbrev pub string : Row
-string = record { wire = λ wire. eqb wire 2; string = true; allowed = λ says. true }
-
-abbrev pub message : Row
-message = record { wire = λ wire. eqb wire 2; string = false; allowed = λ says. true }
-
--- a field number without a wire type of its own, of which all is allowed, or nothing
-abbrev pub no_own : Bool → Row
-no_own allowed = record { wire = λ wire. true; string = false; allowed = λ says. allowed }
-
--- "bad UTF-8 in any string"
-abbrev pub good_text : Row → List ℕ → Bool
-good_text row bytes = cond row.string (well_formed bytes) true
+-- the fields of a message: each is judged by what was seen before it, and `done` says what is lacking at the end
+unfoldable pub walk : {Seen : Type 0} → (Seen → Field → Check) → (Seen → Field → Seen) → (Seen → Check) → List Reading → Seen → Check
+walk judge move done [] seen = done seen
+walk judge move done (Reading-as-Refused why ∷ rest) seen = Refused why
+walk judge move done (Read field ∷ rest) seen =
+    and_then (judge seen field) (walk judge move done rest (move seen field))
 
 -- what `answer` makes of the first field that `test` holds for, or `none` where no field is such
 unfoldable pub first_of : {A : Type 0} → (Field → Bool) → (Field → A) → A → List Reading → A

@@ -1,6 +1,6 @@
 -- "Struct: field 1 repeated, an entry {1 key, 2 Value} .. A Value holds exactly one of .. list (field 1 repeated, Values). No other fields
--- inside these." The house's own order at a field, behind tag and payload: wire type, repetition, UTF-8, what is allowed, depth; then inside.
-use Rattle.std.specs.Prelude.{ℕ, zero, suc, List, [], Bool, false, cond, not, ◌&&◌, length, ltb, leb, eqb}
+-- inside these." Behind tag and payload the tests at a field run: wire type, repetition, UTF-8, what is allowed, depth; only then inside.
+use Rattle.std.specs.Prelude.{ℕ, zero, suc, List, [], Bool, true, false, cond, not, ◌&&◌, ◌||◌, length, ltb, leb, eqb}
 use Rattle.bytes_be.specs.Part.{between}
 use Rattle.utf8.specs.Text.{well_formed}
 use Rattle.wire.specs.declared.Kind.TheVariants.{WireType, Repeated, BadText, Other, TooDeep}
@@ -8,58 +8,56 @@ use Rattle.wire.specs.declared.Field.{Field}
 use Rattle.wire.specs.Fields.{fields_of}
 use Rattle.params.specs.declared.Check.{Check}
 use Rattle.params.specs.declared.Check.TheVariants.{Good}
-use Rattle.params.specs.Message.{fault, refuse_if, lacking_of, and_then, is_there, judged, Row, varint, eight_bytes, string, message, no_own, good_text}
-use Rattle.params.specs.Keys.{keys_of, is_in}
+use Rattle.params.specs.Message.{fault, refuse_if, lacking_of, and_then, walk}
+use Rattle.params.specs.Keys.{find_in, is_found}
 
 -- ---- "A Value holds exactly one of 1 null (0), 2 number (8 bytes, little-endian double), 3 string, 4 bool (0 or 1), 5 Struct, 6 list"
 
--- by the field number: the six kinds in their order, or none of them
+-- "1 null .. 2 number .. 3 string, 4 bool .. 5 Struct, 6 list", or none of them
 abbrev pub by_kind : {A : Type 0} → ℕ → A → A → A → A → A → A → A → A
-by_kind number null double text bool struct list other =
-    cond (eqb number 1) null
-    (cond (eqb number 2) double
-    (cond (eqb number 3) text
-    (cond (eqb number 4) bool
-    (cond (eqb number 5) struct
-    (cond (eqb number 6) list
+by_kind kind null number text bool struct list other =
+    cond (eqb kind 1) null
+    (cond (eqb kind 2) number
+    (cond (eqb kind 3) text
+    (cond (eqb kind 4) bool
+    (cond (eqb kind 5) struct
+    (cond (eqb kind 6) list
     other)))))
 
--- a row per kind; "No other fields inside these."
-unfoldable pub kind_of : ℕ → Row
-kind_of number =
-    by_kind number
-    (varint (λ says. eqb says 0))
-    eight_bytes
-    string
-    (varint (λ says. leb says 1))
-    message
-    message
-    (no_own false)
+-- each "with its own wire type": a varint, eight bytes, or a length and so many bytes
+unfoldable pub value_wire : ℕ → ℕ → Bool
+value_wire number wire = by_kind number (eqb wire 0) (eqb wire 1) (eqb wire 2) (eqb wire 0) (eqb wire 2) (eqb wire 2) true
 
--- "exactly one": `first` says that no field stands in front, and `repeated`, which only picks the kind of fault, that one of this number does
-unfoldable pub value_rule : List ℕ → Bool → Bool → Field → Check
-value_rule s repeated first field =
-    refuse_if (not ((kind_of field.number).wire field.wire)) WireType field.tag
-    (refuse_if repeated Repeated field.tag
-    (refuse_if (not (good_text (kind_of field.number) (between s field.at field.next))) BadText field.tag
-    (refuse_if (not (first && (kind_of field.number).allowed field.value)) Other field.tag
+-- "bad UTF-8 in any string"
+unfoldable pub value_text : List ℕ → ℕ → ℕ → ℕ → Bool
+value_text s number at next = cond (eqb number 3) (well_formed (between s at next)) true
+
+-- "null (0)", "bool (0 or 1)", "No other fields inside these."
+unfoldable pub value_allowed : ℕ → ℕ → Bool
+value_allowed number value = cond (eqb number 1) (eqb value 0) (cond (eqb number 4) (leb value 1) (leb number 6))
+
+-- "exactly one": `held` is the number of the field in front, or 0; the same again is repeated, another is one kind too many
+unfoldable pub value_rule : List ℕ → ℕ → Field → Check
+value_rule s held field =
+    refuse_if (not (value_wire field.number field.wire)) WireType field.tag
+    (refuse_if (eqb held field.number) Repeated field.tag
+    (refuse_if (not (value_text s field.number field.at field.next)) BadText field.tag
+    (refuse_if (not (eqb held 0 && value_allowed field.number field.value)) Other field.tag
     Good)))
 
 -- a field of a Value, where `inner` judges a Struct or a list, which counts a level
-unfoldable pub value_field : (Field → Check) → List ℕ → Bool → Bool → Field → Check
-value_field inner s repeated first field =
-    and_then (value_rule s repeated first field) (cond (ltb field.number 5) Good (inner field))
+unfoldable pub value_field : (Field → Check) → List ℕ → ℕ → Field → Check
+value_field inner s held field = and_then (value_rule s held field) (cond (ltb field.number 5) Good (inner field))
 
-abbrev pub value_judge : (Field → Check) → List ℕ → List Field → Field → Check
-value_judge inner s front field = value_field inner s (is_there field.number front) (eqb (length front) 0) field
+abbrev pub value_move : ℕ → Field → ℕ
+value_move held field = field.number
 
--- "exactly one", and so not none
-abbrev pub value_done : ℕ → List Field → Check
-value_done to fields = lacking_of to (eqb (length fields) 1)
+abbrev pub value_done : ℕ → ℕ → Check
+value_done to held = lacking_of to (not (eqb held 0))
 
 -- the Value from `from` to `to`
 unfoldable pub value_check : (Field → Check) → List ℕ → ℕ → ℕ → Check
-value_check inner s from to = judged (value_judge inner s) (value_done to) [] (fields_of s from to)
+value_check inner s from to = walk (value_field inner s) value_move (value_done to) (fields_of s from to) 0
 
 -- ---- "Struct: field 1 repeated, an entry {1 key, 2 Value}, each at most once, either order"
 
@@ -71,52 +69,63 @@ bytes_rule most repeated field =
     (refuse_if (ltb most field.number) Other field.tag
     Good))
 
--- "no key twice in one Struct", where those of the entries in front are taken; then "bad UTF-8 in any string"
-unfoldable pub key_rule : List ℕ → List (List ℕ) → Field → Check
-key_rule s taken field =
-    refuse_if (is_in (between s field.at field.next) taken) Repeated field.tag
+-- "no key twice in one Struct", which begins at `from` and has the tag of the key's entry at `tag`; then "bad UTF-8 in any string"
+unfoldable pub key_rule : List ℕ → ℕ → ℕ → Field → Check
+key_rule s from tag field =
+    refuse_if (is_found (find_in s from tag (between s field.at field.next))) Repeated field.tag
     (refuse_if (not (well_formed (between s field.at field.next))) BadText field.tag
     Good)
 
-unfoldable pub entry_field : (Field → Check) → List ℕ → List (List ℕ) → Bool → Field → Check
-entry_field inner s taken repeated field =
-    and_then (bytes_rule 2 repeated field)
-    (cond (eqb field.number 1) (key_rule s taken field) (value_check inner s field.at field.next))
+-- what an entry has had
+pub record Seen : Type 0 where
+  pub key : Bool
+  pub value : Bool
 
--- "each at most once"
-abbrev pub entry_judge : (Field → Check) → List ℕ → List (List ℕ) → List Field → Field → Check
-entry_judge inner s taken front field = entry_field inner s taken (is_there field.number front) field
+unfoldable pub seen_of : Seen → ℕ → Bool
+seen_of seen number = cond (eqb number 1) seen.key (cond (eqb number 2) seen.value false)
+
+unfoldable pub entry_field : (Field → Check) → List ℕ → ℕ → ℕ → Seen → Field → Check
+entry_field inner s from tag seen field =
+    and_then (bytes_rule 2 (seen_of seen field.number) field)
+    (cond (eqb field.number 1) (key_rule s from tag field) (value_check inner s field.at field.next))
+
+abbrev pub entry_move : Seen → Field → Seen
+entry_move seen field =
+    record { key = seen.key || eqb field.number 1; value = seen.value || not (eqb field.number 1) }
 
 -- "no key means the empty key; no Value is refused"
-unfoldable pub entry_done : List (List ℕ) → ℕ → Bool → Bool → Check
-entry_done taken to key value = refuse_if (not key && is_in [] taken) Repeated to (lacking_of to value)
+unfoldable pub entry_done : List ℕ → ℕ → ℕ → ℕ → Seen → Check
+entry_done s from tag to seen =
+    refuse_if (not seen.key && is_found (find_in s from tag [])) Repeated to
+    (lacking_of to seen.value)
 
-abbrev pub entry_end : List (List ℕ) → ℕ → List Field → Check
-entry_end taken to fields = entry_done taken to (is_there 1 fields) (is_there 2 fields)
+-- the entry from `start` to `to`
+unfoldable pub entry_check : (Field → Check) → List ℕ → ℕ → ℕ → ℕ → ℕ → Check
+entry_check inner s from tag start to =
+    walk (entry_field inner s from tag) entry_move (entry_done s from tag to) (fields_of s start to)
+    (record { key = false; value = false })
 
--- the entry from `from` to `to`
-unfoldable pub entry_check : (Field → Check) → List ℕ → List (List ℕ) → ℕ → ℕ → Check
-entry_check inner s taken from to = judged (entry_judge inner s taken) (entry_end taken to) [] (fields_of s from to)
+-- ---- "list (field 1 repeated, Values)", and the Struct that begins at `from`
 
--- ---- "list (field 1 repeated, Values)", and the Struct
-
-unfoldable pub item_field : (Field → Check) → List ℕ → Bool → List (List ℕ) → Field → Check
-item_field inner s list taken field =
+unfoldable pub item_field : (Field → Check) → List ℕ → Bool → ℕ → Field → Check
+item_field inner s list from field =
     and_then (bytes_rule 1 false field)
     (cond list
     (value_check inner s field.at field.next)
-    (entry_check inner s taken field.at field.next))
+    (entry_check inner s from field.tag field.at field.next))
 
-abbrev pub item_judge : (Field → Check) → List ℕ → Bool → List Field → Field → Check
-item_judge inner s list front field = item_field inner s list (keys_of s front) field
+abbrev pub item_judge : (Field → Check) → List ℕ → Bool → ℕ → Unit {0} → Field → Check
+item_judge inner s list from seen field = item_field inner s list from field
 
--- it lacks nothing, however few it has
-abbrev pub items_done : List Field → Check
-items_done fields = Good
+abbrev pub item_move : Unit {0} → Field → Unit {0}
+item_move seen field = seen
+
+abbrev pub item_done : Unit {0} → Check
+item_done seen = Good
 
 -- the list or the Struct from `from` to `to`
 unfoldable pub items_check : (Field → Check) → List ℕ → Bool → ℕ → ℕ → Check
-items_check inner s list from to = judged (item_judge inner s list) items_done [] (fields_of s from to)
+items_check inner s list from to = walk (item_judge inner s list from) item_move item_done (fields_of s from to) tt
 
 -- ---- "Each Struct or list counts one level, the outermost is level 1, at most 8 levels may nest."
 

@@ -1,12 +1,12 @@
 // Struct, Value and list: whether lent bytes are readable, why and where they are not, and the Value of a key.
-ghost use Rattle.std.specs.Prelude.{◌≡◌, ◌≤◌, length, false, cond, eqb};
-ghost use Rattle.bytes_be.specs.Part.{between, same};
+#![tactic(auto)]
+
+ghost use Rattle.std.specs.Prelude.{◌≡◌, ◌≤◌, length};
+ghost use Rattle.bytes_be.specs.Part.{same};
 ghost use Rattle.wire.specs.Fields.{fields_of};
-ghost use Rattle.params.specs.Message.{fault_number, fault, lacking_of, check_number, place_in, good_text};
-ghost use Rattle.params.specs.Keys.{key_of, find_in, is_in};
-ghost use Rattle.params.specs.Held.{unread_of, is_found, keys_in};
-ghost use Rattle.params.specs.Met.{slot_of, is_met, met_with, Covers};
-ghost use Rattle.params.specs.Rules.{kind_of, value_rule, value_field, value_check, bytes_rule, key_rule, entry_field, entry_done, entry_check, item_field, items_check, inside, struct_check, alone_check};
+ghost use Rattle.params.specs.Message.{fault_number, fault, lacking_of, check_number, place_in};
+ghost use Rattle.params.specs.Keys.{key_of, find_in, is_found};
+ghost use Rattle.params.specs.Rules.{value_wire, value_text, value_allowed, value_rule, value_field, value_check, bytes_rule, seen_of, key_rule, entry_field, entry_done, entry_check, item_field, items_check, inside, struct_check, alone_check};
 
 use bytes_be::Place;
 use wire::{Fault, Field, Kind, Reading};
@@ -48,16 +48,6 @@ pub fn fault_of(kind: Kind, at: usize) -> Check
     Check::Refused(Fault { kind: kind, at: at })
 }
 
-// The fault of a field that cannot be read.
-pub fn unread(reading: Reading) -> Check
-    ensures { result ≡ unread_of reading }
-{
-    match reading {
-        Reading::Read(_) => Check::Good,
-        Reading::Refused(why) => Check::Refused(why),
-    }
-}
-
 // What a message that ends at `to` comes to, by whether it has what it must have.
 fn lacking(to: usize, there: bool) -> Check
     ensures { result ≡ lacking_of to there }
@@ -74,16 +64,20 @@ pub fn place_in(s: &[u8], from: usize, to: usize, number: u64) -> Place
 {
     let mut at = from;
     while at < to {
-        let Reading::Read(field) = wire::field_at(s, at, to) else {
-            return Place { at: 0, length: 0 };
-        };
-        if field.number == number {
-            return Place {
-                at: field.at,
-                length: field.next - field.at,
-            };
+        match wire::field_at(s, at, to) {
+            Reading::Refused(_) => {
+                return Place { at: 0, length: 0 };
+            }
+            Reading::Read(field) => {
+                if field.number == number {
+                    return Place {
+                        at: field.at,
+                        length: field.next - field.at,
+                    };
+                }
+                at = field.next;
+            }
         }
-        at = field.next;
     }
     Place { at: 0, length: 0 }
 }
@@ -104,13 +98,17 @@ pub fn find(s: &[u8], from: usize, to: usize, key: &[u8]) -> Found
 {
     let mut at = from;
     while at < to {
-        let Reading::Read(field) = wire::field_at(s, at, to) else {
-            return Found::Nothing;
-        };
-        if has_key(s, field.at, field.next, key) {
-            return Found::At(place_in(s, field.at, field.next, 2));
+        match wire::field_at(s, at, to) {
+            Reading::Refused(_) => {
+                return Found::Nothing;
+            }
+            Reading::Read(field) => {
+                if has_key(s, field.at, field.next, key) {
+                    return Found::At(place_in(s, field.at, field.next, 2));
+                }
+                at = field.next;
+            }
         }
-        at = field.next;
     }
     Found::Nothing
 }
@@ -126,7 +124,7 @@ fn is_found(found: Found) -> bool
 
 // Whether a field of a Value has its own wire type, or a number that has no place there.
 fn value_wire(number: u64, wire: u64) -> bool
-    ensures { result ≡ (kind_of number).wire wire }
+    ensures { result ≡ value_wire number wire }
 {
     match number {
         1 => wire == 0,
@@ -142,7 +140,7 @@ fn value_wire(number: u64, wire: u64) -> bool
 // Whether a field of a Value is text where it is a string.
 fn value_text(s: &[u8], number: u64, at: usize, next: usize) -> bool
     requires { (at ≤ next) × (next ≤ length s.now) }
-    ensures { result ≡ good_text (kind_of number) (between s.now at next) }
+    ensures { result ≡ value_text s.now number at next }
 {
     if number == 3 {
         return utf8::well_formed(&s[at..next]);
@@ -152,20 +150,19 @@ fn value_text(s: &[u8], number: u64, at: usize, next: usize) -> bool
 
 // Whether a Value may hold what its field says, where it holds nothing yet.
 fn value_allowed(number: u64, value: u64) -> bool
-    ensures { result ≡ (kind_of number).allowed value }
+    ensures { result ≡ value_allowed number value }
 {
     match number {
         1 => value == 0,
         4 => value <= 1,
-        // All that the other kinds say is allowed: one test for them is quicker than an arm for each.
-        _ => (1 <= number) & (number <= 6),
+        _ => number <= 6,
     }
 }
 
 // What a field of a Value comes to before its inside is looked at, behind the field `held`, or 0.
 fn value_rule(s: &[u8], held: u64, field: Field) -> Check
     requires { (field.at ≤ field.next) × (field.next ≤ length s.now) }
-    ensures { result ≡ value_rule s.now (eqb held field.number) (eqb held 0) field }
+    ensures { result ≡ value_rule s.now held field }
 {
     if !value_wire(field.number, field.wire) {
         return fault_of(Kind::WireType, field.tag);
@@ -186,7 +183,7 @@ fn value_rule(s: &[u8], held: u64, field: Field) -> Check
 #[cycle(check_entry_check_items_check_value_entry_field_item_field_value_field)]
 fn value_field(s: &[u8], held: u64, field: Field, levels: u8) -> Check
     requires { (field.at ≤ field.next) × (field.next ≤ length s.now) }
-    ensures { result ≡ value_field (inside levels s.now) s.now (eqb held field.number) (eqb held 0) field }
+    ensures { result ≡ value_field (inside levels s.now) s.now held field }
 {
     let rule = value_rule(s, held, field);
     let Check::Good = rule else {
@@ -208,16 +205,19 @@ fn check_value(s: &[u8], from: usize, to: usize, levels: u8) -> Check
     let mut at = from;
     let mut held = 0;
     while at < to {
-        let reading = wire::any_field_at(s, at, to);
-        let Reading::Read(field) = reading else {
-            return unread(reading);
-        };
-        let check = value_field(s, held, field, levels);
-        let Check::Good = check else {
-            return check;
-        };
-        held = field.number;
-        at = field.next;
+        match wire::field_at(s, at, to) {
+            Reading::Refused(why) => {
+                return Check::Refused(why);
+            }
+            Reading::Read(field) => {
+                let check = value_field(s, held, field, levels);
+                let Check::Good = check else {
+                    return check;
+                };
+                held = field.number;
+                at = field.next;
+            }
+        }
     }
     lacking(to, held != 0)
 }
@@ -238,57 +238,14 @@ fn bytes_rule(field: Field, most: u64, repeated: bool) -> Check
     Check::Good
 }
 
-// The bit that the key from `at` to `next` has in the word of the keys met.
-fn slot_of(s: &[u8], at: usize, next: usize) -> usize
-    requires { (at ≤ next) × (next ≤ length s.now) }
-    ensures { result ≡ slot_of (between s.now at next) }
-{
-    if next <= at {
-        return 0;
-    }
-    let first = s[at] as usize;
-    let last = s[next - 1] as usize;
-    ((next - at) % 64 * 7 + first + last * 3) % 64
-}
-
-// Whether that bit is set: where it is not, the key is none of those met.
-fn is_met(s: &[u8], met: u64, at: usize, next: usize) -> bool
-    requires { (at ≤ next) × (next ≤ length s.now) }
-    ensures { result ≡ is_met met (between s.now at next) }
-{
-    (met >> slot_of(s, at, next)) % 2 == 1
-}
-
-// The word behind the entry from `from` to `to`; a Value of a list has no key, and leaves it as it is.
-fn met_with(s: &[u8], met: u64, from: usize, to: usize, list: bool) -> u64
-    ensures { result ≡ cond list met (met_with met (key_of s.now from to)) }
-{
-    if list {
-        return met;
-    }
-    let key = place_in(s, from, to, 1);
-    met | (1u64 << slot_of(s, key.at, key.at + key.length))
-}
-
-// Whether an entry in front of `tag` has the key from `at` to `next`: they are read again only where the bit of the key is set.
-fn is_taken(s: &[u8], met: u64, from: usize, tag: usize, at: usize, next: usize) -> bool
-    requires { ((at ≤ next) × (next ≤ length s.now)) × Covers met (keys_in s.now from tag) }
-    ensures { result ≡ is_in (between s.now at next) (keys_in s.now from tag) }
-{
-    if !is_met(s, met, at, next) {
-        return false;
-    }
-    is_found(find(s, from, tag, &s[at..next]))
-}
-
 // A key, in a Struct that begins at `from` and has the tag of the key's entry at `tag`.
-fn key_rule(s: &[u8], met: u64, from: usize, tag: usize, field: Field) -> Check
-    requires { ((field.at ≤ field.next) × (field.next ≤ length s.now)) × Covers met (keys_in s.now from tag) }
-    ensures { result ≡ key_rule s.now (keys_in s.now from tag) field }
+fn key_rule(s: &[u8], from: usize, tag: usize, field: Field) -> Check
+    requires { (field.at ≤ field.next) × (field.next ≤ length s.now) }
+    ensures { result ≡ key_rule s.now from tag field }
 {
     let at = field.at;
     let next = field.next;
-    if is_taken(s, met, from, tag, at, next) {
+    if is_found(find(s, from, tag, &s[at..next])) {
         return fault_of(Kind::Repeated, field.tag);
     }
     if utf8::well_formed(&s[at..next]) {
@@ -299,7 +256,7 @@ fn key_rule(s: &[u8], met: u64, from: usize, tag: usize, field: Field) -> Check
 
 // Whether an entry has had a field of this number.
 fn seen_of(key: bool, value: bool, number: u64) -> bool
-    ensures { result ≡ cond (eqb number 1) key (cond (eqb number 2) value false) }
+    ensures { result ≡ seen_of (record { key = key; value = value }) number }
 {
     match number {
         1 => key,
@@ -312,7 +269,6 @@ fn seen_of(key: bool, value: bool, number: u64) -> bool
 #[cycle(check_entry_check_items_check_value_entry_field_item_field_value_field)]
 fn entry_field(
     s: &[u8],
-    met: u64,
     from: usize,
     tag: usize,
     key: bool,
@@ -320,36 +276,27 @@ fn entry_field(
     field: Field,
     levels: u8,
 ) -> Check
-    requires { ((field.at ≤ field.next) × (field.next ≤ length s.now)) × Covers met (keys_in s.now from tag) }
-    ensures { result ≡ entry_field (inside levels s.now) s.now (keys_in s.now from tag) (cond (eqb field.number 1) key (cond (eqb field.number 2) value false)) field }
+    requires { (field.at ≤ field.next) × (field.next ≤ length s.now) }
+    ensures { result ≡ entry_field (inside levels s.now) s.now from tag (record { key = key; value = value }) field }
 {
     let rule = bytes_rule(field, 2, seen_of(key, value, field.number));
     let Check::Good = rule else {
         return rule;
     };
     if field.number == 1 {
-        return key_rule(s, met, from, tag, field);
+        return key_rule(s, from, tag, field);
     }
     check_value(s, field.at, field.next, levels)
 }
 
 // What an entry that ends at `to` comes to at its end.
-fn entry_done(
-    s: &[u8],
-    met: u64,
-    from: usize,
-    tag: usize,
-    to: usize,
-    key: bool,
-    value: bool,
-) -> Check
-    requires { Covers met (keys_in s.now from tag) }
-    ensures { result ≡ entry_done (keys_in s.now from tag) to key value }
+fn entry_done(s: &[u8], from: usize, tag: usize, to: usize, key: bool, value: bool) -> Check
+    ensures { result ≡ entry_done s.now from tag to (record { key = key; value = value }) }
 {
     if key {
         return lacking(to, value);
     }
-    if is_taken(s, met, from, tag, 0, 0) {
+    if is_found(find(s, from, tag, &s[..0])) {
         return fault_of(Kind::Repeated, to);
     }
     lacking(to, value)
@@ -357,42 +304,35 @@ fn entry_done(
 
 // The entry from `start` to `to`, in a Struct that begins at `from` and has the entry's tag at `tag`.
 #[cycle(check_entry_check_items_check_value_entry_field_item_field_value_field)]
-fn check_entry(
-    s: &[u8],
-    met: u64,
-    from: usize,
-    tag: usize,
-    start: usize,
-    to: usize,
-    levels: u8,
-) -> Check
-    requires { Covers met (keys_in s.now from tag) }
-    ensures { result ≡ entry_check (inside levels s.now) s.now (keys_in s.now from tag) start to }
+fn check_entry(s: &[u8], from: usize, tag: usize, start: usize, to: usize, levels: u8) -> Check
+    ensures { result ≡ entry_check (inside levels s.now) s.now from tag start to }
 {
     let mut at = start;
     let mut key = false;
     let mut value = false;
     while at < to {
-        let reading = wire::field_at(s, at, to);
-        let Reading::Read(field) = reading else {
-            return unread(reading);
-        };
-        let check = entry_field(s, met, from, tag, key, value, field, levels);
-        let Check::Good = check else {
-            return check;
-        };
-        key = key | (field.number == 1);
-        value = value | (field.number != 1);
-        at = field.next;
+        match wire::field_at(s, at, to) {
+            Reading::Refused(why) => {
+                return Check::Refused(why);
+            }
+            Reading::Read(field) => {
+                let check = entry_field(s, from, tag, key, value, field, levels);
+                let Check::Good = check else {
+                    return check;
+                };
+                key = key | (field.number == 1);
+                value = value | (field.number != 1);
+                at = field.next;
+            }
+        }
     }
-    entry_done(s, met, from, tag, to, key, value)
+    entry_done(s, from, tag, to, key, value)
 }
 
 // A field of a Struct that begins at `from`, or of a list.
 #[cycle(check_entry_check_items_check_value_entry_field_item_field_value_field)]
-fn item_field(s: &[u8], met: u64, from: usize, field: Field, levels: u8, list: bool) -> Check
-    requires { list ≡ false → Covers met (keys_in s.now from field.tag) }
-    ensures { result ≡ item_field (inside levels s.now) s.now list (keys_in s.now from field.tag) field }
+fn item_field(s: &[u8], from: usize, field: Field, levels: u8, list: bool) -> Check
+    ensures { result ≡ item_field (inside levels s.now) s.now list from field }
 {
     let rule = bytes_rule(field, 1, false);
     let Check::Good = rule else {
@@ -401,7 +341,7 @@ fn item_field(s: &[u8], met: u64, from: usize, field: Field, levels: u8, list: b
     if list {
         return check_value(s, field.at, field.next, levels);
     }
-    check_entry(s, met, from, field.tag, field.at, field.next, levels)
+    check_entry(s, from, field.tag, field.at, field.next, levels)
 }
 
 // A Struct or a list from `from` to `to`, in which so many levels may still nest.
@@ -410,19 +350,19 @@ fn check_items(s: &[u8], from: usize, to: usize, levels: u8, list: bool) -> Chec
     ensures { result ≡ items_check (inside levels s.now) s.now list from to }
 {
     let mut at = from;
-    // Each key met has set one bit here, so that most others are known to be new without a search.
-    let mut met: u64 = 0;
     while at < to {
-        let reading = wire::field_at(s, at, to);
-        let Reading::Read(field) = reading else {
-            return unread(reading);
-        };
-        let check = item_field(s, met, from, field, levels, list);
-        let Check::Good = check else {
-            return check;
-        };
-        met = met_with(s, met, field.at, field.next, list);
-        at = field.next;
+        match wire::field_at(s, at, to) {
+            Reading::Refused(why) => {
+                return Check::Refused(why);
+            }
+            Reading::Read(field) => {
+                let check = item_field(s, from, field, levels, list);
+                let Check::Good = check else {
+                    return check;
+                };
+                at = field.next;
+            }
+        }
     }
     Check::Good
 }

@@ -1,4 +1,6 @@
 // Reads one bundle from standard input and writes one line for its control frame.
+#![tactic(auto)]
+
 fn main() {
     // One byte more than the longest bundle, so that a longer input is known as such.
     let mut input = [0u8; 65537];

@@ -1,4 +1,6 @@
 // Parts of the library, exported for the comparison.
+#![tactic(auto)]
+
 ghost use Rattle.std.specs.Prelude.{◌≡◌, cond, ◌-◌, eqb};
 ghost use Rattle.bytes_be.specs.Part.{put_at};
 ghost use Rattle.bytes_be.specs.Number.{number_at, to_bytes};

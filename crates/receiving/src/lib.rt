@@ -1,4 +1,6 @@
 // Receiving: what an endpoint makes of a message, which reply it writes, and what it becomes.
+#![tactic(auto)]
+
 ghost use Rattle.std.specs.Prelude.{◌≡◌, ◌+◌, ◌≤◌, length};
 ghost use Rattle.open.specs.Offer.{offer_of};
 ghost use Rattle.message.specs.Reading.{body_place};
@@ -213,10 +215,10 @@ fn open_carried(said: Open) -> Carried
     ensures { result ≡ open_carried said }
 {
     let number = open::open_number(said);
-    let Open::Heard(opening) = said else {
-        return Carried::Refused(number);
-    };
-    Carried::Content(Content::Opening(opening))
+    match said {
+        Open::Heard(opening) => Carried::Content(Content::Opening(opening)),
+        Open::Refused(_) => Carried::Refused(number),
+    }
 }
 
 fn body_carried(body: Body) -> Carried

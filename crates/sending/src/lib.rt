@@ -1,4 +1,6 @@
 // Sending: which of an endpoint's own messages is allowed, what it writes, and what the endpoint becomes.
+#![tactic(auto)]
+
 ghost use Rattle.std.specs.Prelude.{◌≡◌, []};
 ghost use Rattle.control.specs.Frame.{bytes_of};
 ghost use Rattle.open.specs.Offer.{offer_of};

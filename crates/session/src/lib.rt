@@ -1,1 +1,2 @@
 // Two ends and two queues: demand 3. Definitions and proofs only.
+#![tactic(auto)]

@@ -1,4 +1,6 @@
 // The table of messages: who may send which, in which phase, and which phase and n follow.
+#![tactic(auto)]
+
 ghost use Rattle.std.specs.Prelude.{◌≡◌, ◌-◌};
 ghost use Rattle.table.specs.Table.{allowed as Table·allowed, up_to, begun as Table·begun, open_row, ready_row, data_row, noop_row, close_row, row_of, not_allowed, above_offer, other as Table·other, at_row, moved as Table·moved};
 

@@ -2,4 +2,3 @@
 pub mod Value
 pub mod Lookup
 pub mod Announced
-pub mod Answers

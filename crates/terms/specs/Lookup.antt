@@ -35,7 +35,7 @@ find_layers layer [] key = Absent
 find_layers layer (bytes ∷ beneath) key =
     in_layer layer (find_in bytes 0 (length bytes) key) (find_layers (suc layer) beneath key)
 
--- the layers from the uppermost down: the client's parameters, which are the empty list where they are absent, then the default Struct
+-- the layers from the uppermost down: the client's parameters, then the default Struct
 unfoldable pub look_up : List (List ℕ) → List ℕ → Term
 look_up layers key = read_layers 0 layers (find_layers 0 layers key)
 

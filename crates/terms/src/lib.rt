@@ -1,6 +1,8 @@
 // Terms: what a Value holds, a term looked up by its key, and the limit that a client's parameters announce.
+#![tactic(auto)]
+
 ghost use Rattle.std.specs.Prelude.{◌≡◌, [], ◌∷◌, ◌+◌, ◌≤◌, length};
-ghost use Rattle.terms.specs.Value.{held_by, value_at, if_good, value_of, value_number};
+ghost use Rattle.terms.specs.Value.{held_by, value_at, value_of, value_number};
 ghost use Rattle.terms.specs.Lookup.{if_readable, in_layer, look_up, term_number, IsPart, PartOf};
 ghost use Rattle.terms.specs.Announced.{from_double, from_value, limit_in, announced_number, announced_limit};
 
@@ -53,36 +55,24 @@ fn held_by(s: &[u8], field: Field) -> Value
     }
 }
 
-// What a Value holds that the check refuses; null stands for a good one.
-fn refused(check: Check) -> Value
-    ensures { result ≡ if_good check Value.Null }
-{
-    match check {
-        Check::Good => Value::Null,
-        Check::Refused(why) => Value::Unreadable(why),
-    }
-}
-
 // What the Value from `from` to `to` holds, where it is known to be readable.
 fn value_at(s: &[u8], from: usize, to: usize) -> Value
     ensures { result ≡ value_at s.now from to }
 {
-    let reading = wire::field_at(s, from, to);
-    let Reading::Read(field) = reading else {
-        return refused(params::unread(reading));
-    };
-    held_by(s, field)
+    match wire::field_at(s, from, to) {
+        Reading::Read(field) => held_by(s, field),
+        Reading::Refused(why) => Value::Unreadable(why),
+    }
 }
 
 // What a Value that is read alone holds.
 pub fn value_of(s: &[u8]) -> Value
     ensures { result ≡ value_of s.now }
 {
-    let check = params::check_alone(s);
-    let Check::Good = check else {
-        return refused(check);
-    };
-    value_at(s, 0, s.len())
+    match params::check_alone(s) {
+        Check::Good => value_at(s, 0, s.len()),
+        Check::Refused(why) => Value::Unreadable(why),
+    }
 }
 
 // The number of 01 for a Value: 0, or that of its fault.
@@ -128,12 +118,12 @@ fn unreadable(layer: u8, check: Check) -> Term
 fn in_layer(layer: u8, found: Found) -> Term
     ensures { result ≡ in_layer layer found Term.Absent }
 {
-    let Found::At(place) = found else {
-        return Term::Absent;
-    };
-    Term::In {
-        layer: layer,
-        place: place,
+    match found {
+        Found::At(place) => Term::In {
+            layer: layer,
+            place: place,
+        },
+        Found::Nothing => Term::Absent,
     }
 }
 
@@ -190,13 +180,16 @@ pub fn look_up<'a>(client: &'a [u8], defaults: &'a [u8], key: &[u8], number: &mu
 {
     let term = term_of(client, defaults, key);
     *number = term_number(term) as u32;
-    let Term::In { layer, place } = term else {
-        return part_at(client, Place { at: 0, length: 0 });
-    };
-    if layer == 0 {
-        return part_at(client, place);
+    match term {
+        Term::In { layer, place } => {
+            if layer == 0 {
+                return part_at(client, place);
+            }
+            part_at(defaults, place)
+        }
+        Term::Unreadable { layer: _, why: _ } => part_at(client, Place { at: 0, length: 0 }),
+        Term::Absent => part_at(client, Place { at: 0, length: 0 }),
     }
-    part_at(defaults, place)
 }
 
 // The limit that parameters announce.
@@ -220,20 +213,25 @@ fn from_double(limit: Limit) -> Announced
 fn from_value(value: Value) -> Announced
     ensures { result ≡ from_value value }
 {
-    let Value::Number { double, bits: _ } = value else {
-        return Announced::Bad;
-    };
-    from_double(double::limit_of(double))
+    match value {
+        Value::Number { double, bits: _ } => from_double(double::limit_of(double)),
+        Value::Null => Announced::Bad,
+        Value::Text(_) => Announced::Bad,
+        Value::Boolean(_) => Announced::Bad,
+        Value::Struct => Announced::Bad,
+        Value::List => Announced::Bad,
+        Value::Unreadable(_) => Announced::Bad,
+    }
 }
 
 // The limit that the parameters from `from` to `to` announce, where they are known to be readable.
 pub fn limit_in(s: &[u8], from: usize, to: usize) -> Announced
     ensures { result ≡ limit_in s.now from to }
 {
-    let Found::At(place) = params::find(s, from, to, b"max_message_bytes") else {
-        return Announced::Nothing;
-    };
-    from_value(value_at(s, place.at, place.at + place.length))
+    match params::find(s, from, to, b"max_message_bytes") {
+        Found::At(place) => from_value(value_at(s, place.at, place.at + place.length)),
+        Found::Nothing => Announced::Nothing,
+    }
 }
 
 // The number of 01 for an announced limit: 0, or 19.

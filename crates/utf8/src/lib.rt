@@ -1,4 +1,6 @@
 // Whether bytes are well-formed UTF-8.
+#![tactic(auto)]
+
 ghost use Rattle.std.specs.Prelude.{◌≡◌, true, ◌&&◌, ◌↔◌, ℕ, ◌+◌, ◌≤◌, ◌<◌, length, get_or, drop, ltb};
 ghost use Rattle.bytes_be.specs.Part.{part};
 ghost use Rattle.utf8.specs.Text.{table, due_behind, rest, well_formed};

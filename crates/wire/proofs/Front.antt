@@ -17,7 +17,7 @@ use Rattle.wire.specs.declared.Fault.{Fault}
 use Rattle.wire.specs.declared.Reading.{Reading}
 use Rattle.wire.specs.declared.Reading.TheVariants.{Read, Refused}
 use Rattle.wire.specs.Varint.{below, bounded, said_at, varint_at}
-use Rattle.wire.specs.Fields.{Tag, from_to, fault, held, on_varint, sized, payload_at, tagged, field_at, fields_of}
+use Rattle.wire.specs.Fields.{on_varint, sized, numbered, payload_at, tagged, field_at, fields_of}
 use Rattle.wire.proofs.Varints.{cut_not_read, bad_not_read, read_next, said_within, varint_within}
 use Rattle.wire.proofs.Readings.{field_within, no_fields, first_field, first_fault}
 
@@ -78,15 +78,15 @@ module _ (s : List ℕ) (end stop : ℕ) where
       go Bad q e = refused_not_read e
 
   module _ (field : Field) (front : field.next ≤ stop) where
-    sized_ends : (tag : Tag) (from size : ℕ) → sized tag (from_to from end) size ≡ Read field → (from ≤ stop) × (sized tag (from_to from stop) size ≡ Read field)
-    sized_ends tag from size e = go (ltb (end - from) size) e
+    sized_ends : (tag number wire at size : ℕ) → sized tag number wire at end size ≡ Read field → (at ≤ stop) × (sized tag number wire at stop size ≡ Read field)
+    sized_ends tag number wire at size e = go (ltb (end - at) size) e
       where
-        go : (t : Bool) → cond t (fault Kind-as-CutShort tag.at) (held tag 0 (from_to from (from + size))) ≡ Read field
-            → (from ≤ stop) × (sized tag (from_to from stop) size ≡ Read field)
+        go : (t : Bool) → cond t (Refused (record { kind = Kind-as-CutShort; at = tag })) (Read (record { tag = tag; number = number; wire = wire; value = 0; at = at; next = at + size })) ≡ Read field
+            → (at ≤ stop) × (sized tag number wire at stop size ≡ Read field)
         go true e = refused_not_read e
         go false e =
-            let last : from + size ≡ field.next = ap (λ (f : Field). f.next) (same_field e) in
-            (omega arith, rw (le-ltb (stop - from) size (omega arith)) e)
+            let last : at + size ≡ field.next = ap (λ (f : Field). f.next) (same_field e) in
+            (omega arith, rw (le-ltb (stop - at) size (omega arith)) e)
 
     either : (t : Bool) {x y : Reading} {A : Type 0} → (x ≡ Read field → A) → (y ≡ Read field → A) → cond t x y ≡ Read field → A
     either true f g e = f e
@@ -100,41 +100,37 @@ module _ (s : List ℕ) (end stop : ℕ) where
         go CutShort q e = refused_not_read e
         go Bad q e = refused_not_read e
 
-    held_ends : (tag : Tag) (from value next : ℕ) → held tag value (from_to from next) ≡ Read field → next ≤ stop
-    held_ends tag from value next e = let last : next ≡ field.next = ap (λ (f : Field). f.next) (same_field e) in omega arith
+    numbered_ends : (tag number at v x : ℕ) → numbered tag number at v x ≡ Read field → x ≤ stop
+    numbered_ends tag number at v x e = let last : x ≡ field.next = ap (λ (f : Field). f.next) (same_field e) in omega arith
 
-    payload_ends : (tag : Tag) (from : ℕ) → payload_at s tag (from_to from end) ≡ Read field → from ≤ stop
+    payload_ends : (tag number wire at : ℕ) → payload_at s tag number wire at end ≡ Read field → at ≤ stop
     unfolding payload_at
-    payload_ends tag from e =
-        either (eqb tag.wire 0) (on_varint_ends tag.at from (λ value next. held tag value (from_to from next)) (held_ends tag from))
-        (either (eqb tag.wire 1) (λ e. (sized_ends tag from 8 e).0)
-        (either (eqb tag.wire 2) (on_varint_ends tag.at from (λ size from. sized tag (from_to from end) size) (λ v x e. (sized_ends tag x v e).0))
-        (either (eqb tag.wire 5) (λ e. (sized_ends tag from 4 e).0) (λ e. refused_not_read e))))
+    payload_ends tag number wire at e =
+        either (eqb wire 0) (on_varint_ends tag at (numbered tag number at) (numbered_ends tag number at))
+        (either (eqb wire 1) (λ e. (sized_ends tag number 1 at 8 e).0)
+        (either (eqb wire 2) (on_varint_ends tag at (λ size from. sized tag number 2 from end size) (λ v x e. (sized_ends tag number 2 x v e).0))
+        (either (eqb wire 5) (λ e. (sized_ends tag number 5 at 4 e).0) (λ e. refused_not_read e))))
         e
 
-    payload_front : (tag : Tag) (from : ℕ) → payload_at s tag (from_to from end) ≡ Read field → payload_at s tag (from_to from stop) ≡ Read field
+    payload_front : (tag number wire at : ℕ) → payload_at s tag number wire at end ≡ Read field → payload_at s tag number wire at stop ≡ Read field
     unfolding payload_at
-    payload_front tag from e =
-        choice_front (eqb tag.wire 0) field
-        (on_varint_front tag.at from (λ value next. held tag value (from_to from next)) (λ value next. held tag value (from_to from next)) field (held_ends tag from) (λ v x e. e))
-        (choice_front (eqb tag.wire 1) field (λ e. (sized_ends tag from 8 e).1)
-        (choice_front (eqb tag.wire 2) field
-        (on_varint_front tag.at from (λ size from. sized tag (from_to from end) size) (λ size from. sized tag (from_to from stop) size) field (λ v x e. (sized_ends tag x v e).0) (λ v x e. (sized_ends tag x v e).1))
-        (choice_front (eqb tag.wire 5) field (λ e. (sized_ends tag from 4 e).1) (λ e. refused_not_read e))))
+    payload_front tag number wire at e =
+        choice_front (eqb wire 0) field
+        (on_varint_front tag at (numbered tag number at) (numbered tag number at) field (numbered_ends tag number at) (λ v x e. e))
+        (choice_front (eqb wire 1) field (λ e. (sized_ends tag number 1 at 8 e).1)
+        (choice_front (eqb wire 2) field
+        (on_varint_front tag at (λ size from. sized tag number 2 from end size) (λ size from. sized tag number 2 from stop size) field (λ v x e. (sized_ends tag number 2 x v e).0) (λ v x e. (sized_ends tag number 2 x v e).1))
+        (choice_front (eqb wire 5) field (λ e. (sized_ends tag number 5 at 4 e).1) (λ e. refused_not_read e))))
         e
 
-    -- the tag at a place whose varint says so
-    abbrev tag_at : ℕ → ℕ → Tag
-    tag_at at v = record { at = at; number = v / 8; wire = v % 8 }
-
-    pub field_front : (at : ℕ) → stop ≤ length s → field_at s at end ≡ Read field → field_at s at stop ≡ Read field
+    field_front : (at : ℕ) → stop ≤ length s → field_at s at end ≡ Read field → field_at s at stop ≡ Read field
     unfolding field_at
     field_front at there e =
         rw (le-ltb (length s) stop there)
         (either (ltb (length s) end) (λ e. refused_not_read e)
-        (on_varint_front at at (tagged s (from_to at end)) (tagged s (from_to at stop)) field
-        (λ v x. either (leb 8 v && leb v 0xFFFF_FFFF) (payload_ends (tag_at at v) x) (λ e. refused_not_read e))
-        (λ v x. choice_front (leb 8 v && leb v 0xFFFF_FFFF) field (payload_front (tag_at at v) x) (λ e. e)))
+        (on_varint_front at at (tagged s at end) (tagged s at stop) field
+        (λ v x. either (leb 8 v && leb v 0xFFFF_FFFF) (payload_ends at (v / 8) (v % 8) x) (λ e. refused_not_read e))
+        (λ v x. choice_front (leb 8 v && leb v 0xFFFF_FFFF) field (payload_front at (v / 8) (v % 8) x) (λ e. e)))
         e)
 
 -- ---- the fields in front of a field

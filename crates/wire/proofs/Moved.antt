@@ -16,16 +16,13 @@ use Rattle.wire.specs.declared.Field.{Field}
 use Rattle.wire.specs.declared.Reading.{Reading}
 use Rattle.wire.specs.declared.Reading.TheVariants.{Read, Refused}
 use Rattle.wire.specs.Varint.{below, bounded, said_at, varint_at}
-use Rattle.wire.specs.Fields.{Tag, from_to, held, on_varint, sized, payload_at, tagged, field_at, and_behind, fields_within, fields_of}
+use Rattle.wire.specs.Fields.{on_varint, sized, numbered, payload_at, tagged, field_at, and_behind, fields_within, fields_of}
 
 -- everything moved by so many places
 abbrev varint_by : ℕ → Varint → Varint
 varint_by n (Number value next) = Number value (n + next)
 varint_by n CutShort = CutShort
 varint_by n Bad = Bad
-
-abbrev tag_by : ℕ → Tag → Tag
-tag_by n tag = record { at = n + tag.at; number = tag.number; wire = tag.wire }
 
 abbrev pub field_by : ℕ → Field → Field
 field_by n field =
@@ -73,10 +70,10 @@ on_varint_by n tag then then' (Number v x) f = f v x refl
 on_varint_by n tag then then' CutShort f = refl
 on_varint_by n tag then then' Bad f = refl
 
-sized_by : (n : ℕ) (tag : Tag) (from end size : ℕ) → sized (tag_by n tag) (from_to (n + from) (n + end)) size ≡ reading_by n (sized tag (from_to from end) size)
-sized_by n tag from end size =
-    let room : n + end - (n + from) ≡ end - from = omega arith in
-    rw (room, add_assoc n from size) (cond_by n (ltb (end - from) size) _ _ refl refl)
+sized_by : (n tag number wire at end size : ℕ) → sized (n + tag) number wire (n + at) (n + end) size ≡ reading_by n (sized tag number wire at end size)
+sized_by n tag number wire at end size =
+    let room : n + end - (n + at) ≡ end - at = omega arith in
+    rw (room, add_assoc n at size) (cond_by n (ltb (end - at) size) _ _ refl refl)
 
 module _ (s : List ℕ) (n size : ℕ) (there : n + size ≤ length s) where
   said_by : (left i j : ℕ) → j ≤ size → said_at left s (n + i) (n + j) ≡ varint_by n (said_at left (part s n size) i j)
@@ -102,25 +99,23 @@ module _ (s : List ℕ) (n size : ℕ) (there : n + size ≤ length s) where
   unfolding varint_at
   varint-by i j h = ap bounded (said_by 10 i j h) ∙ bounded_by n (said_at 10 (part s n size) i j)
 
-  payload_by : (tag : Tag) (from end : ℕ) → end ≤ size
-      → payload_at s (tag_by n tag) (from_to (n + from) (n + end)) ≡ reading_by n (payload_at (part s n size) tag (from_to from end))
+  payload_by : (tag number wire at end : ℕ) → end ≤ size
+      → payload_at s (n + tag) number wire (n + at) (n + end) ≡ reading_by n (payload_at (part s n size) tag number wire at end)
   unfolding payload_at
-  payload_by tag from end h =
-      let said = varint_at (part s n size) from end in
-      rw (varint-by from end h)
-      (cond_by n (eqb tag.wire 0) _ _
-      (on_varint_by n tag.at (λ v x. held (tag_by n tag) v (from_to (n + from) x)) (λ v x. held tag v (from_to from x)) said (λ v x e. refl))
-      (cond_by n (eqb tag.wire 1) _ _ (sized_by n tag from end 8)
-      (cond_by n (eqb tag.wire 2) _ _
-      (on_varint_by n tag.at (λ v x. sized (tag_by n tag) (from_to x (n + end)) v) (λ v x. sized tag (from_to x end) v) said (λ v x e. sized_by n tag x end v))
-      (cond_by n (eqb tag.wire 5) _ _ (sized_by n tag from end 4) refl))))
+  payload_by tag number wire at end h =
+      rw (varint-by at end h)
+      (cond_by n (eqb wire 0) _ _ (on_varint_by n tag (numbered (n + tag) number (n + at)) (numbered tag number at) (varint_at (part s n size) at end) (λ v x e. refl))
+      (cond_by n (eqb wire 1) _ _ (sized_by n tag number 1 at end 8)
+      (cond_by n (eqb wire 2) _ _
+      (on_varint_by n tag (λ count from. sized (n + tag) number 2 from (n + end) count) (λ count from. sized tag number 2 from end count) (varint_at (part s n size) at end) (λ v x e. sized_by n tag number 2 x end v))
+      (cond_by n (eqb wire 5) _ _ (sized_by n tag number 5 at end 4) refl))))
 
   pub field-by : (at end : ℕ) → end ≤ size → field_at s (n + at) (n + end) ≡ reading_by n (field_at (part s n size) at end)
   unfolding field_at
   field-by at end h =
       rw (le-ltb (length s) (n + end) (omega arith), length_part s n size there, le-ltb size end h, varint-by at end h)
-      (on_varint_by n at (tagged s (from_to (n + at) (n + end))) (tagged (part s n size) (from_to at end)) (varint_at (part s n size) at end) (λ v x e.
-      cond_by n (leb 8 v && leb v 0xFFFF_FFFF) _ _ (payload_by (record { at = at; number = v / 8; wire = v % 8 }) x end h) refl))
+      (on_varint_by n at (tagged s (n + at) (n + end)) (tagged (part s n size) at end) (varint_at (part s n size) at end) (λ v x e.
+      cond_by n (leb 8 v && leb v 0xFFFF_FFFF) _ _ (payload_by at (v / 8) (v % 8) x end h) refl))
 
   fields_within_by : (left at end : ℕ) → end ≤ size → fields_within left s (n + end) (n + at) ≡ map (reading_by n) (fields_within left (part s n size) end at)
   unfolding fields_within

@@ -5,26 +5,13 @@ use mathlib.Core.List.{List}
 use mathlib.Core.Bool.{Bool, true, false, cond}
 use lib.ListN.{get_or}
 use lib.Dec.{ltb}
-use mathlib.Core.Logic.{◌⊎◌, inl, inr}
-use denote.Enum.Declared.{tag_of}
 use native.Mathlib.Numerals.{sub-one}
 use native.Mathlib.Omega.{arith}
 use borrow.Author.Tests.{le-ltb, lt-ltb, ltb-true, ltb-false}
 use Rattle.bytes_be.proofs.Tests.{clash}
 use Rattle.wire.specs.declared.Varint.{Varint}
 use Rattle.wire.specs.declared.Varint.TheVariants.{Number, CutShort, Bad}
-use Rattle.wire.specs.contracts.Varint.{the_type}
 use Rattle.wire.specs.Varint.{below, bounded, said_at, varint_at}
-
--- what the other branch of `let Varint::Number { .. } = r else` knows of `r`
-abbrev pub NotRead : Varint → Type 0
-NotRead r = (tag_of the_type r ≡ 1) ⊎ (tag_of the_type r ≡ 2)
-
-pub by_unread : (P : Varint → Type 0) (r : Varint) → NotRead r → P CutShort → P Bad → P r
-by_unread P (Number value next) (inl e) cut bad = absurd (omega (arith, e))
-by_unread P (Number value next) (inr e) cut bad = absurd (omega (arith, e))
-by_unread P CutShort n cut bad = cut
-by_unread P Bad n cut bad = bad
 
 -- a byte below what the bytes behind it say, where what they say is known to be bounded
 abbrev below_bounded : ℕ → Varint → Varint
@@ -81,20 +68,18 @@ module _ (left : ℕ) (s : List ℕ) (at end : ℕ) where
           said : below_bounded (get_or s at 0) r ≡ bounded (said_at left s at end)
           said = ap (below_bounded (get_or s at 0)) behind ∙ sym (bounded_below (get_or s at 0) (said_at (left - 1) s (at + 1) end)) ∙ at_more
 
-          pub more_read : (value next low : ℕ) → r ≡ Number value next → low ≡ get_or s at 0 % 128 → value < 2 ^ 57
+          pub more_read : (value next low : ℕ) → r ≡ Number value next → value < 2 ^ 57 → low ≡ get_or s at 0 % 128
               → Number (value * 128 + low) next ≡ bounded (said_at left s at end)
-          more_read value next low p q l = cc (said, lt-ltb value (2 ^ 57) l)
+          more_read value next low p l q = cc (said, lt-ltb value (2 ^ 57) l)
 
           pub more_large : (value next : ℕ) → r ≡ Number value next → 2 ^ 57 ≤ value → Bad ≡ bounded (said_at left s at end)
           more_large value next p l = cc (said, le-ltb value (2 ^ 57) l)
 
-          pub more_unread : NotRead r → r ≡ bounded (said_at left s at end)
-          more_unread n = sym (by_unread (λ w. below_bounded (get_or s at 0) w ≡ w) r n refl refl) ∙ said
+          pub more_cut : r ≡ CutShort → CutShort ≡ bounded (said_at left s at end)
+          more_cut p = cc said
 
--- a byte that is not marked is a varint
-pub one_digit : (s : List ℕ) (at end : ℕ) → at < end → get_or s at 0 < 128 → varint_at s at end ≡ Number (get_or s at 0) (at + 1)
-unfolding varint_at
-one_digit s at end inside small = sym (at_last 10 s at end (λ e. absurd (omega arith)) inside small)
+          pub more_bad : r ≡ Bad → Bad ≡ bounded (said_at left s at end)
+          more_bad p = cc said
 
 pub cut_not_read : {A : Type 0} {value next : ℕ} → CutShort ≡ Number value next → A
 cut_not_read e = clash cc

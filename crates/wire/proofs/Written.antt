@@ -10,7 +10,7 @@ use Rattle.bytes_be.proofs.Parts.{part_there, drop_past}
 use Rattle.wire.specs.declared.Field.{Field}
 use Rattle.wire.specs.declared.Reading.TheVariants.{Read}
 use Rattle.wire.specs.Varint.{shortest_within, shortest_of, varint_length}
-use Rattle.wire.specs.Fields.{from_to, payload_at, field_at, fields_of}
+use Rattle.wire.specs.Fields.{payload_at, field_at, fields_of}
 use Rattle.wire.specs.Written.{tag_of, varint_field, eight_field, bytes_field}
 use Rattle.wire.proofs.Shortest.{varint_back}
 use Rattle.wire.proofs.Readings.{field_within, first_field}
@@ -90,7 +90,7 @@ module _ (at number : ℕ) where
 module _ (s : List ℕ) (at end : ℕ) (there : end ≤ length s) where
   -- the tag
   tag_back : (number wire : ℕ) (rest : List ℕ) → Numbers number → wire < 8 → drop at s ≡ tag_of number wire ++ rest → at + length (tag_of number wire) ≤ end
-      → field_at s at end ≡ payload_at s (record { at = at; number = number; wire = wire }) (from_to (at + length (tag_of number wire)) end)
+      → field_at s at end ≡ payload_at s at number wire (at + length (tag_of number wire)) end
   unfolding field_at tag_of varint_length
   tag_back number wire rest n w e room =
       let small = n.1 in let some = n.0 in

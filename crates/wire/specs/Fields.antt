@@ -1,6 +1,5 @@
 -- "field 0, tags above 2^32-1, other wire types, a varint over 10 bytes or above 2^64-1, .. a length past the end": what is refused at a
--- field of any message. The kind of a fault, its place, which is that of the field's tag, and the order of the tests are the house's own:
--- document 01 only says what is refused, all of it as 18.
+-- field of any message, with the place of its tag.
 use Rattle.std.specs.Prelude.{ℕ, zero, suc, ◌+◌, ◌-◌, ◌/◌, ◌%◌, List, [], ◌∷◌, cond, ◌&&◌, length, ltb, leb, eqb}
 use Rattle.wire.specs.declared.Kind.{Kind}
 use Rattle.wire.specs.declared.Kind.TheVariants.{CutShort as Kind-as-CutShort, BadVarint, WireType}
@@ -10,27 +9,8 @@ use Rattle.wire.specs.declared.Reading.{Reading}
 use Rattle.wire.specs.declared.Reading.TheVariants.{Read, Refused}
 use Rattle.wire.specs.Varint.{varint_at}
 
--- what a tag says: the place where it stands, the number of its field and the wire type
-pub record Tag : Type 0 where
-  pub at : ℕ
-  pub number : ℕ
-  pub wire : ℕ
-
--- the bytes of a message from one place up to another
-pub record Span : Type 0 where
-  pub from : ℕ
-  pub to : ℕ
-
-abbrev pub from_to : ℕ → ℕ → Span
-from_to from to = record { from = from; to = to }
-
 abbrev pub fault : Kind → ℕ → Reading
 fault kind at = Refused (record { kind = kind; at = at })
-
--- the field of a tag: what its varint says, and its payload
-abbrev pub held : Tag → ℕ → Span → Reading
-held tag value payload =
-    Read (record { tag = tag.at; number = tag.number; wire = tag.wire; value = value; at = payload.from; next = payload.to })
 
 -- what follows a varint that was read, or the fault of the field whose tag is at `tag`
 abbrev pub on_varint : ℕ → (ℕ → ℕ → Reading) → Varint → Reading
@@ -38,41 +18,35 @@ on_varint tag then (Number value next) = then value next
 on_varint tag then CutShort = fault Kind-as-CutShort tag
 on_varint tag then Bad = fault BadVarint tag
 
--- "a length past the end": past what is left of the message that holds the field
-abbrev pub sized : Tag → Span → ℕ → Reading
-sized tag left size =
-    cond (ltb (left.to - left.from) size) (fault Kind-as-CutShort tag.at) (held tag 0 (from_to left.from (left.from + size)))
+-- "a length past the end": of the message that holds the field
+abbrev pub sized : ℕ → ℕ → ℕ → ℕ → ℕ → ℕ → Reading
+sized tag number wire at end size =
+    cond (ltb (end - at) size)
+    (fault Kind-as-CutShort tag)
+    (Read (record { tag = tag; number = number; wire = wire; value = 0; at = at; next = at + size }))
 
--- a varint
-abbrev pub numbered : List ℕ → Tag → Span → Reading
-numbered s tag left =
-    on_varint tag.at (λ value next. held tag value (from_to left.from next)) (varint_at s left.from left.to)
+abbrev pub numbered : ℕ → ℕ → ℕ → ℕ → ℕ → Reading
+numbered tag number at value next =
+    Read (record { tag = tag; number = number; wire = 0; value = value; at = at; next = next })
 
--- a length, and so many bytes
-abbrev pub measured : List ℕ → Tag → Span → Reading
-measured s tag left =
-    on_varint tag.at (λ size from. sized tag (from_to from left.to) size) (varint_at s left.from left.to)
+-- wire types 0 (a varint), 1 (eight bytes), 2 (a length and so many bytes) and 5 (four bytes); "other wire types"
+unfoldable pub payload_at : List ℕ → ℕ → ℕ → ℕ → ℕ → ℕ → Reading
+payload_at s tag number wire at end =
+    cond (eqb wire 0) (on_varint tag (numbered tag number at) (varint_at s at end))
+    (cond (eqb wire 1) (sized tag number 1 at end 8)
+    (cond (eqb wire 2) (on_varint tag (λ size from. sized tag number 2 from end size) (varint_at s at end))
+    (cond (eqb wire 5) (sized tag number 5 at end 4)
+    (fault WireType tag))))
 
--- the field whose tag was read, by wire type: 0 a varint, 1 eight bytes, 2 a length and so many bytes, 5 four bytes; "other wire types"
-unfoldable pub payload_at : List ℕ → Tag → Span → Reading
-payload_at s tag left =
-    cond (eqb tag.wire 0) (numbered s tag left)
-    (cond (eqb tag.wire 1) (sized tag left 8)
-    (cond (eqb tag.wire 2) (measured s tag left)
-    (cond (eqb tag.wire 5) (sized tag left 4)
-    (fault WireType tag.at))))
-
--- "field 0, tags above 2^32-1": the field whose tag says `value`, which is eight times its number and its wire type
-abbrev pub tagged : List ℕ → Span → ℕ → ℕ → Reading
-tagged s left value next =
-    cond (leb 8 value && leb value 0xFFFF_FFFF)
-    (payload_at s (record { at = left.from; number = value / 8; wire = value % 8 }) (from_to next left.to))
-    (fault BadVarint left.from)
+-- "field 0, tags above 2^32-1": a tag is eight times the field's number, and its wire type
+abbrev pub tagged : List ℕ → ℕ → ℕ → ℕ → ℕ → Reading
+tagged s tag end value next =
+    cond (leb 8 value && leb value 0xFFFF_FFFF) (payload_at s tag (value / 8) (value % 8) next end) (fault BadVarint tag)
 
 -- the field whose tag is at place `at` of a message that ends at `end`; one that ends behind the bytes is cut short
 unfoldable pub field_at : List ℕ → ℕ → ℕ → Reading
 field_at s at end =
-    cond (ltb (length s) end) (fault Kind-as-CutShort at) (on_varint at (tagged s (from_to at end)) (varint_at s at end))
+    cond (ltb (length s) end) (fault Kind-as-CutShort at) (on_varint at (tagged s at end) (varint_at s at end))
 
 -- the field, and those behind it
 abbrev pub and_behind : (ℕ → List Reading) → Reading → List Reading

@@ -2,4 +2,3 @@
 pub mod Varint
 pub mod Fields
 pub mod Written
-pub mod Held

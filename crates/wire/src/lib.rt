@@ -1,9 +1,10 @@
 // Protobuf's varints and fields: read at a place of a lent message, and the shortest varint of a number.
+#![tactic(auto)]
+
 ghost use Rattle.std.specs.Prelude.{◌≡◌, cond, ◌≤◌, ◌+◌, ◌%◌, ltb, length, take};
 ghost use Rattle.bytes_be.specs.Part.{put_at};
 ghost use Rattle.wire.specs.Varint.{bounded, said_at, varint_at, varint_length, shortest_of};
-ghost use Rattle.wire.specs.Fields.{from_to, fault, on_varint, sized, numbered, measured, payload_at, field_at};
-ghost use Rattle.wire.specs.Held.{is_short};
+ghost use Rattle.wire.specs.Fields.{fault, sized, payload_at, field_at};
 
 // Why a message cannot be read.
 #[derive(Drop)]
@@ -82,17 +83,20 @@ fn varint_within(s: &[u8], at: usize, end: usize, left: usize) -> Varint
             next: at + 1,
         };
     }
-    let behind = varint_within(s, at + 1, end, left - 1);
-    let Varint::Number { value, next } = behind else {
-        return behind;
-    };
-    if value < 0x0200_0000_0000_0000 {
-        return Varint::Number {
-            value: value * 128 + wide(byte % 128),
-            next: next,
-        };
+    match varint_within(s, at + 1, end, left - 1) {
+        Varint::Number { value, next } => {
+            if value < 0x0200_0000_0000_0000 {
+                Varint::Number {
+                    value: value * 128 + wide(byte % 128),
+                    next: next,
+                }
+            } else {
+                Varint::Bad
+            }
+        }
+        Varint::CutShort => Varint::CutShort,
+        Varint::Bad => Varint::Bad,
     }
-    Varint::Bad
 }
 
 // The varint at place `at` of a message that ends at `end`. Nearly all have one byte, and need no call.
@@ -118,21 +122,10 @@ fn fault_of(kind: Kind, at: usize) -> Reading
     Reading::Refused(Fault { kind: kind, at: at })
 }
 
-// The fault of the field at `tag` whose varint was not read.
-fn unread(tag: usize, varint: Varint) -> Reading
-    ensures { result ≡ on_varint tag (λ value next. fault Kind.BadVarint tag) varint }
-{
-    match varint {
-        Varint::Number { value: _, next: _ } => fault_of(Kind::BadVarint, tag),
-        Varint::CutShort => fault_of(Kind::CutShort, tag),
-        Varint::Bad => fault_of(Kind::BadVarint, tag),
-    }
-}
-
 // The field whose payload is the `size` bytes from place `at` on.
 fn sized_field(tag: usize, number: u64, wire: u64, at: usize, end: usize, size: u64) -> Reading
     requires { at ≤ end }
-    ensures { result ≡ sized (record { at = tag; number = number; wire = wire }) (from_to at end) size }
+    ensures { result ≡ sized tag number wire at end size }
 {
     let room = (end - at) as u64;
     if room < size {
@@ -148,104 +141,53 @@ fn sized_field(tag: usize, number: u64, wire: u64, at: usize, end: usize, size: 
     })
 }
 
-// The field whose payload is the varint at place `at`.
-fn varint_field(s: &[u8], tag: usize, number: u64, at: usize, end: usize) -> Reading
-    requires { end ≤ length s.now }
-    ensures { result ≡ numbered s.now (record { at = tag; number = number; wire = 0 }) (from_to at end) }
-{
-    let read = varint_at(s, at, end);
-    let Varint::Number { value, next } = read else {
-        return unread(tag, read);
-    };
-    Reading::Read(Field {
-        tag: tag,
-        number: number,
-        wire: 0,
-        value: value,
-        at: at,
-        next: next,
-    })
-}
-
-// The field whose payload is as many bytes as the varint at place `at` says, behind it.
-fn bytes_field(s: &[u8], tag: usize, number: u64, at: usize, end: usize) -> Reading
-    requires { end ≤ length s.now }
-    ensures { result ≡ measured s.now (record { at = tag; number = number; wire = 2 }) (from_to at end) }
-{
-    let read = varint_at(s, at, end);
-    let Varint::Number { value, next } = read else {
-        return unread(tag, read);
-    };
-    sized_field(tag, number, 2, next, end, value)
-}
-
 // The field whose tag was read, and whose payload begins at place `at`.
 fn payload_at(s: &[u8], tag: usize, number: u64, wire: u64, at: usize, end: usize) -> Reading
     requires { (at ≤ end) × (end ≤ length s.now) }
-    ensures { result ≡ payload_at s.now (record { at = tag; number = number; wire = wire }) (from_to at end) }
+    ensures { result ≡ payload_at s.now tag number wire at end }
 {
     match wire {
-        0 => varint_field(s, tag, number, at, end),
+        0 => match varint_at(s, at, end) {
+            Varint::Number { value, next } => Reading::Read(Field {
+                tag: tag,
+                number: number,
+                wire: 0,
+                value: value,
+                at: at,
+                next: next,
+            }),
+            Varint::CutShort => fault_of(Kind::CutShort, tag),
+            Varint::Bad => fault_of(Kind::BadVarint, tag),
+        },
         1 => sized_field(tag, number, 1, at, end, 8),
-        2 => bytes_field(s, tag, number, at, end),
+        2 => match varint_at(s, at, end) {
+            Varint::Number { value, next } => sized_field(tag, number, 2, next, end, value),
+            Varint::CutShort => fault_of(Kind::CutShort, tag),
+            Varint::Bad => fault_of(Kind::BadVarint, tag),
+        },
         5 => sized_field(tag, number, 5, at, end, 4),
         _ => fault_of(Kind::WireType, tag),
     }
 }
 
 // The field whose tag is at place `at` of a message that ends at `end`.
-pub fn any_field_at(s: &[u8], at: usize, end: usize) -> Reading
+pub fn field_at(s: &[u8], at: usize, end: usize) -> Reading
     ensures { result ≡ field_at s.now at end }
 {
     if s.len() < end {
         return fault_of(Kind::CutShort, at);
     }
-    let read = varint_at(s, at, end);
-    let Varint::Number { value, next } = read else {
-        return unread(at, read);
-    };
-    let legal = (8 <= value) & (value <= 0xFFFF_FFFF);
-    if legal {
-        return payload_at(s, at, value / 8, value % 8, next, end);
+    match varint_at(s, at, end) {
+        Varint::Number { value, next } => {
+            let legal = (8 <= value) & (value <= 0xFFFF_FFFF);
+            if legal {
+                return payload_at(s, at, value / 8, value % 8, next, end);
+            }
+            fault_of(Kind::BadVarint, at)
+        }
+        Varint::CutShort => fault_of(Kind::CutShort, at),
+        Varint::Bad => fault_of(Kind::BadVarint, at),
     }
-    fault_of(Kind::BadVarint, at)
-}
-
-// Whether a field of bytes stands at place `at` of a message that ends at `end` whose tag and whose length have one byte each.
-fn is_short(s: &[u8], at: usize, end: usize) -> bool
-    ensures { result ≡ is_short s.now at end }
-{
-    if s.len() < end {
-        return false;
-    }
-    if end <= at {
-        return false;
-    }
-    let room = end - at;
-    if room < 2 {
-        return false;
-    }
-    let tag = s[at];
-    let size = s[at + 1];
-    let fits = (size < 128) & (size as usize <= room - 2);
-    (8 <= tag) & (tag < 128) & (tag % 8 == 2) & fits
-}
-
-// The same as `any_field_at`, and quicker for a short field, as nearly all are.
-pub fn field_at(s: &[u8], at: usize, end: usize) -> Reading
-    ensures { result ≡ field_at s.now at end }
-{
-    if is_short(s, at, end) {
-        return Reading::Read(Field {
-            tag: at,
-            number: wide(s[at] / 8),
-            wire: 2,
-            value: 0,
-            at: at + 2,
-            next: at + 2 + s[at + 1] as usize,
-        });
-    }
-    any_field_at(s, at, end)
 }
 
 // A number's lowest seven bits, marked where higher ones follow.

@@ -1,22 +1,13 @@
 -- `bundle::contents_of` meets its contract: at each `return` the tests that led there say whether the bundle is good.
 -- Assumes nothing.
-use mathlib.Core.Path.{◌≡◌}
-use mathlib.Core.Bool.{true}
-use native.Mathlib.Nat.{add-zero, le_trans}
-use lib.Dec.{leb, lit≤}
-use borrow.Author.Tests.{le-leb, leb-true, eq-eqb, ne_eqb}
+use native.Mathlib.Nat.{add-zero}
+use lib.Dec.{leb}
+use borrow.Author.Tests.{leb-true, eq-eqb, ne_eqb}
 use Rattle.bytes_be.proofs.Tests.{both_true}
-use Rattle.bundle.specs.Reading.{counted, contents_of, good, start_of, size_of, lengths_before}
+use Rattle.bundle.specs.Reading.{contents_of, good, start_of, size_of, lengths_before}
 use borrow.Author.Rules.{rules}
 use Rattle.bundle.proofs.contents_of.Statement.{statement}
 use Rattle.bundle.proofs.contents_of.Tie as tie
-
--- where the lengths are read, there are 1 to 16
-counts : (c : tie.Then1) → counted c.before.count_of.result ≡ true
-counts c =
-    let count = c.before.count_of.result in
-    let tests = both_true (leb 1 count) _ c.if1.true in
-    simp (tests.0, le-leb count 16 (le_trans (leb-true _ _ tests.1) (lit≤ tt)))
 
 count_of_requires : tie.Need-count-of-requires
 count_of_requires c κs = search rules
@@ -27,7 +18,7 @@ cast_count c = search rules
 lengths_before_requires : tie.Need-lengths-before-requires
 lengths_before_requires c κs =
     let count = c.before.count_of.result in
-    leb-true _ _ (both_true (leb 1 count) (leb count 16) (counts c)).1
+    leb-true _ _ (both_true (leb 1 count) (leb count 16) c.if1.true).1
 
 mul_end : tie.Need-overflow-mul-end
 mul_end c = search rules
@@ -55,7 +46,7 @@ unfolding contents_of good start_of size_of lengths_before
 returns c =
     simp (
       ← c.before.before.before.before.count_of.ensures,
-      counts c.before.before.before,
+      c.before.before.before.if1.true,
       ← c.before.before.lengths-before.ensures.0,
       eq-eqb _ _ c.before.if2.true,
       add-zero,
@@ -64,7 +55,7 @@ returns c =
 
 returns_2 : tie.Need-returns-2
 unfolding contents_of good start_of
-returns_2 c = simp (← c.before.before.before.count_of.ensures, counts c.before.before, ← c.before.lengths-before.ensures.0, ne_eqb _ _ c.if2.false)
+returns_2 c = simp (← c.before.before.before.count_of.ensures, c.before.before.if1.true, ← c.before.lengths-before.ensures.0, ne_eqb _ _ c.if2.false)
 
 returns_3 : tie.Need-returns-3
 unfolding contents_of good

@@ -1,5 +1,5 @@
 -- `double::backwards` meets its contract: eight bytes are their elements one by one, here the last one first. Assumes nothing.
-use borrow.Author.Rules.{rules}
+use Rattle.std.proofs.Common.{rules}
 use Rattle.bytes_be.proofs.Words.{eight_backwards}
 use Rattle.double.proofs.backwards.Statement.{statement}
 use Rattle.double.proofs.backwards.Tie as tie

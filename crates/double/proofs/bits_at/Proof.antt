@@ -1,6 +1,6 @@
 -- `double::bits_at` meets its contract: it is the number that the eight bytes say. Assumes nothing.
 use Rattle.double.specs.Double.{bits_at}
-use borrow.Author.Rules.{rules}
+use Rattle.std.proofs.Common.{rules}
 use Rattle.double.proofs.bits_at.Statement.{statement}
 use Rattle.double.proofs.bits_at.Tie as tie
 

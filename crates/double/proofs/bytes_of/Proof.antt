@@ -1,10 +1,8 @@
 -- `double::bytes_of` meets its contract: 32 bits are exact in a double and no NaN, and its eight bytes are turned round whole.
 -- Assumes nothing.
-use mathlib.Core.Path.{ap, ◌∙◌}
-use mathlib.Core.List.{reverse}
+use Rattle.std.proofs.Common.{reverse, ap, ◌∙◌, rules}
 use Rattle.double.specs.Double.{bytes_of}
 use Rattle.double.proofs.Patterns.{whole_no_nan}
-use borrow.Author.Rules.{rules}
 use Rattle.double.proofs.bytes_of.Statement.{statement}
 use Rattle.double.proofs.bytes_of.Tie as tie
 

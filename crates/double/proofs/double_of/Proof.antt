@@ -2,7 +2,7 @@
 -- Assumes nothing.
 use lib.Ieee.{div, of_bits}
 use Rattle.double.proofs.Patterns.{nan_above, no_nan_up_to}
-use borrow.Author.Rules.{rules}
+use Rattle.std.proofs.Common.{rules}
 use Rattle.double.proofs.double_of.Statement.{statement}
 use Rattle.double.proofs.double_of.Tie as tie
 

@@ -1,32 +1,59 @@
--- `double::limit_of` meets its contract: what is out of range or not whole is no limit, and what is left is one. Assumes nothing.
-use mathlib.Core.Path.{sym, ◌∙◌, subst}
-use lib.Dec.{T, lit≤}
-use lib.Ieee.{of_bits}
+-- `double::limit_of` meets its contract: each test that fails rules a limit out, and equal bits are those of the same double.
+-- Assumes nothing.
+use lib.Ieee.{of_bits, neg}
+use lib.Ieee.Bits.{is_true}
 use denote.Floats.{passes}
 use borrow.Author.Tests.{not-true, not-false}
-use Rattle.double.proofs.Limits.{range_within, limit_outside, limit_fraction, limit_whole}
+use Rattle.double.proofs.Patterns.{whole_no_nan, above_no_nan}
+use Rattle.double.proofs.Limits.{truncates_ends, limit_far, limit_small, limit_large, limit_lost, limit_same_bits}
+use Rattle.std.proofs.Common.{rules}
 use Rattle.double.proofs.limit_of.Statement.{statement}
 use Rattle.double.proofs.limit_of.Tie as tie
 
 returns : tie.Need-returns
-unfolding of_bits
-returns c = limit_outside _ _ _ tt tt (passes _ c.before.well-formed.0.1) (lit≤ tt) (lit≤ tt) (not-true _ c.if1.true)
+unfolding of_bits neg
+returns c = limit_far _ (not-true _ c.if1.true)
 
-is_whole_requires : tie.Need-is-whole-requires
-unfolding of_bits
-is_whole_requires c κs = range_within _ _ _ tt tt (lit≤ tt) (lit≤ tt) (not-false _ c.if1.false)
+truncating_f64_to_u64_requires : tie.Need-truncating-f64-to-u64-requires
+unfolding of_bits neg
+truncating_f64_to_u64_requires c κs = truncates_ends _ (not-false _ c.if1.false)
 
 returns_2 : tie.Need-returns-2
-returns_2 c = limit_fraction _ (sym c.before.is_whole.ensures ∙ not-true _ c.if2.true)
-
-float_to_int_t6 : tie.Need-float-to-int-t6
-float_to_int_t6 c = subst T (sym (sym c.before.before.is_whole.ensures ∙ not-false _ c.before.if2.false)) tt
+returns_2 c = limit_small _ (passes _ c.before.before.before.well-formed.0.1) _ c.before.truncating-f64-to-u64.ensures (search rules)
 
 returns_3 : tie.Need-returns-3
-unfolding of_bits
-returns_3 c =
-    limit_whole _ (passes _ c.before.before.before.before.well-formed.0.1) (sym c.before.before.is_whole.ensures ∙ not-false _ c.before.if2.false)
-    (not-false _ c.before.before.before.if1.false)
+returns_3 c = limit_large _ (passes _ c.before.before.before.before.well-formed.0.1) _ c.before.before.truncating-f64-to-u64.ensures (search rules)
+
+cast_number : tie.Need-overflow-cast-number
+cast_number c = search rules
+
+int_to_float_if4 : tie.Need-int-to-float-if4
+int_to_float_if4 c = search rules
+
+float_to_bits_if4 : tie.Need-float-to-bits-if4
+float_to_bits_if4 c = whole_no_nan _ (search rules)
+
+float_to_bits_if4_2 : tie.Need-float-to-bits-if4-2
+unfolding of_bits neg
+float_to_bits_if4_2 c = above_no_nan _ _ (is_true _ (truncates_ends _ (not-false _ c.before.before.before.before.if1.false)).0)
+
+returns_4 : tie.Need-returns-4
+returns_4 c = limit_same_bits _ _ (passes _ c.before.before.before.before.before.before.well-formed.0.1) (search rules) (search rules) c.if4.true
+
+returns_5 : tie.Need-returns-5
+returns_5 c = limit_lost _ (passes _ c.before.before.before.before.before.before.well-formed.0.1) _ c.before.before.before.before.truncating-f64-to-u64.ensures c.if4.false
 
 pub limit_of_spec : {M : Type 1} → statement M
-limit_of_spec = tie.close (tie.spec returns is_whole_requires returns_2 float_to_int_t6 returns_3)
+limit_of_spec =
+    tie.close
+    (tie.spec
+    returns
+    truncating_f64_to_u64_requires
+    returns_2
+    returns_3
+    cast_number
+    int_to_float_if4
+    float_to_bits_if4
+    float_to_bits_if4_2
+    returns_4
+    returns_5)

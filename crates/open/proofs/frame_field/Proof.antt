@@ -1,6 +1,6 @@
 -- `open::frame_field` meets its contract, the rule before the inside. Assumes nothing.
 use borrow.Author.Tests.{eq-eqb, ne_eqb}
-use Rattle.params.proofs.Judging.{stopped, passed}
+use Rattle.params.proofs.Walks.{stopped, passed}
 use Rattle.open.specs.Frame.{frame_field}
 use borrow.Author.Rules.{rules}
 use Rattle.open.proofs.frame_field.Statement.{statement}

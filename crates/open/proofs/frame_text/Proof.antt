@@ -1,5 +1,5 @@
 -- `open::frame_text` meets its contract, by whether the field is a string. Assumes nothing.
-use Rattle.open.proofs.Rows.{is_string}
+use Rattle.open.specs.Frame.{frame_text}
 use borrow.Author.Rules.{rules}
 use Rattle.open.proofs.frame_text.Statement.{statement}
 use Rattle.open.proofs.frame_text.Tie as tie
@@ -17,10 +17,12 @@ well_formed_requires : tie.Need-well-formed-requires
 well_formed_requires c κs = search rules
 
 returns : tie.Need-returns
-returns c = simp (is_string c.before.before.before.before.args.number, c.before.before.if1.true) c.well-formed-2.ensures
+unfolding frame_text
+returns c = simp c.before.before.if1.true c.well-formed-2.ensures
 
 returns_2 : tie.Need-returns-2
-returns_2 c = simp (is_string c.before.before.args.number, c.if1.false)
+unfolding frame_text
+returns_2 c = simp c.if1.false
 
 pub frame_text_spec : {M : Type 1} → statement M
 frame_text_spec =

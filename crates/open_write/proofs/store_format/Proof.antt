@@ -1,6 +1,6 @@
 -- `open_write::store_format` meets its contract, by whether the format is empty. Assumes nothing.
 use Prim.Native.Nat.{ℕ, ◌+◌}
-use mathlib.Core.Path.{◌≡◌, sym, ap, ◌∙◌}
+use mathlib.Core.Path.{sym, ap, ◌∙◌}
 use mathlib.Core.List.{List}
 use lib.ListN.{length}
 use native.Mathlib.Nat.{add-zero}
@@ -12,18 +12,14 @@ use Rattle.open_write.proofs.Fields.{format_none, format_some}
 use Rattle.open_write.proofs.store_format.Statement.{statement}
 use Rattle.open_write.proofs.store_format.Tie as tie
 
--- where the format is stored, it is not empty
-some : (c : tie.Then1) → length c.before.before.before.args.format.now ≡ 0 → ⊥
-some c = search rules
-
 store_bytes_requires : tie.Need-store-bytes-requires
-store_bytes_requires c κs = (omega arith, rw (format_some _ (some c.before)) at c.before.before.before.before.requires)
+store_bytes_requires c κs = (omega arith, rw (format_some _ c.before.if1.true) at c.before.before.before.before.requires)
 
 same_length : tie.Need-same-length
 same_length c = search rules
 
 returns : tie.Need-returns
-returns c = rw (← format_some _ (some c.before.before.before.before)) at c.before.before.store_Bytes.ensures
+returns c = rw (← format_some _ c.before.before.before.before.if1.true) at c.before.before.store_Bytes.ensures
 
 returns_2 : tie.Need-returns-2
 returns_2 c =

@@ -1,15 +1,15 @@
 -- The check of a Value, an entry, a Struct and a list meets its contract: siblings by a loop, nesting by calls with fewer levels left.
 -- Assumes nothing.
 use Prim.Native.Nat.{ℕ, ◌+◌, ◌-◌, ◌*◌, ◌<◌}
-use mathlib.Core.Path.{sym, ◌∙◌}
+use mathlib.Core.Path.{◌≡◌, refl, sym, ◌∙◌}
 use native.Mathlib.Omega.{arith}
 use borrow.Author.Rules.{rules}
 use borrow.Author.Tests.{lt-ltb, le-ltb, eq-eqb, ne_eqb}
+use Rattle.wire.specs.Fields.{fields_of}
 use Rattle.wire.proofs.Readings.{field_within, less_left}
-use Rattle.params.specs.Held.{keys_in}
-use Rattle.params.specs.Rules.{value_field, entry_field, item_field}
-use Rattle.params.proofs.Judging.{inside_none, inside_more, stopped, passed}
-use Rattle.params.proofs.Fronts.{ValueFront, value_begun, value_ends, value_unread, value_stops, value_goes_on, EntryFront, entry_begun, entry_ends, entry_unread, entry_stops, entry_goes_on, ItemsFront, items_begun, items_end, items_unread, items_covered, items_stop, items_go_on}
+use Rattle.params.specs.Message.{walk}
+use Rattle.params.specs.Rules.{value_field, value_move, value_done, value_check, entry_field, entry_move, entry_done, entry_check, item_field, item_judge, item_move, item_done, items_check, inside}
+use Rattle.params.proofs.Walks.{walk_done, walk_refused, walk_stopped, walk_on, inside_none, inside_more, stopped, passed}
 use borrow.Fn.Kinds.{In}
 use borrow.Fn.PlainCycle.{Measures, is, falls, and}
 use Rattle.params.proofs.check_entry.Reads as check-entry
@@ -35,11 +35,8 @@ use Rattle.params.proofs.entry_done.Reads as entry-done-reads
 use Rattle.params.proofs.fault_of.Reads as fault-of-reads
 use Rattle.params.proofs.key_rule.Reads as key-rule-reads
 use Rattle.params.proofs.lacking.Reads as lacking-reads
-use Rattle.params.proofs.met_with.Reads as met-with-reads
 use Rattle.params.proofs.seen_of.Reads as seen-of-reads
 use Rattle.params.proofs.value_rule.Reads as value-rule-reads
-use Rattle.params.proofs.unread.Reads as unread-reads
-use Rattle.wire.proofs.any_field_at.Reads as any-field-at-reads
 use Rattle.wire.proofs.field_at.Reads as field-at-reads
 use Rattle.params.proofs.+check_entry_check_items_check_value_entry_field_item_field_value_field.{
   statement,
@@ -49,7 +46,7 @@ use Rattle.params.proofs.+check_entry_check_items_check_value_entry_field_item_f
 }
 
 abbrev μ-check-entry : Measures 1 check-entry-kinds.ps ℕ
-μ-check-entry κs a = 8 * a.1.1.1.1.1.1.0 + 3
+μ-check-entry κs a = 8 * a.1.1.1.1.1.0 + 3
 
 abbrev μ-check-items : Measures 1 check-items-kinds.ps ℕ
 μ-check-items κs a = 8 * a.1.1.1.0 + 5
@@ -58,10 +55,10 @@ abbrev μ-check-value : Measures 1 check-value-kinds.ps ℕ
 μ-check-value κs a = 8 * a.1.1.1.0 + 1
 
 abbrev μ-entry-field : Measures 1 entry-field-kinds.ps ℕ
-μ-entry-field κs a = 8 * a.1.1.1.1.1.1.1.0 + 2
+μ-entry-field κs a = 8 * a.1.1.1.1.1.1.0 + 2
 
 abbrev μ-item-field : Measures 1 item-field-kinds.ps ℕ
-μ-item-field κs a = 8 * a.1.1.1.1.0 + 4
+μ-item-field κs a = 8 * a.1.1.1.0 + 4
 
 abbrev μ-value-field : Measures 1 value-field-kinds.ps ℕ
 μ-value-field κs a = 8 * a.1.1.1.0
@@ -124,163 +121,158 @@ abbrev calls_entry_field : ℕ → entry-field-lts.Claims
 calls_entry_field t = (seen-of-reads.Asked, seen-of-reads.Learnt, bytes-rule-reads.Asked, bytes-rule-reads.Learnt, key-rule-reads.Asked, key-rule-reads.Learnt, check_value_below t, check-value.Post)
 
 abbrev calls_check_value : ℕ → check-value-lts.Claims
-calls_check_value t = (any-field-at-reads.Asked, any-field-at-reads.Learnt, unread-reads.Asked, unread-reads.Learnt, value_field_below t, value-field.Post, lacking-reads.Asked, lacking-reads.Learnt)
+calls_check_value t = (field-at-reads.Asked, field-at-reads.Learnt, value_field_below t, value-field.Post, lacking-reads.Asked, lacking-reads.Learnt)
 
 abbrev calls_check_items : ℕ → check-items-lts.Claims
-calls_check_items t = (field-at-reads.Asked, field-at-reads.Learnt, unread-reads.Asked, unread-reads.Learnt, item_field_below t, item-field.Post, met-with-reads.Asked, met-with-reads.Learnt)
+calls_check_items t = (field-at-reads.Asked, field-at-reads.Learnt, item_field_below t, item-field.Post)
 
 abbrev calls_check_entry : ℕ → check-entry-lts.Claims
-calls_check_entry t = (field-at-reads.Asked, field-at-reads.Learnt, unread-reads.Asked, unread-reads.Learnt, entry_field_below t, entry-field.Post, entry-done-reads.Asked, entry-done-reads.Learnt)
+calls_check_entry t = (field-at-reads.Asked, field-at-reads.Learnt, entry_field_below t, entry-field.Post, entry-done-reads.Asked, entry-done-reads.Learnt)
 
 abbrev check_entry_Inv_loop : check-entry-lts.invariant-loop
-check_entry_Inv_loop s met from tag start to levels at₀ key₀ value₀ at key value = EntryFront levels s (keys_in s from tag) start to at key value
+check_entry_Inv_loop s from tag start to levels at₀ key₀ value₀ at key value =
+    entry_check (inside levels s) s from tag start to
+    ≡ walk (entry_field (inside levels s) s from tag) entry_move (entry_done s from tag to) (fields_of s at to) (record { key = key; value = value })
 
 abbrev check-entry-μ-loop : check-entry-lts.decreases-loop
-check-entry-μ-loop s met from tag start to levels at₀ key₀ value₀ at key value = to - at
+check-entry-μ-loop s from tag start to levels at₀ key₀ value₀ at key value = to - at
 
 check_entry_loop_holds : (t : ℕ) → check-entry-lts.Need-loop-init (calls_check_entry t) (check_entry_at t) check-entry.Post check_entry_Inv_loop check-entry-μ-loop
-check_entry_loop_holds t c = entry_begun _ _ _ _ _
+unfolding entry_check
+check_entry_loop_holds t c = refl
 
 check_entry_field_at_requires : (t : ℕ) → check-entry-lts.Need-field-at-requires (calls_check_entry t) (check_entry_at t) check-entry.Post check_entry_Inv_loop check-entry-μ-loop
 check_entry_field_at_requires t c κs = search rules
 
-check_entry_enum_known_reading : (t : ℕ) → check-entry-lts.Need-enum-known-reading (calls_check_entry t) (check_entry_at t) check-entry.Post check_entry_Inv_loop check-entry-μ-loop
-check_entry_enum_known_reading t c = search rules
+check_entry_enum_known_why : (t : ℕ) → check-entry-lts.Need-enum-known-why (calls_check_entry t) (check_entry_at t) check-entry.Post check_entry_Inv_loop check-entry-μ-loop
+check_entry_enum_known_why t c = search rules
+
+check_entry_returns : (t : ℕ) → check-entry-lts.Need-returns (calls_check_entry t) (check_entry_at t) check-entry.Post check_entry_Inv_loop check-entry-μ-loop
+check_entry_returns t c = walk_refused _ _ _ _ _ _ _ _ c.before.before.before.before.before.loop.invariant c.before.before.before.before.loop-test.true _ c.before.before.before.field_at.ensures _ c.before.why.given.1
+
+check_entry_enum_known_field : (t : ℕ) → check-entry-lts.Need-enum-known-field (calls_check_entry t) (check_entry_at t) check-entry.Post check_entry_Inv_loop check-entry-μ-loop
+check_entry_enum_known_field t c = search rules
+
+check_entry_entry_field_requires : (t : ℕ) → check-entry-lts.Need-entry-field-requires (calls_check_entry t) (check_entry_at t) check-entry.Post check_entry_Inv_loop check-entry-μ-loop
+check_entry_entry_field_requires t c κs =
+    let w = field_within _ _ _ _ (sym c.before.before.before.field_at.ensures ∙ c.before.field.given.1) in
+    let i = w.inside in let l = w.there in
+    (search rules, (w.ends, omega arith))
 
 check_entry_enum_told : (t : ℕ) → check-entry-lts.Need-enum-told (calls_check_entry t) (check_entry_at t) check-entry.Post check_entry_Inv_loop check-entry-μ-loop
 check_entry_enum_told t c = search rules
 
-check_entry_unread_requires : (t : ℕ) → check-entry-lts.Need-unread-requires (calls_check_entry t) (check_entry_at t) check-entry.Post check_entry_Inv_loop check-entry-μ-loop
-check_entry_unread_requires t c κs = search rules
-
-check_entry_returns : (t : ℕ) → check-entry-lts.Need-returns (calls_check_entry t) (check_entry_at t) check-entry.Post check_entry_Inv_loop check-entry-μ-loop
-check_entry_returns t c = entry_unread _ _ _ _ _ _ _ _ c.before.before.before.before.before.loop.invariant c.before.before.before.before.loop-test.true _ c.before.before.before.field_at.ensures _ c.before.enum_told.given.1 _ c.unread.ensures
-
-check_entry_entry_field_requires : (t : ℕ) → check-entry-lts.Need-entry-field-requires (calls_check_entry t) (check_entry_at t) check-entry.Post check_entry_Inv_loop check-entry-μ-loop
-check_entry_entry_field_requires t c κs =
-    let w = field_within _ _ _ _ (sym c.before.before.before.field_at.ensures ∙ c.before.reading.given.1) in
-    let i = w.inside in let l = w.there in
-    (search rules, ((w.ends, omega arith), c.before.before.before.before.before.before.before.requires.1))
-
 check_entry_enum_told_2 : (t : ℕ) → check-entry-lts.Need-enum-told-2 (calls_check_entry t) (check_entry_at t) check-entry.Post check_entry_Inv_loop check-entry-μ-loop
 check_entry_enum_told_2 t c = search rules
 
-check_entry_enum_told_3 : (t : ℕ) → check-entry-lts.Need-enum-told-3 (calls_check_entry t) (check_entry_at t) check-entry.Post check_entry_Inv_loop check-entry-μ-loop
-check_entry_enum_told_3 t c = search rules
-
 check_entry_returns_2 : (t : ℕ) → check-entry-lts.Need-returns-2 (calls_check_entry t) (check_entry_at t) check-entry.Post check_entry_Inv_loop check-entry-μ-loop
-check_entry_returns_2 t c = entry_stops _ _ _ _ _ _ _ _ c.before.before.before.before.before.before.before.before.loop.invariant c.before.before.before.before.before.before.before.loop-test.true _ c.before.before.before.before.before.before.field_at.ensures _ c.before.before.before.before.reading.given.1 _ c.before.before.entry-field.ensures _ c.enum-told3.given.1
+check_entry_returns_2 t c = walk_stopped _ _ _ _ _ _ _ _ c.before.before.before.before.before.before.before.before.loop.invariant c.before.before.before.before.before.before.before.loop-test.true _ c.before.before.before.before.before.before.field_at.ensures _ c.before.before.before.before.field.given.1 _ c.before.before.entry-field.ensures _ c.enum-told2.given.1
 
 check_entry_loop_less : (t : ℕ) → check-entry-lts.Need-loop-smaller (calls_check_entry t) (check_entry_at t) check-entry.Post check_entry_Inv_loop check-entry-μ-loop
-check_entry_loop_less t c = less_left _ _ _ _ _ c.before.before.before.before.before.before.before.before.field_at.ensures c.before.before.before.before.before.before.reading.given.1 c.before.before.before.before.before.before.before.before.before.loop-test.true
+check_entry_loop_less t c = less_left _ _ _ _ _ c.before.before.before.before.before.before.before.before.field_at.ensures c.before.before.before.before.before.before.field.given.1 c.before.before.before.before.before.before.before.before.before.loop-test.true
 
 check_entry_loop_again : (t : ℕ) → check-entry-lts.Need-loop-preserved (calls_check_entry t) (check_entry_at t) check-entry.Post check_entry_Inv_loop check-entry-μ-loop
-check_entry_loop_again t c = entry_goes_on _ _ _ _ _ _ _ _ c.before.before.before.before.before.before.before.before.before.before.loop.invariant c.before.before.before.before.before.before.before.before.before.loop-test.true _ c.before.before.before.before.before.before.before.before.field_at.ensures _ c.before.before.before.before.before.before.reading.given.1 _ c.before.before.before.before.entry-field.ensures c.before.before.enum-told2.given.1
+check_entry_loop_again t c = walk_on _ _ _ _ _ _ _ _ c.before.before.before.before.before.before.before.before.before.before.loop.invariant c.before.before.before.before.before.before.before.before.before.loop-test.true _ c.before.before.before.before.before.before.before.before.field_at.ensures _ c.before.before.before.before.before.before.field.given.1 _ c.before.before.before.before.entry-field.ensures c.before.before.enum_told.given.1
 
 check_entry_entry_done_requires : (t : ℕ) → check-entry-lts.Need-entry-done-requires (calls_check_entry t) (check_entry_at t) check-entry.Post check_entry_Inv_loop check-entry-μ-loop
 check_entry_entry_done_requires t c κs = search rules
 
 check_entry_returns_3 : (t : ℕ) → check-entry-lts.Need-returns-3 (calls_check_entry t) (check_entry_at t) check-entry.Post check_entry_Inv_loop check-entry-μ-loop
-check_entry_returns_3 t c = entry_ends _ _ _ _ _ _ _ _ c.before.before.loop.invariant c.before.loop-test.false _ c.entry_Done.ensures
+check_entry_returns_3 t c = c.entry_Done.ensures ∙ walk_done _ _ _ _ _ _ _ _ c.before.before.loop.invariant c.before.loop-test.false
 
 abbrev check_items_Inv_loop : check-items-lts.invariant-loop
-check_items_Inv_loop s from to levels list at₀ met₀ at met = ItemsFront levels s list from to at met
+check_items_Inv_loop s from to levels list at₀ at =
+    items_check (inside levels s) s list from to ≡ walk (item_judge (inside levels s) s list from) item_move item_done (fields_of s at to) tt
 
 abbrev check-items-μ-loop : check-items-lts.decreases-loop
-check-items-μ-loop s from to levels list at₀ met₀ at met = to - at
+check-items-μ-loop s from to levels list at₀ at = to - at
 
 check_items_loop_holds : (t : ℕ) → check-items-lts.Need-loop-init (calls_check_items t) (check_items_at t) check-items.Post check_items_Inv_loop check-items-μ-loop
-check_items_loop_holds t c = items_begun _ _ _ _ _
+unfolding items_check
+check_items_loop_holds t c = refl
 
 check_items_field_at_requires : (t : ℕ) → check-items-lts.Need-field-at-requires (calls_check_items t) (check_items_at t) check-items.Post check_items_Inv_loop check-items-μ-loop
 check_items_field_at_requires t c κs = search rules
 
-check_items_enum_known_reading : (t : ℕ) → check-items-lts.Need-enum-known-reading (calls_check_items t) (check_items_at t) check-items.Post check_items_Inv_loop check-items-μ-loop
-check_items_enum_known_reading t c = search rules
+check_items_enum_known_why : (t : ℕ) → check-items-lts.Need-enum-known-why (calls_check_items t) (check_items_at t) check-items.Post check_items_Inv_loop check-items-μ-loop
+check_items_enum_known_why t c = search rules
+
+check_items_returns : (t : ℕ) → check-items-lts.Need-returns (calls_check_items t) (check_items_at t) check-items.Post check_items_Inv_loop check-items-μ-loop
+check_items_returns t c = walk_refused _ _ _ _ _ _ _ _ c.before.before.before.before.before.loop.invariant c.before.before.before.before.loop-test.true _ c.before.before.before.field_at.ensures _ c.before.why.given.1
+
+check_items_enum_known_field : (t : ℕ) → check-items-lts.Need-enum-known-field (calls_check_items t) (check_items_at t) check-items.Post check_items_Inv_loop check-items-μ-loop
+check_items_enum_known_field t c = search rules
+
+check_items_item_field_requires : (t : ℕ) → check-items-lts.Need-item-field-requires (calls_check_items t) (check_items_at t) check-items.Post check_items_Inv_loop check-items-μ-loop
+check_items_item_field_requires t c κs = search rules
 
 check_items_enum_told : (t : ℕ) → check-items-lts.Need-enum-told (calls_check_items t) (check_items_at t) check-items.Post check_items_Inv_loop check-items-μ-loop
 check_items_enum_told t c = search rules
 
-check_items_unread_requires : (t : ℕ) → check-items-lts.Need-unread-requires (calls_check_items t) (check_items_at t) check-items.Post check_items_Inv_loop check-items-μ-loop
-check_items_unread_requires t c κs = search rules
-
-check_items_returns : (t : ℕ) → check-items-lts.Need-returns (calls_check_items t) (check_items_at t) check-items.Post check_items_Inv_loop check-items-μ-loop
-check_items_returns t c = items_unread _ _ _ _ _ _ _ c.before.before.before.before.before.loop.invariant c.before.before.before.before.loop-test.true _ c.before.before.before.field_at.ensures _ c.before.enum_told.given.1 _ c.unread.ensures
-
-check_items_item_field_requires : (t : ℕ) → check-items-lts.Need-item-field-requires (calls_check_items t) (check_items_at t) check-items.Post check_items_Inv_loop check-items-μ-loop
-check_items_item_field_requires t c κs = (search rules, items_covered _ _ _ _ _ _ _ c.before.before.before.before.before.loop.invariant c.before.before.before.before.loop-test.true _ c.before.before.before.field_at.ensures _ c.before.reading.given.1)
-
 check_items_enum_told_2 : (t : ℕ) → check-items-lts.Need-enum-told-2 (calls_check_items t) (check_items_at t) check-items.Post check_items_Inv_loop check-items-μ-loop
 check_items_enum_told_2 t c = search rules
 
-check_items_enum_told_3 : (t : ℕ) → check-items-lts.Need-enum-told-3 (calls_check_items t) (check_items_at t) check-items.Post check_items_Inv_loop check-items-μ-loop
-check_items_enum_told_3 t c = search rules
-
 check_items_returns_2 : (t : ℕ) → check-items-lts.Need-returns-2 (calls_check_items t) (check_items_at t) check-items.Post check_items_Inv_loop check-items-μ-loop
-check_items_returns_2 t c = items_stop _ _ _ _ _ _ _ c.before.before.before.before.before.before.before.before.loop.invariant c.before.before.before.before.before.before.before.loop-test.true _ c.before.before.before.before.before.before.field_at.ensures _ c.before.before.before.before.reading.given.1 _ c.before.before.item-field.ensures _ c.enum-told3.given.1
-
-check_items_met_with_requires : (t : ℕ) → check-items-lts.Need-met-with-requires (calls_check_items t) (check_items_at t) check-items.Post check_items_Inv_loop check-items-μ-loop
-check_items_met_with_requires t c κs = search rules
+check_items_returns_2 t c = walk_stopped _ _ _ _ _ _ _ _ c.before.before.before.before.before.before.before.before.loop.invariant c.before.before.before.before.before.before.before.loop-test.true _ c.before.before.before.before.before.before.field_at.ensures _ c.before.before.before.before.field.given.1 _ c.before.before.item-field.ensures _ c.enum-told2.given.1
 
 check_items_loop_less : (t : ℕ) → check-items-lts.Need-loop-smaller (calls_check_items t) (check_items_at t) check-items.Post check_items_Inv_loop check-items-μ-loop
-check_items_loop_less t c = less_left _ _ _ _ _ c.before.before.before.before.before.before.before.field_at.ensures c.before.before.before.before.before.reading.given.1 c.before.before.before.before.before.before.before.before.loop-test.true
+check_items_loop_less t c = less_left _ _ _ _ _ c.before.before.before.before.before.before.field_at.ensures c.before.before.before.before.field.given.1 c.before.before.before.before.before.before.before.loop-test.true
 
 check_items_loop_again : (t : ℕ) → check-items-lts.Need-loop-preserved (calls_check_items t) (check_items_at t) check-items.Post check_items_Inv_loop check-items-μ-loop
-check_items_loop_again t c = items_go_on _ _ _ _ _ _ _ c.before.before.before.before.before.before.before.before.before.loop.invariant c.before.before.before.before.before.before.before.before.loop-test.true _ c.before.before.before.before.before.before.before.field_at.ensures _ c.before.before.before.before.before.reading.given.1 _ c.before.before.before.item-field.ensures c.before.enum-told2.given.1 _ c.met-with.ensures
+check_items_loop_again t c = walk_on _ _ _ _ _ _ _ _ c.before.before.before.before.before.before.before.before.loop.invariant c.before.before.before.before.before.before.before.loop-test.true _ c.before.before.before.before.before.before.field_at.ensures _ c.before.before.before.before.field.given.1 _ c.before.before.item-field.ensures c.enum_told.given.1
 
 check_items_returns_3 : (t : ℕ) → check-items-lts.Need-returns-3 (calls_check_items t) (check_items_at t) check-items.Post check_items_Inv_loop check-items-μ-loop
-check_items_returns_3 t c = items_end _ _ _ _ _ _ _ c.before.loop.invariant c.loop-test.false
+check_items_returns_3 t c = walk_done _ _ _ _ _ _ _ _ c.before.loop.invariant c.loop-test.false
 
 abbrev check_value_Inv_loop : check-value-lts.invariant-loop
-check_value_Inv_loop s from to levels at₀ held₀ at held = ValueFront levels s from to at held
+check_value_Inv_loop s from to levels at₀ held₀ at held =
+    value_check (inside levels s) s from to ≡ walk (value_field (inside levels s) s) value_move (value_done to) (fields_of s at to) held
 
 abbrev check-value-μ-loop : check-value-lts.decreases-loop
 check-value-μ-loop s from to levels at₀ held₀ at held = to - at
 
 check_value_loop_holds : (t : ℕ) → check-value-lts.Need-loop-init (calls_check_value t) (check_value_at t) check-value.Post check_value_Inv_loop check-value-μ-loop
-check_value_loop_holds t c = value_begun _ _ _ _
+unfolding value_check
+check_value_loop_holds t c = refl
 
-check_value_any_field_at_requires : (t : ℕ) → check-value-lts.Need-any-field-at-requires (calls_check_value t) (check_value_at t) check-value.Post check_value_Inv_loop check-value-μ-loop
-check_value_any_field_at_requires t c κs = search rules
+check_value_field_at_requires : (t : ℕ) → check-value-lts.Need-field-at-requires (calls_check_value t) (check_value_at t) check-value.Post check_value_Inv_loop check-value-μ-loop
+check_value_field_at_requires t c κs = search rules
 
-check_value_enum_known_reading : (t : ℕ) → check-value-lts.Need-enum-known-reading (calls_check_value t) (check_value_at t) check-value.Post check_value_Inv_loop check-value-μ-loop
-check_value_enum_known_reading t c = search rules
+check_value_enum_known_why : (t : ℕ) → check-value-lts.Need-enum-known-why (calls_check_value t) (check_value_at t) check-value.Post check_value_Inv_loop check-value-μ-loop
+check_value_enum_known_why t c = search rules
+
+check_value_returns : (t : ℕ) → check-value-lts.Need-returns (calls_check_value t) (check_value_at t) check-value.Post check_value_Inv_loop check-value-μ-loop
+check_value_returns t c = walk_refused _ _ _ _ _ _ _ _ c.before.before.before.before.before.loop.invariant c.before.before.before.before.loop-test.true _ c.before.before.before.field_at.ensures _ c.before.why.given.1
+
+check_value_enum_known_field : (t : ℕ) → check-value-lts.Need-enum-known-field (calls_check_value t) (check_value_at t) check-value.Post check_value_Inv_loop check-value-μ-loop
+check_value_enum_known_field t c = search rules
+
+check_value_value_field_requires : (t : ℕ) → check-value-lts.Need-value-field-requires (calls_check_value t) (check_value_at t) check-value.Post check_value_Inv_loop check-value-μ-loop
+check_value_value_field_requires t c κs =
+    let w = field_within _ _ _ _ (sym c.before.before.before.field_at.ensures ∙ c.before.field.given.1) in
+    let i = w.inside in let l = w.there in
+    (search rules, (w.ends, omega arith))
 
 check_value_enum_told : (t : ℕ) → check-value-lts.Need-enum-told (calls_check_value t) (check_value_at t) check-value.Post check_value_Inv_loop check-value-μ-loop
 check_value_enum_told t c = search rules
 
-check_value_unread_requires : (t : ℕ) → check-value-lts.Need-unread-requires (calls_check_value t) (check_value_at t) check-value.Post check_value_Inv_loop check-value-μ-loop
-check_value_unread_requires t c κs = search rules
-
-check_value_returns : (t : ℕ) → check-value-lts.Need-returns (calls_check_value t) (check_value_at t) check-value.Post check_value_Inv_loop check-value-μ-loop
-check_value_returns t c = value_unread _ _ _ _ _ _ c.before.before.before.before.before.loop.invariant c.before.before.before.before.loop-test.true _ c.before.before.before.any-field-at.ensures _ c.before.enum_told.given.1 _ c.unread.ensures
-
-check_value_value_field_requires : (t : ℕ) → check-value-lts.Need-value-field-requires (calls_check_value t) (check_value_at t) check-value.Post check_value_Inv_loop check-value-μ-loop
-check_value_value_field_requires t c κs =
-    let w = field_within _ _ _ _ (sym c.before.before.before.any-field-at.ensures ∙ c.before.reading.given.1) in
-    let i = w.inside in let l = w.there in
-    (search rules, (w.ends, omega arith))
-
 check_value_enum_told_2 : (t : ℕ) → check-value-lts.Need-enum-told-2 (calls_check_value t) (check_value_at t) check-value.Post check_value_Inv_loop check-value-μ-loop
 check_value_enum_told_2 t c = search rules
 
-check_value_enum_told_3 : (t : ℕ) → check-value-lts.Need-enum-told-3 (calls_check_value t) (check_value_at t) check-value.Post check_value_Inv_loop check-value-μ-loop
-check_value_enum_told_3 t c = search rules
-
 check_value_returns_2 : (t : ℕ) → check-value-lts.Need-returns-2 (calls_check_value t) (check_value_at t) check-value.Post check_value_Inv_loop check-value-μ-loop
-check_value_returns_2 t c = value_stops _ _ _ _ _ _ c.before.before.before.before.before.before.before.before.loop.invariant c.before.before.before.before.before.before.before.loop-test.true _ c.before.before.before.before.before.before.any-field-at.ensures _ c.before.before.before.before.reading.given.1 _ c.before.before.value-field.ensures _ c.enum-told3.given.1
+check_value_returns_2 t c = walk_stopped _ _ _ _ _ _ _ _ c.before.before.before.before.before.before.before.before.loop.invariant c.before.before.before.before.before.before.before.loop-test.true _ c.before.before.before.before.before.before.field_at.ensures _ c.before.before.before.before.field.given.1 _ c.before.before.value-field.ensures _ c.enum-told2.given.1
 
 check_value_loop_less : (t : ℕ) → check-value-lts.Need-loop-smaller (calls_check_value t) (check_value_at t) check-value.Post check_value_Inv_loop check-value-μ-loop
-check_value_loop_less t c = less_left _ _ _ _ _ c.before.before.before.before.before.before.any-field-at.ensures c.before.before.before.before.reading.given.1 c.before.before.before.before.before.before.before.loop-test.true
+check_value_loop_less t c = less_left _ _ _ _ _ c.before.before.before.before.before.before.field_at.ensures c.before.before.before.before.field.given.1 c.before.before.before.before.before.before.before.loop-test.true
 
 check_value_loop_again : (t : ℕ) → check-value-lts.Need-loop-preserved (calls_check_value t) (check_value_at t) check-value.Post check_value_Inv_loop check-value-μ-loop
-check_value_loop_again t c = value_goes_on _ _ _ _ _ _ c.before.before.before.before.before.before.before.before.loop.invariant c.before.before.before.before.before.before.before.loop-test.true _ c.before.before.before.before.before.before.any-field-at.ensures _ c.before.before.before.before.reading.given.1 _ c.before.before.value-field.ensures c.enum-told2.given.1
+check_value_loop_again t c = walk_on _ _ _ _ _ _ _ _ c.before.before.before.before.before.before.before.before.loop.invariant c.before.before.before.before.before.before.before.loop-test.true _ c.before.before.before.before.before.before.field_at.ensures _ c.before.before.before.before.field.given.1 _ c.before.before.value-field.ensures c.enum_told.given.1
 
 check_value_lacking_requires : (t : ℕ) → check-value-lts.Need-lacking-requires (calls_check_value t) (check_value_at t) check-value.Post check_value_Inv_loop check-value-μ-loop
 check_value_lacking_requires t c κs = search rules
 
 check_value_returns_3 : (t : ℕ) → check-value-lts.Need-returns-3 (calls_check_value t) (check_value_at t) check-value.Post check_value_Inv_loop check-value-μ-loop
-check_value_returns_3 t c = value_ends _ _ _ _ _ _ c.before.before.loop.invariant c.before.loop-test.false _ c.lacking.ensures
+check_value_returns_3 t c = c.lacking.ensures ∙ walk_done _ _ _ _ _ _ _ _ c.before.before.loop.invariant c.before.loop-test.false
 
 entry_field_seen_of_requires : (t : ℕ) → entry-field-lts.Need-seen-of-requires (calls_entry_field t) (entry_field_at t) entry-field.Post
 entry_field_seen_of_requires t c κs = search rules
@@ -333,7 +325,7 @@ unfolding item_field
 item_field_returns_2 t c = passed _ _ _ c.before.before.before.before.bytes-rule.ensures c.before.before.enum_told.given.1 (simp c.before.if1.true c.check-value.ensures)
 
 item_field_check_entry_requires : (t : ℕ) → item-field-lts.Need-check-entry-requires (calls_item_field t) (item_field_at t) item-field.Post
-item_field_check_entry_requires t c κs = (search rules, c.before.before.before.before.before.requires.1 c.if1.false)
+item_field_check_entry_requires t c κs = search rules
 
 item_field_returns_3 : (t : ℕ) → item-field-lts.Need-returns-3 (calls_item_field t) (item_field_at t) item-field.Post
 unfolding item_field
@@ -388,13 +380,12 @@ pub +check-entry-check-items-check-value-entry-field-item-field-value-field-spec
     check-entry-μ-loop
     (check_entry_loop_holds t)
     (check_entry_field_at_requires t)
-    (check_entry_enum_known_reading t)
-    (check_entry_enum_told t)
-    (check_entry_unread_requires t)
+    (check_entry_enum_known_why t)
     (check_entry_returns t)
+    (check_entry_enum_known_field t)
     (check_entry_entry_field_requires t)
+    (check_entry_enum_told t)
     (check_entry_enum_told_2 t)
-    (check_entry_enum_told_3 t)
     (check_entry_returns_2 t)
     (check_entry_loop_less t)
     (check_entry_loop_again t)
@@ -405,15 +396,13 @@ pub +check-entry-check-items-check-value-entry-field-item-field-value-field-spec
     check-items-μ-loop
     (check_items_loop_holds t)
     (check_items_field_at_requires t)
-    (check_items_enum_known_reading t)
-    (check_items_enum_told t)
-    (check_items_unread_requires t)
+    (check_items_enum_known_why t)
     (check_items_returns t)
+    (check_items_enum_known_field t)
     (check_items_item_field_requires t)
+    (check_items_enum_told t)
     (check_items_enum_told_2 t)
-    (check_items_enum_told_3 t)
     (check_items_returns_2 t)
-    (check_items_met_with_requires t)
     (check_items_loop_less t)
     (check_items_loop_again t)
     (check_items_returns_3 t))
@@ -421,14 +410,13 @@ pub +check-entry-check-items-check-value-entry-field-item-field-value-field-spec
     check_value_Inv_loop
     check-value-μ-loop
     (check_value_loop_holds t)
-    (check_value_any_field_at_requires t)
-    (check_value_enum_known_reading t)
-    (check_value_enum_told t)
-    (check_value_unread_requires t)
+    (check_value_field_at_requires t)
+    (check_value_enum_known_why t)
     (check_value_returns t)
+    (check_value_enum_known_field t)
     (check_value_value_field_requires t)
+    (check_value_enum_told t)
     (check_value_enum_told_2 t)
-    (check_value_enum_told_3 t)
     (check_value_returns_2 t)
     (check_value_loop_less t)
     (check_value_loop_again t)

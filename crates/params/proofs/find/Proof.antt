@@ -24,14 +24,14 @@ loop_holds c = refl
 field_at_requires : tie.Need-field-at-requires invariant_loop decreases_loop
 field_at_requires c κs = search rules
 
-enum_known_field : tie.Need-enum-known-field invariant_loop decreases_loop
-enum_known_field c = search rules
-
 enum_told : tie.Need-enum-told invariant_loop decreases_loop
 enum_told c = search rules
 
 returns : tie.Need-returns invariant_loop decreases_loop
 returns c = search_refused _ _ _ _ _ _ _ c.before.before.before.before.loop.invariant c.before.before.before.loop-test.true _ c.before.before.field_at.ensures _ c.enum_told.given.1
+
+enum_known_field : tie.Need-enum-known-field invariant_loop decreases_loop
+enum_known_field c = search rules
 
 has_key_requires : tie.Need-has-key-requires invariant_loop decreases_loop
 has_key_requires c κs = search rules
@@ -60,9 +60,9 @@ find_spec =
     decreases_loop
     loop_holds
     field_at_requires
-    enum_known_field
     enum_told
     returns
+    enum_known_field
     has_key_requires
     place_in_requires
     returns_2

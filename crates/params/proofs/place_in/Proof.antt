@@ -24,17 +24,17 @@ loop_holds c = refl
 field_at_requires : tie.Need-field-at-requires invariant_loop decreases_loop
 field_at_requires c κs = search rules
 
-enum_known_field : tie.Need-enum-known-field invariant_loop decreases_loop
-enum_known_field c = search rules
-
 enum_told : tie.Need-enum-told invariant_loop decreases_loop
 enum_told c = search rules
 
 returns : tie.Need-returns invariant_loop decreases_loop
 returns c = search_refused _ _ _ _ _ _ _ c.before.before.before.before.loop.invariant c.before.before.before.loop-test.true _ c.before.before.field_at.ensures _ c.enum_told.given.1
 
-sub_t9 : tie.Need-overflow-sub-t9 invariant_loop decreases_loop
-sub_t9 c = (field_within _ _ _ _ (sym c.before.before.before.before.before.before.field_at.ensures ∙ c.before.before.before.before.field.given.1)).ends
+enum_known_field : tie.Need-enum-known-field invariant_loop decreases_loop
+enum_known_field c = search rules
+
+sub_t10 : tie.Need-overflow-sub-t10 invariant_loop decreases_loop
+sub_t10 c = (field_within _ _ _ _ (sym c.before.before.before.before.before.before.field_at.ensures ∙ c.before.before.before.before.field.given.1)).ends
 
 returns_2 : tie.Need-returns-2 invariant_loop decreases_loop
 returns_2 c = search_here _ _ _ _ _ _ _ c.before.before.before.before.before.before.before.before.loop.invariant c.before.before.before.before.before.before.before.loop-test.true _ c.before.before.before.before.before.before.field_at.ensures _ c.before.before.before.before.field.given.1 (eq-eqb _ _ c.before.if1.true)
@@ -56,10 +56,10 @@ place_in_spec =
     decreases_loop
     loop_holds
     field_at_requires
-    enum_known_field
     enum_told
     returns
-    sub_t9
+    enum_known_field
+    sub_t10
     returns_2
     loop_less
     loop_again

@@ -1,6 +1,6 @@
 -- `params::value_text` meets its contract, by whether the field is a string. Assumes nothing.
 use borrow.Author.Tests.{eq-eqb, ne_eqb}
-use Rattle.params.proofs.Rows.{is_string}
+use Rattle.params.specs.Rules.{value_text}
 use borrow.Author.Rules.{rules}
 use Rattle.params.proofs.value_text.Statement.{statement}
 use Rattle.params.proofs.value_text.Tie as tie
@@ -18,10 +18,12 @@ well_formed_requires : tie.Need-well-formed-requires
 well_formed_requires c κs = search rules
 
 returns : tie.Need-returns
-returns c = simp (is_string c.before.before.before.before.args.number, eq-eqb _ _ c.before.before.if1.true) c.well-formed-2.ensures
+unfolding value_text
+returns c = simp (eq-eqb _ _ c.before.before.if1.true) c.well-formed-2.ensures
 
 returns_2 : tie.Need-returns-2
-returns_2 c = simp (is_string c.before.before.args.number, ne_eqb _ _ c.if1.false)
+unfolding value_text
+returns_2 c = simp (ne_eqb _ _ c.if1.false)
 
 pub value_text_spec : {M : Type 1} → statement M
 value_text_spec =

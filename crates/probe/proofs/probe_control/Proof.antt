@@ -19,7 +19,7 @@ cast_result c = search rules
 returns : tie.Need-returns
 returns c =
     let control = c.before.before.read.ensures in
-    record { numbered = rw control at c.number-of.ensures; told = rw control at c.before.control-slots.ensures }
+    record { numbered = rw control at c.number_of.ensures; told = rw control at c.before.control-slots.ensures }
 
 pub probe_control_spec : {M : Type 1} → statement M
 probe_control_spec =

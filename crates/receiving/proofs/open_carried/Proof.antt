@@ -14,10 +14,10 @@ enum_told : tie.Need-enum-told
 enum_told c = search rules
 
 returns : tie.Need-returns
-returns c = simp (c.enum_told.given.1, c.before.before.open-number.ensures)
+returns c = simp c.before.said.given.1
 
 returns_2 : tie.Need-returns-2
-returns_2 c = simp c.before.said.given.1
+returns_2 c = simp (c.enum_told.given.1, c.before.before.open-number.ensures)
 
 pub open_carried_spec : {M : Type 1} → statement M
 open_carried_spec =

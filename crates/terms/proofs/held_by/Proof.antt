@@ -1,7 +1,7 @@
 -- `terms::held_by` meets its contract, by the number of the field. Assumes nothing.
 use mathlib.Core.Path.{refl}
 use borrow.Author.Rules.{rules}
-use Rattle.params.proofs.Rows.{no_kind}
+use Rattle.params.proofs.Neither.{no_kind}
 use Rattle.terms.specs.Value.{held_by}
 use Rattle.terms.proofs.held_by.Statement.{statement}
 use Rattle.terms.proofs.held_by.Tie as tie

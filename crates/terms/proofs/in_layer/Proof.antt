@@ -10,10 +10,10 @@ enum_told : tie.Need-enum-told
 enum_told c = search rules
 
 returns : tie.Need-returns
-returns c = search rules
+returns c = rw c.before.found.given.1
 
 returns_2 : tie.Need-returns-2
-returns_2 c = rw c.before.found.given.1
+returns_2 c = search rules
 
 pub in_layer_spec : {M : Type 1} → statement M
 in_layer_spec = tie.close (tie.spec enum_known_found enum_told returns returns_2)

@@ -15,13 +15,6 @@ find_requires c κs = search rules
 enum_known_place : tie.Need-enum-known-place
 enum_known_place c = search rules
 
-enum_told : tie.Need-enum-told
-enum_told c = search rules
-
-returns : tie.Need-returns
-unfolding limit_in
-returns c = sym (ap (from_found _) (sym c.before.before.find.ensures ∙ c.enum_told.given.1))
-
 add_value_at : tie.Need-overflow-add-value-at
 add_value_at c = let h = find_lies _ _ _ _ _ (sym c.before.before.before.before.find.ensures ∙ c.before.before.place.given.1) in search rules
 
@@ -31,9 +24,16 @@ value_at_requires c κs = search rules
 from_value_requires : tie.Need-from-value-requires
 from_value_requires c κs = search rules
 
+enum_told : tie.Need-enum-told
+enum_told c = search rules
+
+returns : tie.Need-returns
+unfolding limit_in
+returns c = c.from-value.ensures ∙ ap from_value c.before.value-at.ensures ∙ sym (ap (from_found _) (sym c.before.before.before.before.before.before.find.ensures ∙ c.before.before.before.before.place.given.1))
+
 returns_2 : tie.Need-returns-2
 unfolding limit_in
-returns_2 c = c.from-value.ensures ∙ ap from_value c.before.value-at.ensures ∙ sym (ap (from_found _) (sym c.before.before.before.before.before.before.find.ensures ∙ c.before.before.before.before.place.given.1))
+returns_2 c = sym (ap (from_found _) (sym c.before.before.find.ensures ∙ c.enum_told.given.1))
 
 pub limit_in_spec : {M : Type 1} → statement M
 limit_in_spec =
@@ -42,9 +42,9 @@ limit_in_spec =
     slice_aggregate_find
     find_requires
     enum_known_place
-    enum_told
-    returns
     add_value_at
     value_at_requires
     from_value_requires
+    enum_told
+    returns
     returns_2)

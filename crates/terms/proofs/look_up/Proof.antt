@@ -1,26 +1,12 @@
 -- `terms::look_up` meets its contract: the part handed back is that of the layer which has the term. Assumes nothing.
-use mathlib.Core.Path.{refl, ap, ◌∙◌}
-use mathlib.Core.List.{List, [], ◌∷◌}
-use Prim.Native.Nat.{ℕ}
-use denote.Ref.{Bor}
-use types.Run.{OneOf, miss}
-use denote.Enum.Declared.{tag_of}
+use mathlib.Core.Path.{ap, ◌∙◌}
 use borrow.Author.Rules.{rules}
 use borrow.Author.Tests.{eq-eqb, ne_eqb}
-use Rattle.params.specs.Message.{nowhere}
-use Rattle.terms.specs.declared.Term.{Term}
 use Rattle.terms.specs.declared.Term.TheVariants.{In, Unreadable, Absent}
-use Rattle.terms.specs.Lookup.{term_number, IsPart, PartOf}
-use Rattle.terms.specs.contracts.Term.{the_type}
+use Rattle.terms.specs.Lookup.{term_number}
 use Rattle.terms.proofs.Layers.{lies_in_client, lies_in_defaults, part_of}
 use Rattle.terms.proofs.look_up.Statement.{statement}
 use Rattle.terms.proofs.look_up.Tie as tie
-
--- a term of another kind than the first is refused
-refused : (client defaults r : Bor (List ℕ)) (term : Term) → OneOf (1 ∷ 2 ∷ []) (tag_of the_type term) → IsPart client r nowhere → PartOf client defaults r term
-refused client defaults r (In layer place) k part = absurd (miss (1 ∷ 2 ∷ []) 0 tt k)
-refused client defaults r (Unreadable layer why) k part = part
-refused client defaults r Absent k part = part
 
 term_of_requires : tie.Need-term-of-requires
 term_of_requires c κs = search rules
@@ -35,34 +21,46 @@ enum_known_term : tie.Need-enum-known-term
 enum_known_term c = search rules
 
 part_at_requires : tie.Need-part-at-requires
-part_at_requires c κs = search rules
+part_at_requires c κs = lies_in_client c.before.before.before.before.before.before.before.before.before.args.client c.before.before.before.before.before.before.before.before.before.args.defaults _ _ c.before.before.before.before.before.term_of.ensures _ _ c.before.before.term.given.1 c.if1.true
 
 returns : tie.Need-returns
 returns c =
-    let a = c.before.before.before.before.before.before.before.args in
-    let term = c.before.before.before.term_of.result in
-    let is = c.before.before.before.term_of.ensures in
-    (part_of a.client a.defaults _ term is term refl _ (refused a.client a.defaults _ term c.before.match.keys2 c.part_at.ensures), c.before.before.term-number.ensures ∙ ap term_number is)
+    let a = c.before.before.before.before.before.before.before.before.before.before.args in
+    let is = c.before.before.before.before.before.before.term_of.ensures in
+    (part_of a.client a.defaults _ _ is (In _ _) c.before.before.before.term.given.1 _ (rw (eq-eqb _ 0 c.before.if1.true) c.part_at.ensures), c.before.before.before.before.before.term-number.ensures ∙ ap term_number is)
 
 part_at_requires_2 : tie.Need-part-at-requires-2
-part_at_requires_2 c κs =
-    let lies = lies_in_client c.before.before.before.before.before.before.before.before.before.args.client c.before.before.before.before.before.before.before.before.before.args.defaults _ _ c.before.before.before.before.before.term_of.ensures _ _ c.before.before.term.given.1 c.if1.true in
-    search rules
+part_at_requires_2 c κs = lies_in_defaults c.before.before.before.before.before.before.before.before.before.args.client c.before.before.before.before.before.before.before.before.before.args.defaults _ _ c.before.before.before.before.before.term_of.ensures _ _ c.before.before.term.given.1 c.if1.false
+
+enum_told : tie.Need-enum-told
+enum_told c = search rules
+
+part_at_requires_3 : tie.Need-part-at-requires-3
+part_at_requires_3 c κs = search rules
+
+enum_told_2 : tie.Need-enum-told-2
+enum_told_2 c = search rules
+
+part_at_requires_4 : tie.Need-part-at-requires-4
+part_at_requires_4 c κs = search rules
 
 returns_2 : tie.Need-returns-2
 returns_2 c =
     let a = c.before.before.before.before.before.before.before.before.before.before.args in
     let is = c.before.before.before.before.before.before.term_of.ensures in
-    (part_of a.client a.defaults _ _ is (In _ _) c.before.before.before.term.given.1 _ (rw (eq-eqb _ 0 c.before.if1.true) c.part-at2.ensures), c.before.before.before.before.before.term-number.ensures ∙ ap term_number is)
-
-part_at_requires_3 : tie.Need-part-at-requires-3
-part_at_requires_3 c κs = lies_in_defaults c.before.before.before.before.before.before.before.before.before.args.client c.before.before.before.before.before.before.before.before.before.args.defaults _ _ c.before.before.before.before.before.term_of.ensures _ _ c.before.before.term.given.1 c.if1.false
+    (part_of a.client a.defaults _ _ is (In _ _) c.before.before.before.term.given.1 _ (rw (ne_eqb _ 0 c.before.if1.false) c.part-at2.ensures), c.before.before.before.before.before.term-number.ensures ∙ ap term_number is)
 
 returns_3 : tie.Need-returns-3
 returns_3 c =
-    let a = c.before.before.before.before.before.before.before.before.before.before.args in
-    let is = c.before.before.before.before.before.before.term_of.ensures in
-    (part_of a.client a.defaults _ _ is (In _ _) c.before.before.before.term.given.1 _ (rw (ne_eqb _ 0 c.before.if1.false) c.part-at3.ensures), c.before.before.before.before.before.term-number.ensures ∙ ap term_number is)
+    let a = c.before.before.before.before.before.before.before.before.args in
+    let is = c.before.before.before.before.term_of.ensures in
+    (part_of a.client a.defaults _ _ is (Unreadable _ _) c.before.enum_told.given.1 _ c.part-at3.ensures, c.before.before.before.term-number.ensures ∙ ap term_number is)
+
+returns_4 : tie.Need-returns-4
+returns_4 c =
+    let a = c.before.before.before.before.before.before.before.before.args in
+    let is = c.before.before.before.before.term_of.ensures in
+    (part_of a.client a.defaults _ _ is Absent c.before.enum-told2.given.1 _ c.part-at4.ensures, c.before.before.before.term-number.ensures ∙ ap term_number is)
 
 pub look_up_spec : {M : Type 1} → statement M
 look_up_spec =
@@ -75,6 +73,10 @@ look_up_spec =
     part_at_requires
     returns
     part_at_requires_2
-    returns_2
+    enum_told
     part_at_requires_3
-    returns_3)
+    enum_told_2
+    part_at_requires_4
+    returns_2
+    returns_3
+    returns_4)

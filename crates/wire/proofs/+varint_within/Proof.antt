@@ -1,7 +1,7 @@
 -- `wire::varint_within` meets its contract: each call on the bytes behind has one byte less to go. Assumes nothing.
 use Prim.Native.Nat.{ℕ, ◌<◌}
 use borrow.Author.Rules.{rules}
-use Rattle.wire.proofs.Varints.{at_none, at_end, at_last, more_read, more_large, more_unread}
+use Rattle.wire.proofs.Varints.{at_none, at_end, at_last, more_read, more_large, more_cut, more_bad}
 use borrow.Fn.Kinds.{In}
 use borrow.Fn.PlainCycle.{Measures, is, falls, and}
 use Rattle.wire.proofs.varint_within.Reads as varint-within
@@ -41,8 +41,8 @@ varint_within_shared_slice_read_byte t c = search rules
 varint_within_wide_requires : (t : ℕ) → varint-within-lts.Need-wide-requires (calls_varint_within t) (varint_within_at t) varint-within.Post
 varint_within_wide_requires t c κs = search rules
 
-varint_within_add_t13 : (t : ℕ) → varint-within-lts.Need-overflow-add-t13 (calls_varint_within t) (varint_within_at t) varint-within.Post
-varint_within_add_t13 t c = search rules
+varint_within_add_t12 : (t : ℕ) → varint-within-lts.Need-overflow-add-t12 (calls_varint_within t) (varint_within_at t) varint-within.Post
+varint_within_add_t12 t c = search rules
 
 varint_within_returns_3 : (t : ℕ) → varint-within-lts.Need-returns-3 (calls_varint_within t) (varint_within_at t) varint-within.Post
 varint_within_returns_3 t c = rw c.wide.ensures (at_last _ _ _ _ c.before.before.before.before.if1.false c.before.before.before.if2.false c.before.if3.true)
@@ -56,26 +56,43 @@ varint_within_sub_varint_within t c = search rules
 varint_within_varint_within_requires : (t : ℕ) → varint-within-lts.Need-varint-within-requires (calls_varint_within t) (varint_within_at t) varint-within.Post
 varint_within_varint_within_requires t c κs = search rules
 
-varint_within_enum_known_behind : (t : ℕ) → varint-within-lts.Need-enum-known-behind (calls_varint_within t) (varint_within_at t) varint-within.Post
-varint_within_enum_known_behind t c = search rules
+varint_within_enum_known_value : (t : ℕ) → varint-within-lts.Need-enum-known-value (calls_varint_within t) (varint_within_at t) varint-within.Post
+varint_within_enum_known_value t c = search rules
 
-varint_within_returns_4 : (t : ℕ) → varint-within-lts.Need-returns-4 (calls_varint_within t) (varint_within_at t) varint-within.Post
-varint_within_returns_4 t c = more_unread _ _ _ _ c.before.before.before.before.before.if1.false c.before.before.before.before.if2.false c.before.before.if3.false _ c.before.varint-within.ensures c.match.keys2
-
-varint_within_mul_t16 : (t : ℕ) → varint-within-lts.Need-overflow-mul-t16 (calls_varint_within t) (varint_within_at t) varint-within.Post
-varint_within_mul_t16 t c = search rules
+varint_within_mul_t19 : (t : ℕ) → varint-within-lts.Need-overflow-mul-t19 (calls_varint_within t) (varint_within_at t) varint-within.Post
+varint_within_mul_t19 t c = search rules
 
 varint_within_wide_requires_2 : (t : ℕ) → varint-within-lts.Need-wide-requires-2 (calls_varint_within t) (varint_within_at t) varint-within.Post
 varint_within_wide_requires_2 t c κs = search rules
 
-varint_within_add_t19 : (t : ℕ) → varint-within-lts.Need-overflow-add-t19 (calls_varint_within t) (varint_within_at t) varint-within.Post
-varint_within_add_t19 t c = search rules
+varint_within_add_t22 : (t : ℕ) → varint-within-lts.Need-overflow-add-t22 (calls_varint_within t) (varint_within_at t) varint-within.Post
+varint_within_add_t22 t c = search rules
+
+varint_within_enum_told : (t : ℕ) → varint-within-lts.Need-enum-told (calls_varint_within t) (varint_within_at t) varint-within.Post
+varint_within_enum_told t c = search rules
+
+varint_within_enum_told_2 : (t : ℕ) → varint-within-lts.Need-enum-told-2 (calls_varint_within t) (varint_within_at t) varint-within.Post
+varint_within_enum_told_2 t c = search rules
+
+varint_within_returns_4 : (t : ℕ) → varint-within-lts.Need-returns-4 (calls_varint_within t) (varint_within_at t) varint-within.Post
+varint_within_returns_4 t c =
+    let b = c.before.before.before.before.before.before in
+    more_read _ _ _ _ b.before.before.before.if1.false b.before.before.if2.false b.if3.false _ c.before.before.before.before.before.varint-within.ensures _ _ _ c.before.before.before.value.given.1 c.before.if4.true c.wide2.ensures
 
 varint_within_returns_5 : (t : ℕ) → varint-within-lts.Need-returns-5 (calls_varint_within t) (varint_within_at t) varint-within.Post
-varint_within_returns_5 t c = more_read _ _ _ _ c.before.before.before.before.before.before.before.before.before.if1.false c.before.before.before.before.before.before.before.before.if2.false c.before.before.before.before.before.before.if3.false _ c.before.before.before.before.before.varint-within.ensures _ _ _ c.before.before.before.behind.given.1 c.wide2.ensures (search rules)
+varint_within_returns_5 t c =
+    let b = c.before.before.before.before.before in
+    more_large _ _ _ _ b.before.before.before.if1.false b.before.before.if2.false b.if3.false _ c.before.before.before.before.varint-within.ensures _ _ c.before.before.value.given.1 c.if4.false
 
 varint_within_returns_6 : (t : ℕ) → varint-within-lts.Need-returns-6 (calls_varint_within t) (varint_within_at t) varint-within.Post
-varint_within_returns_6 t c = more_large _ _ _ _ c.before.before.before.before.before.before.before.before.if1.false c.before.before.before.before.before.before.before.if2.false c.before.before.before.before.before.if3.false _ c.before.before.before.before.varint-within.ensures _ _ c.before.before.behind.given.1 c.if4.false
+varint_within_returns_6 t c =
+    let b = c.before.before.before in
+    more_cut _ _ _ _ b.before.before.before.if1.false b.before.before.if2.false b.if3.false _ c.before.before.varint-within.ensures c.enum_told.given.1
+
+varint_within_returns_7 : (t : ℕ) → varint-within-lts.Need-returns-7 (calls_varint_within t) (varint_within_at t) varint-within.Post
+varint_within_returns_7 t c =
+    let b = c.before.before.before in
+    more_bad _ _ _ _ b.before.before.before.if1.false b.before.before.if2.false b.if3.false _ c.before.before.varint-within.ensures c.enum-told2.given.1
 
 pub +varint-within-spec : {M : Type 1} → statement M
 +varint-within-spec = close μ-varint-within λ t. varint-within-lts.spec (calls_varint_within t) (varint_within_at t) varint-within.Post
@@ -83,15 +100,18 @@ pub +varint-within-spec : {M : Type 1} → statement M
     (varint_within_returns_2 t)
     (varint_within_shared_slice_read_byte t)
     (varint_within_wide_requires t)
-    (varint_within_add_t13 t)
+    (varint_within_add_t12 t)
     (varint_within_returns_3 t)
     (varint_within_add_varint_within t)
     (varint_within_sub_varint_within t)
     (varint_within_varint_within_requires t)
-    (varint_within_enum_known_behind t)
-    (varint_within_returns_4 t)
-    (varint_within_mul_t16 t)
+    (varint_within_enum_known_value t)
+    (varint_within_mul_t19 t)
     (varint_within_wide_requires_2 t)
-    (varint_within_add_t19 t)
+    (varint_within_add_t22 t)
+    (varint_within_enum_told t)
+    (varint_within_enum_told_2 t)
+    (varint_within_returns_4 t)
     (varint_within_returns_5 t)
     (varint_within_returns_6 t)
+    (varint_within_returns_7 t)

@@ -1,8 +1,8 @@
 -- `wire::varint_at` meets its contract: one byte is a varint of at most ten. Assumes nothing.
-use mathlib.Core.Path.{sym}
 use borrow.Author.Rules.{rules}
+use native.Mathlib.Omega.{arith}
 use Rattle.wire.specs.Varint.{varint_at}
-use Rattle.wire.proofs.Varints.{one_digit}
+use Rattle.wire.proofs.Varints.{at_last}
 use Rattle.wire.proofs.varint_at.Statement.{statement}
 use Rattle.wire.proofs.varint_at.Tie as tie
 
@@ -16,7 +16,8 @@ add_t10 : tie.Need-overflow-add-t10
 add_t10 c = search rules
 
 returns : tie.Need-returns
-returns c = rw c.wide.ensures (sym (one_digit _ _ _ c.before.before.before.if1.true c.before.if2.true))
+unfolding varint_at
+returns c = rw c.wide.ensures (at_last 10 _ _ _ (λ e. absurd (omega arith)) c.before.before.before.if1.true c.before.if2.true)
 
 varint_within_requires : tie.Need-varint-within-requires
 varint_within_requires c κs = search rules
