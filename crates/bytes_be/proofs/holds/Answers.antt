@@ -5,15 +5,12 @@ use Prim.Native.Nat.{◌+◌}
 use native.Mathlib.Omega.{arith}
 use borrow.Author.Tests.{lt-leb}
 use Rattle.bytes_be.proofs.Parts.{holds_less}
-use Rattle.bytes_be.proofs.holds.Statement.{statement}
-use Rattle.bytes_be.proofs.holds.Tie as tie
+use Rattle.bytes_be.proofs.holds.Goals as goal
 
-returns : tie.Need-returns
-returns c = let a = c.before.args in
+pub returns-then-n-size : goal.returns-then-n-size
+returns-then-n-size c =
+    let a = c.args in
     sym (lt-leb (a.at + a.size) a.n (omega arith))
 
-returns_2 : tie.Need-returns-2
-returns_2 c = holds_less _ _ _ c.if1.false
-
-pub holds_spec : {M : Type 1} → statement M
-holds_spec = tie.close (tie.spec returns returns_2)
+pub returns : goal.returns
+returns c = holds_less _ _ _ c.if-n-size.false

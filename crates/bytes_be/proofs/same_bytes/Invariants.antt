@@ -1,0 +1,13 @@
+-- `bytes_be::same_bytes` meets its contract. The invariant of its loop: the bytes in front of the place that it has reached are the same. The
+-- measure is the number of bytes from there to the end. Assumes nothing.
+use Prim.Native.Nat.{◌-◌, ◌≤◌}
+use mathlib.Core.Path.{◌≡◌}
+use lib.ListN.{length}
+use Rattle.bytes_be.specs.Part.{part}
+use Rattle.bytes_be.proofs.same_bytes.Given as goal
+
+abbrev pub invariant-loop-at : goal.invariant-loop-at
+invariant-loop-at l = (l.at ≤ length l.a) × (part l.a 0 l.at ≡ part l.b 0 l.at)
+
+abbrev pub decreases-loop-at : goal.decreases-loop-at
+decreases-loop-at l = length l.a - l.at
