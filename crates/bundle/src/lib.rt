@@ -8,7 +8,7 @@ ghost use Rattle.bundle.specs.Writing.{head_of, Written};
 
 use bytes_be::Place;
 
-#[derive(Drop)]
+#[derive(Clone, Copy)]
 pub enum Contents {
     // How many frames a good bundle has, where its control frame stands, and the sum of all lengths.
     Frames {
@@ -20,7 +20,7 @@ pub enum Contents {
     BadBundle,
 }
 
-#[derive(Drop)]
+#[derive(Clone, Copy)]
 pub enum Frame {
     // Where the frame stands in the bundle.
     At(Place),

@@ -7,7 +7,7 @@ ghost use Rattle.bytes_be.specs.Part.{holds as Part·holds, same as Part·same};
 ghost use Rattle.bytes_be.specs.Number.{from_bytes, number_at, to_bytes};
 
 // Where a part of a slice stands.
-#[derive(Drop)]
+#[derive(Clone, Copy)]
 pub struct Place {
     pub at: usize,
     pub length: usize,

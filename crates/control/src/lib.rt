@@ -5,7 +5,7 @@ ghost use Rattle.std.specs.Prelude.{◌≡◌};
 ghost use Rattle.control.specs.Frame.{type_of, signed_of, version_of, known_type_of, control_of, number_of, bytes_of};
 
 // The five types of message.
-#[derive(Drop)]
+#[derive(Clone, Copy)]
 pub enum MessageType {
     Open,
     Ready,
@@ -15,7 +15,7 @@ pub enum MessageType {
 }
 
 // A frame of 8 bytes with the signature, or one that is not: 11.
-#[derive(Drop)]
+#[derive(Clone, Copy)]
 pub enum Signed {
     Frame {
         control_byte: u8,
@@ -26,21 +26,21 @@ pub enum Signed {
 }
 
 // A control byte of version 1, with the number of its type, or one of another version: 12.
-#[derive(Drop)]
+#[derive(Clone, Copy)]
 pub enum Version {
     One(u8),
     Other,
 }
 
 // The type that a number stands for, or none: 13.
-#[derive(Drop)]
+#[derive(Clone, Copy)]
 pub enum KnownType {
     Known(MessageType),
     Unknown,
 }
 
 // A control frame as it is read.
-#[derive(Drop)]
+#[derive(Clone, Copy)]
 pub enum Control {
     Read {
         message: MessageType,

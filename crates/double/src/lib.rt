@@ -6,7 +6,7 @@ ghost use Rattle.std.specs.Float.{binary64};
 ghost use Rattle.double.specs.Double.{bits_at, bytes_of};
 ghost use Rattle.double.specs.Limit.{limit_of};
 
-#[derive(Drop)]
+#[derive(Clone, Copy)]
 pub enum Limit {
     // A whole number from 1,000,000 to 50,000,000.
     Whole(u32),

@@ -8,14 +8,14 @@ ghost use Rattle.endpoint.specs.Record.{entry_bytes, entry_at, no_entries, in_ra
 ghost use Rattle.endpoint.specs.Block.{head_bytes, bytes_of, record_in, spare_is_zero, load_of};
 
 // A confirmation that is awaited.
-#[derive(Drop)]
+#[derive(Clone, Copy)]
 pub struct Entry {
     // The number of its type, 3 or 4; 0 where none is awaited.
     pub message: u8,
     pub type_data: u16,
 }
 
-#[derive(Drop)]
+#[derive(Clone, Copy)]
 pub struct Endpoint {
     // 1 client, 2 server.
     pub role: u8,
@@ -35,7 +35,7 @@ pub struct Endpoint {
 }
 
 // The flow and the limit that are given to a making.
-#[derive(Drop)]
+#[derive(Clone, Copy)]
 pub enum Given {
     Good,
     // 34.
@@ -43,7 +43,7 @@ pub enum Given {
 }
 
 // What making an endpoint answers.
-#[derive(Drop)]
+#[derive(Clone, Copy)]
 pub struct Made {
     // 0, or 34.
     pub number: u8,

@@ -14,7 +14,7 @@ use receiving::{Answer, Reply};
 use sending::Report;
 
 // What a send answers, beside the record and the output.
-#[derive(Drop)]
+#[derive(Clone, Copy)]
 pub struct Told {
     // 0, or the number of 01 that refuses it.
     pub number: u8,
@@ -23,7 +23,7 @@ pub struct Told {
 }
 
 // What a receive answers, beside the record and the output.
-#[derive(Drop)]
+#[derive(Clone, Copy)]
 pub struct Outcome {
     pub answer: Answer,
     pub reply: Reply,

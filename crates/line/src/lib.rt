@@ -8,7 +8,7 @@ ghost use Rattle.line.specs.Report.{report_of_control, report_of, name_of, line_
 use bundle::Contents;
 use control::{Control, MessageType};
 
-#[derive(Drop)]
+#[derive(Clone, Copy)]
 pub enum Report {
     // More than 65,536 bytes.
     TooLong,
@@ -24,7 +24,7 @@ pub enum Report {
 }
 
 // The name of a type: the first `count` bytes of a text.
-#[derive(Drop)]
+#[derive(Clone, Copy)]
 struct Name {
     text: [u8; 5],
     count: usize,

@@ -9,14 +9,14 @@ use bundle::Contents;
 use bytes_be::Place;
 use control::{KnownType, MessageType, Signed, Version};
 
-#[derive(Drop)]
+#[derive(Clone, Copy)]
 pub enum Body {
     Nothing,
     // Where the data frame stands in the message.
     At(Place),
 }
 
-#[derive(Drop)]
+#[derive(Clone, Copy)]
 pub struct Message {
     pub message: MessageType,
     pub flags: u8,
@@ -29,20 +29,20 @@ pub struct Message {
 }
 
 // A refusal: its number, and the type that the control byte says, or 0 where no control byte was read.
-#[derive(Drop)]
+#[derive(Clone, Copy)]
 pub struct Refusal {
     pub number: u8,
     pub said: u8,
 }
 
-#[derive(Drop)]
+#[derive(Clone, Copy)]
 pub enum Reading {
     Read(Message),
     Refused(Refusal),
 }
 
 // Whether a message passes a test.
-#[derive(Drop)]
+#[derive(Clone, Copy)]
 pub enum Test {
     Passes,
     Fails,

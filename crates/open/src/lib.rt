@@ -13,7 +13,7 @@ use terms::Announced;
 use wire::{Fault, Field, Kind, Reading};
 
 // The parts of an OPEN frame, as its fields give them. An absent one is the empty place at 0, where no payload stands.
-#[derive(Drop)]
+#[derive(Clone, Copy)]
 pub struct Parts {
     pub name: Place,
     // Where the socket stands.
@@ -25,7 +25,7 @@ pub struct Parts {
 }
 
 // What an OPEN frame says. An absent part is the empty place at 0.
-#[derive(Drop)]
+#[derive(Clone, Copy)]
 pub struct Opening {
     pub socket: u64,
     pub name: Place,
@@ -35,7 +35,7 @@ pub struct Opening {
 }
 
 // Why an OPEN frame is refused.
-#[derive(Drop)]
+#[derive(Clone, Copy)]
 pub enum Refusal {
     // 18: why, and where.
     Unreadable(Fault),
@@ -49,7 +49,7 @@ pub enum Refusal {
     OtherFormat,
 }
 
-#[derive(Drop)]
+#[derive(Clone, Copy)]
 pub enum Open {
     Heard(Opening),
     Refused(Refusal),

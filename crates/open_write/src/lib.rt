@@ -9,7 +9,7 @@ ghost use Rattle.open.specs.Offer.{offer_of};
 ghost use Rattle.open_write.specs.Frame.{good_name, good_format, socket_of, socket_field, format_field, parameters_field, frame_for, given_of, given_number, written};
 
 // What is given to an OPEN.
-#[derive(Drop)]
+#[derive(Clone, Copy)]
 pub enum Given {
     // A good name and a good format, whose frame has so many bytes.
     Good(usize),

@@ -11,7 +11,7 @@ ghost use Rattle.params.specs.Rules.{value_wire, value_text, value_allowed, valu
 use bytes_be::Place;
 use wire::{Fault, Field, Kind, Reading};
 
-#[derive(Drop)]
+#[derive(Clone, Copy)]
 pub enum Check {
     Good,
     // Why, and where.
@@ -19,7 +19,7 @@ pub enum Check {
 }
 
 // Where a key's Value stands.
-#[derive(Drop)]
+#[derive(Clone, Copy)]
 pub enum Found {
     At(Place),
     Nothing,

@@ -16,7 +16,7 @@ use open::{Open, Opening};
 use table::Row;
 
 // What is heard beside type, flags and type-data.
-#[derive(Drop)]
+#[derive(Clone, Copy)]
 pub enum Content {
     // Of DATA too, where its body is missing.
     Nothing,
@@ -25,7 +25,7 @@ pub enum Content {
     Body(Place),
 }
 
-#[derive(Drop)]
+#[derive(Clone, Copy)]
 pub struct Heard {
     pub message: MessageType,
     pub flags: u8,
@@ -36,7 +36,7 @@ pub struct Heard {
 }
 
 // What a receive makes of a message, and by which number of 01 it refuses it.
-#[derive(Drop)]
+#[derive(Clone, Copy)]
 pub enum Answer {
     Heard(Heard),
     // Nothing changes, and nothing is replied.
@@ -45,7 +45,7 @@ pub enum Answer {
     Closes(u8),
 }
 
-#[derive(Drop)]
+#[derive(Clone, Copy)]
 pub enum Reply {
     Nothing,
     // A single control frame.
@@ -56,7 +56,7 @@ pub enum Reply {
     },
 }
 
-#[derive(Drop)]
+#[derive(Clone, Copy)]
 pub struct Received {
     pub answer: Answer,
     pub next: Endpoint,
@@ -64,7 +64,7 @@ pub struct Received {
 }
 
 // What a message carries, or the number of 18 to 22 that refuses it.
-#[derive(Drop)]
+#[derive(Clone, Copy)]
 pub enum Carried {
     Content(Content),
     Refused(u8),

@@ -14,7 +14,7 @@ use open_write::Given;
 use table::Row;
 
 // What a send of DATA is told beside the body.
-#[derive(Drop)]
+#[derive(Clone, Copy)]
 pub struct Report {
     pub type_data: u16,
     // Whether it asks for a confirmation.
@@ -24,7 +24,7 @@ pub struct Report {
 }
 
 // What is to be tested of an own message.
-#[derive(Drop)]
+#[derive(Clone, Copy)]
 pub struct Outgoing {
     pub message: MessageType,
     pub type_data: u16,
@@ -37,7 +37,7 @@ pub struct Outgoing {
 }
 
 // What came of a send.
-#[derive(Drop)]
+#[derive(Clone, Copy)]
 pub struct Sent {
     // 0, or the number of 01 that refuses it.
     pub number: u8,

@@ -8,7 +8,7 @@ use control::MessageType;
 use endpoint::Endpoint;
 
 // What the table says of a message.
-#[derive(Drop)]
+#[derive(Clone, Copy)]
 pub enum Row {
     // 17 for one that is received, 30 for an own one.
     NotAllowed,

@@ -12,7 +12,7 @@ use params::{Check, Found};
 use wire::{Fault, Field, Kind, Reading};
 
 // What a Value holds.
-#[derive(Drop)]
+#[derive(Clone, Copy)]
 pub enum Value {
     Null,
     // The double, and its 64 bits as they stand: all NaNs are one double.
@@ -91,7 +91,7 @@ pub fn value_number(value: Value) -> u8
 }
 
 // A term that was looked up. Layer 0 is the client's parameters, layer 1 the default Struct beneath them.
-#[derive(Drop)]
+#[derive(Clone, Copy)]
 pub enum Term {
     // The layer that has it, and where its Value stands there.
     In { layer: u8, place: Place },
@@ -193,7 +193,7 @@ pub fn look_up<'a>(client: &'a [u8], defaults: &'a [u8], key: &[u8], number: &mu
 }
 
 // The limit that parameters announce.
-#[derive(Drop)]
+#[derive(Clone, Copy)]
 pub enum Announced {
     Nothing,
     Limit(u32),

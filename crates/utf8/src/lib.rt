@@ -8,7 +8,7 @@ ghost use Rattle.utf8.specs.Held.{ranges, ranges_of};
 ghost use Rattle.utf8.specs.declared.Due.TheVariants.{Bytes};
 
 // What must follow for the bytes so far to be the start of a well-formed text.
-#[derive(Drop)]
+#[derive(Clone, Copy)]
 enum Due {
     // So many bytes of the sequence that was begun, the next of them in this range.
     Bytes { count: u8, from: u8, to: u8 },

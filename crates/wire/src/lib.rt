@@ -7,7 +7,7 @@ ghost use Rattle.wire.specs.Varint.{bounded, said_at, varint_at, varint_length, 
 ghost use Rattle.wire.specs.Fields.{fault, sized, payload_at, field_at};
 
 // Why a message cannot be read.
-#[derive(Drop)]
+#[derive(Clone, Copy)]
 pub enum Kind {
     // The message ends within it.
     CutShort,
@@ -26,13 +26,13 @@ pub enum Kind {
 }
 
 // Why, and where: the place of the tag of the field at fault, or the end of the message that lacks something.
-#[derive(Drop)]
+#[derive(Clone, Copy)]
 pub struct Fault {
     pub kind: Kind,
     pub at: usize,
 }
 
-#[derive(Drop)]
+#[derive(Clone, Copy)]
 pub enum Varint {
     // The number, and the place behind it.
     Number { value: u64, next: usize },
@@ -40,7 +40,7 @@ pub enum Varint {
     Bad,
 }
 
-#[derive(Drop)]
+#[derive(Clone, Copy)]
 pub struct Field {
     // Where its tag begins.
     pub tag: usize,
@@ -53,7 +53,7 @@ pub struct Field {
     pub next: usize,
 }
 
-#[derive(Drop)]
+#[derive(Clone, Copy)]
 pub enum Reading {
     Read(Field),
     Refused(Fault),
