@@ -6,7 +6,7 @@ ghost use Rattle.frames.specs.Frames.{handed_at, begun_over, NextAnswer};
 
 use bundle::Frame;
 
-#[derive(Drop)]
+#[derive(Clone, Copy)]
 pub struct Reader<'a> {
     pub bundle: &'a [u8],
     // The index of the frame that it hands out next.
