@@ -180,7 +180,7 @@ fn value_rule(s: &[u8], held: u64, field: Field) -> Check
 }
 
 // A field of a Value, where so many levels may still nest.
-#[cycle(check_entry_check_items_check_value_entry_field_item_field_value_field)]
+#[cycle(nesting)]
 fn value_field(s: &[u8], held: u64, field: Field, levels: u8) -> Check
     requires { (field.at ≤ field.next) × (field.next ≤ length s.now) }
     ensures { result ≡ value_field (inside levels s.now) s.now held field }
@@ -198,7 +198,7 @@ fn value_field(s: &[u8], held: u64, field: Field, levels: u8) -> Check
     check_items(s, field.at, field.next, levels - 1, field.number == 6)
 }
 
-#[cycle(check_entry_check_items_check_value_entry_field_item_field_value_field)]
+#[cycle(nesting)]
 fn check_value(s: &[u8], from: usize, to: usize, levels: u8) -> Check
     ensures { result ≡ value_check (inside levels s.now) s.now from to }
 {
@@ -266,7 +266,7 @@ fn seen_of(key: bool, value: bool, number: u64) -> bool
 }
 
 // A field of an entry, in a Struct that begins at `from` and has the entry's tag at `tag`.
-#[cycle(check_entry_check_items_check_value_entry_field_item_field_value_field)]
+#[cycle(nesting)]
 fn entry_field(
     s: &[u8],
     from: usize,
@@ -303,7 +303,7 @@ fn entry_done(s: &[u8], from: usize, tag: usize, to: usize, key: bool, value: bo
 }
 
 // The entry from `start` to `to`, in a Struct that begins at `from` and has the entry's tag at `tag`.
-#[cycle(check_entry_check_items_check_value_entry_field_item_field_value_field)]
+#[cycle(nesting)]
 fn check_entry(s: &[u8], from: usize, tag: usize, start: usize, to: usize, levels: u8) -> Check
     ensures { result ≡ entry_check (inside levels s.now) s.now from tag start to }
 {
@@ -330,7 +330,7 @@ fn check_entry(s: &[u8], from: usize, tag: usize, start: usize, to: usize, level
 }
 
 // A field of a Struct that begins at `from`, or of a list.
-#[cycle(check_entry_check_items_check_value_entry_field_item_field_value_field)]
+#[cycle(nesting)]
 fn item_field(s: &[u8], from: usize, field: Field, levels: u8, list: bool) -> Check
     ensures { result ≡ item_field (inside levels s.now) s.now list from field }
 {
@@ -345,7 +345,7 @@ fn item_field(s: &[u8], from: usize, field: Field, levels: u8, list: bool) -> Ch
 }
 
 // A Struct or a list from `from` to `to`, in which so many levels may still nest.
-#[cycle(check_entry_check_items_check_value_entry_field_item_field_value_field)]
+#[cycle(nesting)]
 fn check_items(s: &[u8], from: usize, to: usize, levels: u8, list: bool) -> Check
     ensures { result ≡ items_check (inside levels s.now) s.now list from to }
 {
