@@ -3,7 +3,8 @@ PREFIX ?= /usr/local
 SEED ?= 20261115
 CALLS ?= 10000000
 
-sources := crates.txt $(shell find crates -name must-fail -prune -o -type f -print)
+sources := crates.txt $(shell find crates \( -name must-fail -o -name out \) -prune -o -type f -print)
+flags := -std=c11 -O2 -Wall -Wextra -Wconversion -pedantic -Werror
 second := target/second/release/second
 
 .PHONY: all run install compare speed bench check clean
@@ -12,22 +13,26 @@ second := target/second/release/second
 
 all: build/libfbdp.a build/fbdp.h build/host
 
+# The crate of an archive: a library of the crates cannot be one too, so fbdp_c exports what fbdp has.
+build/libfbdp.a: crate := fbdp_c
+build/libprobe.a: crate := probe
+
 build/lib%.a: $(sources)
 	@command -v rt >/dev/null || { echo "make: rt, the command of the Rattle kit, is not on the path" >&2; exit 1; }
-	rt staticlib $*
+	cd crates/$(crate) && rt lib
 	@mkdir -p build
-	cp target/staticlib/lib$*.a $@
+	cp crates/$(crate)/out/lib$(crate).a $@
 
 build/fbdp.h: include/fbdp.h
 	@mkdir -p build
 	cp $< $@
 
-build/%: examples/%.c build/fbdp.h build/libfbdp.a tools/x86
-	tools/x86 cc $@ $< -Ibuild -Lbuild -lfbdp
+build/%: examples/%.c build/fbdp.h build/libfbdp.a
+	$(CC) $(flags) -o $@ $< -Ibuild -Lbuild -lfbdp
 
 # The press and the desk of examples/host.c.
 run: all
-	@tools/x86 run build/host
+	@build/host
 
 install: build/libfbdp.a build/fbdp.h
 	install -d "$(DESTDIR)$(PREFIX)/lib/pkgconfig" "$(DESTDIR)$(PREFIX)/include"
@@ -39,16 +44,16 @@ install: build/libfbdp.a build/fbdp.h
 $(second): $(shell find second -name '*.rs' -o -name 'Cargo.*' -o -path 'second/vectors/*')
 	cargo build --release --offline --quiet --manifest-path second/Cargo.toml --target-dir target/second
 
-build/caller: second/host.c second/probe.h build/fbdp.h build/libfbdp.a build/libprobe.a tools/x86
-	tools/x86 cc $@ second/host.c -Isecond -Ibuild -Lbuild -lfbdp -lprobe
+build/caller: second/host.c second/probe.h build/fbdp.h build/libfbdp.a build/libprobe.a
+	$(CC) $(flags) -o $@ second/host.c -Isecond -Ibuild -Lbuild -lfbdp -lprobe
 
 # Every entry against the second program: CALLS calls from SEED on; `make compare CALLS=100000000 SEED=7` is a longer run.
 compare: $(second) build/caller
-	$(second) compare --seed $(SEED) --calls $(CALLS) -- tools/x86 run build/caller
+	$(second) compare --seed $(SEED) --calls $(CALLS) -- build/caller
 
 # What must not grow with a body, and what plain text must not take.
 speed: $(second) build/caller
-	$(second) speed -- tools/x86 run build/caller
+	$(second) speed -- build/caller
 
 bench:
 	tools/bench
@@ -57,4 +62,4 @@ check:
 	.ci/run
 
 clean:
-	rm -rf build target
+	rm -rf build target crates/*/out

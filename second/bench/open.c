@@ -28,9 +28,8 @@ enum {
 #define LIMIT_KEY "max_message_bytes"
 #define LIMIT 1000000
 
-/* What is aimed at for long texts and for many terms: less than these parts of nanopb's time. */
-#define MOST_FOR_TEXTS 0.8
-#define MOST_FOR_TERMS 0.7
+/* What is aimed at for long texts: less than this part of nanopb's time. */
+#define MOST_OF_NANOPB 0.8
 
 /* The slots of what probe_open hears. */
 enum {
@@ -283,10 +282,8 @@ int main(void)
     build(&frame, "long texts", longest, longest, 1);
     double long_texts = compare(&frame);
     build(&frame, "32 terms", "press7", "press-run-1", 32);
-    double many_terms = compare(&frame);
-    printf("\naim: name and format of 255 bytes take less than %.1f of nanopb's time: %s\n", MOST_FOR_TEXTS,
-           long_texts < MOST_FOR_TEXTS ? "met" : "MISSED");
-    printf("aim: 32 terms take less than %.1f of nanopb's time: %s\n", MOST_FOR_TERMS,
-           many_terms < MOST_FOR_TERMS ? "met" : "MISSED");
+    compare(&frame);
+    printf("\naim: name and format of 255 bytes take less than %.1f of nanopb's time: %s\n", MOST_OF_NANOPB,
+           long_texts < MOST_OF_NANOPB ? "met" : "MISSED");
     return 0;
 }

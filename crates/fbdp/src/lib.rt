@@ -1,4 +1,4 @@
-// The C interface: numbers and byte slices in, a number out.
+// The entries of the interface: numbers and byte slices in, a number out. The crate fbdp_c exports each to C.
 #![tactic(auto)]
 
 ghost use Rattle.std.specs.Prelude.{◌≡◌, ◌≤◌};
@@ -18,8 +18,7 @@ use sending::{Report, Sent};
 use terms::{Term, Value};
 
 // The number of the interface, which the name of the function has too.
-#[unsafe(no_mangle)]
-pub extern "C" fn fbdp_interface_3() -> u32
+pub fn fbdp_interface_3() -> u32
     ensures { InterfaceAnswer result }
 {
     3
@@ -40,8 +39,7 @@ fn frame_slots(frame: Frame) -> [u64; 3]
 }
 
 // The place of the frame at `index` of a bundle, counted from 0.
-#[unsafe(no_mangle)]
-pub extern "C" fn fbdp_frame(bundle: &[u8], index: u32, slots: &mut [u64; 3]) -> u32
+pub fn fbdp_frame(bundle: &[u8], index: u32, slots: &mut [u64; 3]) -> u32
     ensures { FrameAnswer bundle.now index result slots.new }
 {
     let frame = bundle::frame_at(bundle, index as usize);
@@ -73,8 +71,7 @@ fn value_slots(value: Value) -> [u64; 3]
 }
 
 // What a Value that is lent alone holds.
-#[unsafe(no_mangle)]
-pub extern "C" fn fbdp_value(bytes: &[u8], slots: &mut [u64; 3]) -> u32
+pub fn fbdp_value(bytes: &[u8], slots: &mut [u64; 3]) -> u32
     ensures { ValueAnswer bytes.now result slots.new }
 {
     let value = terms::value_of(bytes);
@@ -98,13 +95,7 @@ fn term_slots(term: Term) -> [u64; 3]
 }
 
 // Where the Value of a key stands in the client's parameters, and failing that in the default Struct.
-#[unsafe(no_mangle)]
-pub extern "C" fn fbdp_lookup(
-    client: &[u8],
-    defaults: &[u8],
-    key: &[u8],
-    slots: &mut [u64; 3],
-) -> u32
+pub fn fbdp_lookup(client: &[u8], defaults: &[u8], key: &[u8], slots: &mut [u64; 3]) -> u32
     ensures { LookupAnswer client.now defaults.now key.now result slots.new }
 {
     let term = terms::term_of(client, defaults, key);
@@ -128,16 +119,14 @@ fn keep(made: Made, block: &mut [u8]) -> u32
 }
 
 // Makes a fresh client of this flow and limit.
-#[unsafe(no_mangle)]
-pub extern "C" fn fbdp_make_client(block: &mut [u8], flow: u8, limit: u32) -> u32
+pub fn fbdp_make_client(block: &mut [u8], flow: u8, limit: u32) -> u32
     ensures { MakeAnswer (fresh_client flow limit) block.old result block.new }
 {
     keep(endpoint::make_client(flow, limit), block)
 }
 
 // Makes a fresh server of this flow.
-#[unsafe(no_mangle)]
-pub extern "C" fn fbdp_make_server(block: &mut [u8], flow: u8) -> u32
+pub fn fbdp_make_server(block: &mut [u8], flow: u8) -> u32
     ensures { MakeAnswer (fresh_server flow) block.old result block.new }
 {
     keep(endpoint::make_server(flow), block)
@@ -175,8 +164,7 @@ fn report_of(type_data: u16, how: u8) -> Report
 }
 
 // Sends OPEN for this pipe name and this format.
-#[unsafe(no_mangle)]
-pub extern "C" fn fbdp_send_open(
+pub fn fbdp_send_open(
     block: &mut [u8],
     name: &[u8],
     format: &[u8],
@@ -190,13 +178,7 @@ pub extern "C" fn fbdp_send_open(
 }
 
 // Sends READY with this count.
-#[unsafe(no_mangle)]
-pub extern "C" fn fbdp_send_ready(
-    block: &mut [u8],
-    count: u16,
-    out: &mut [u8],
-    written: &mut u64,
-) -> u32
+pub fn fbdp_send_ready(block: &mut [u8], count: u16, out: &mut [u8], written: &mut u64) -> u32
     ensures { SendOnBlock (READY count) block.old out.old result written.new block.new out.new }
 {
     let e = endpoint::load(block);
@@ -204,8 +186,7 @@ pub extern "C" fn fbdp_send_ready(
 }
 
 // Sends DATA with this body, or without one.
-#[unsafe(no_mangle)]
-pub extern "C" fn fbdp_send_data(
+pub fn fbdp_send_data(
     block: &mut [u8],
     type_data: u16,
     how: u8,
@@ -221,8 +202,7 @@ pub extern "C" fn fbdp_send_data(
 }
 
 // Sends NOOP.
-#[unsafe(no_mangle)]
-pub extern "C" fn fbdp_send_noop(
+pub fn fbdp_send_noop(
     block: &mut [u8],
     type_data: u16,
     how: u8,
@@ -237,13 +217,7 @@ pub extern "C" fn fbdp_send_noop(
 }
 
 // Sends CLOSE with this code.
-#[unsafe(no_mangle)]
-pub extern "C" fn fbdp_send_close(
-    block: &mut [u8],
-    code: u16,
-    out: &mut [u8],
-    written: &mut u64,
-) -> u32
+pub fn fbdp_send_close(block: &mut [u8], code: u16, out: &mut [u8], written: &mut u64) -> u32
     ensures { SendOnBlock (CLOSE code) block.old out.old result written.new block.new out.new }
 {
     let e = endpoint::load(block);
@@ -349,8 +323,7 @@ fn is_staying(answer: Answer) -> bool
 }
 
 // Receives a message.
-#[unsafe(no_mangle)]
-pub extern "C" fn fbdp_receive(
+pub fn fbdp_receive(
     block: &mut [u8],
     message: &[u8],
     name: &[u8],

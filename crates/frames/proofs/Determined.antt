@@ -2,7 +2,7 @@
 use mathlib.Core.Path.{◌≡◌}
 use mathlib.Core.List.{List}
 use Prim.Native.Nat.{ℕ}
-use denote.Ref.{Bor}
+use Rattle.std.specs.Borrow.{Bor}
 use Rattle.bytes_be.proofs.Determined.{coincide}
 use Rattle.bundle.specs.declared.Frame.{Frame}
 use Rattle.frames.specs.declared.Reader.{Reader}

@@ -5,7 +5,7 @@ use mathlib.Core.List.{List, ◌∷◌}
 use mathlib.Core.Bool.{Bool, ◌&&◌, cond, false, not, true}
 use native.Mathlib.Omega.{arith}
 use lib.Dec.{eqb, leb, ltb}
-use lib.ListN.{drop, length}
+use lib.ListN.{drop}
 use borrow.Author.Tests.{eq-eqb, eqb-true, leb-false, leb-true, lt-ltb, ltb-true, ne_eqb, not-false}
 use Rattle.bytes_be.proofs.Tests.{both_true, clash}
 use Rattle.control.specs.declared.MessageType.{MessageType}

@@ -24,7 +24,7 @@ use Rattle.double.proofs.Limits.{limit_back}
 use Rattle.params.specs.declared.Check.TheVariants.{Good}
 use Rattle.params.specs.Message.{walk, first_of, place_in}
 use Rattle.params.specs.Keys.{key_of, value_place, find_in}
-use Rattle.params.specs.Rules.{value_wire, value_text, value_allowed, value_rule, value_field, value_check, bytes_rule, key_rule, seen_of, entry_field, entry_done, entry_check, item_field, items_check, inside, struct_check}
+use Rattle.params.specs.Rules.{value_wire, value_text, value_allowed, value_rule, value_field, value_check, bytes_rule, key_rule, seen_of, entry_field, entry_done, entry_check, item_field, items_check, struct_check}
 use Rattle.terms.specs.declared.Announced.TheVariants.{Limit}
 use Rattle.terms.specs.Value.{held_by, value_at}
 use Rattle.terms.specs.Announced.{limit_key, limit_in}

@@ -1,6 +1,6 @@
 -- Which packets are OPENs; where a row leads, and what a call of the tables puts on its way. Assumes nothing.
 use mathlib.Core.Path.{◌≡◌, ◌∙◌, ap, refl, subst, sym}
-use Prim.Native.Nat.{ℕ, ◌+◌, ◌<◌, ◌^◌}
+use Prim.Native.Nat.{ℕ, ◌<◌, ◌^◌}
 use mathlib.Core.List.{List, [], ◌∷◌, ◌++◌, append-nil}
 use mathlib.Core.Bool.{Bool, true, false, cond, ◌&&◌}
 use native.Mathlib.Omega.{arith}

@@ -135,6 +135,7 @@ module _ (source : End) where
   sends_converge end (behind still drains) (calms {m = m} is-quiet active) = behind (still_last m is-quiet (active_drains active drains) still) drains
   sends_converge end (behind still drains) (ends closing alive) =
       over (λ is_open. is_open) (drains_last (still_drains still) (closed closing (alive_drains alive drains)))
+  sends_converge end (over ended drains) sends = elim sends [ ]
   sends_converge end (over_across ended drains) (moves {t = t} {m = m} moving own leads) =
       over_across ended (own_ended end m t moving own leads ended drains)
   sends_converge end (over_across ended drains) (calms is-quiet active) = over_across ended drains

@@ -6,7 +6,7 @@ use second::lookup;
 
 use crate::archive;
 use crate::table::{Group, Table, Work};
-use crate::terms::{self, Term, ALIKE, CLIENT, CLIENT_32, DEFAULTS, DEFAULTS_32};
+use crate::terms::{self, Term, ALIKE, CLIENT, DEFAULTS};
 
 type Lookup = fn(&[u8], &[u8], &[u8]) -> (u64, [u64; 3]);
 
@@ -42,26 +42,23 @@ impl Work for Asking {
 }
 
 /// The key of the last of these terms.
-fn last_key(terms: &[Term]) -> &'static str {
+fn last_key(terms: &[Term; 12]) -> &'static str {
     terms[terms.len() - 1].0
 }
 
 pub fn add_rows(table: &mut Table) -> Result<(), String> {
-    let rows: [(Group, &str, &[Term], &[Term], &'static str); 6] = [
-        (Group::Lookup, "the last of 12 in the client's parameters", &CLIENT, &DEFAULTS, last_key(&CLIENT)),
-        (Group::Lookup, "the last of 12 in the defaults", &CLIENT, &DEFAULTS, last_key(&DEFAULTS)),
-        (Group::Lookup, "the last of 32 in the client's parameters", &CLIENT_32, &DEFAULTS_32, last_key(&CLIENT_32)),
-        (Group::Lookup, "the last of 32 in the defaults", &CLIENT_32, &DEFAULTS_32, last_key(&DEFAULTS_32)),
-        (Group::Other, "12 keys alike in the client's parameters", &ALIKE, &DEFAULTS, last_key(&ALIKE)),
-        (Group::Other, "12 keys alike in the defaults", &CLIENT, &ALIKE, last_key(&ALIKE)),
-    ];
-    for (group, title, client, defaults, key) in rows {
-        let (client, defaults) = (terms::structure(client), terms::structure(defaults));
+    for (title, client, defaults, key) in [
+        ("the last of 12 in the client's parameters", CLIENT, DEFAULTS, last_key(&CLIENT)),
+        ("the last of 12 in the defaults", CLIENT, DEFAULTS, last_key(&DEFAULTS)),
+        ("12 keys alike in the client's parameters", ALIKE, DEFAULTS, last_key(&ALIKE)),
+        ("12 keys alike in the defaults", CLIENT, ALIKE, last_key(&ALIKE)),
+    ] {
+        let (client, defaults) = (terms::structure(&client), terms::structure(&defaults));
         let mut asking = Asking { client, defaults, key, answer: (0, [0; 3]) };
         let title = format!("lookup, {title}");
         let (ours, model) =
             (|asking: &mut Asking| asking.call(archive::lookup), |asking: &mut Asking| asking.call(lookup::lookup));
-        table.add(group, &title, &mut asking, ours, ("second", model))?;
+        table.add(Group::Other, &title, &mut asking, ours, ("second", model))?;
     }
     Ok(())
 }

@@ -19,7 +19,7 @@ use table::{Group, Table};
 /// How many times as long a receive of the largest body may take for its cost to count as independent of the body.
 const MOST_GROWTH: f64 = 1.2;
 
-/// The least ratios that are aimed at: to plain Rust for receives and lookups, to memcpy for large sends, and to the standard
+/// The least ratios that are aimed at: to plain Rust for receives, to memcpy for large sends, and to the standard
 /// library for UTF-8.
 const LEAST_OF_RUST: f64 = 1.0;
 const LEAST_OF_MEMCPY: f64 = 0.8;
@@ -52,7 +52,6 @@ fn run() -> Result<(), String> {
     let verdict = if growth <= MOST_GROWTH { "met" } else { "MISSED" };
     println!("aim: the cost of a receive does not depend on the size of the body (up to {MOST_GROWTH:.1}): {verdict}");
     table.print_aim("a receive is at least as fast as plain Rust", Group::Receive, LEAST_OF_RUST);
-    table.print_aim("a lookup is at least as fast as plain Rust", Group::Lookup, LEAST_OF_RUST);
     table.print_aim("a send of 1 MB and more reaches memcpy", Group::LargeSend, LEAST_OF_MEMCPY);
     table.print_aim("the test of UTF-8 reaches from_utf8", Group::Text, LEAST_OF_FROM_UTF8);
     Ok(())

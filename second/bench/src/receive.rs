@@ -12,7 +12,7 @@ use second::wire;
 use crate::archive;
 use crate::send::SIZES;
 use crate::table::{same, Group, Table, Work};
-use crate::terms::{self, Term, CLIENT, CLIENT_32};
+use crate::terms;
 use crate::timing;
 
 /// The bytes of a reply.
@@ -89,13 +89,13 @@ fn data(size: usize) -> Receiving {
     Receiving::new(&in_batch(Flow::Consumer, 0), message(DATA, 0, &[&vec![0x5A; size]]))
 }
 
-/// An OPEN with name, socket, format and these terms, to a server that offers just that.
-fn open(terms: &[Term]) -> Receiving {
+/// An OPEN with name, socket, format and six terms, to a server that offers just that.
+fn open() -> Receiving {
     let mut frame = Vec::new();
     wire::put_delimited_field(&mut frame, NAME, PIPE);
     wire::put_varint_field(&mut frame, SOCKET, INPUT);
     wire::put_delimited_field(&mut frame, FORMAT, PIPE_FORMAT);
-    wire::put_delimited_field(&mut frame, PARAMETERS, &terms::structure(terms));
+    wire::put_delimited_field(&mut frame, PARAMETERS, &terms::structure(&terms::CLIENT[..6]));
     let server = State::fresh(Role::Server, Flow::Consumer, DEFAULT_LIMIT);
     Receiving::new(&server, message(OPEN, 0, &[&frame]))
 }
@@ -111,8 +111,7 @@ pub fn add_rows(table: &mut Table) -> Result<(), String> {
         let confirms = Receiving::new(&in_batch(Flow::Producer, awaited), message(NOOP, ACK_REPLY, &[]));
         works.push((format!("receive a confirmation, of {awaited} awaited"), confirms));
     }
-    works.push(("receive OPEN, 6 terms".into(), open(&CLIENT[..6])));
-    works.push(("receive OPEN, 32 terms".into(), open(&CLIENT_32)));
+    works.push(("receive OPEN, 6 terms".into(), open()));
     for (title, mut work) in works {
         table.add(Group::Receive, &title, &mut work, Receiving::ours, ("second", Receiving::model))?;
     }

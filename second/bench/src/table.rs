@@ -22,8 +22,6 @@ pub enum Group {
     Receive,
     /// A send of 1 MB and more against memcpy.
     LargeSend,
-    /// A lookup of the last of 12 or 32 terms.
-    Lookup,
     /// The test of UTF-8 against the standard library's.
     Text,
     Other,

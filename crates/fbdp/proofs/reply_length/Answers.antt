@@ -1,0 +1,10 @@
+-- `fbdp::reply_length` meets its contract: the bundle of a control frame has 14 bytes. Assumes nothing.
+use mathlib.Core.Path.{sym}
+use mathlib.Core.List.{[]}
+use Rattle.bundle.proofs.Outputs.{one_long}
+use Rattle.control.proofs.Round.{length_control}
+use Rattle.control.specs.Frame.{bytes_of}
+use Rattle.fbdp.proofs.reply_length.Goals as goal
+
+pub returns-in-Frame : goal.returns-in-Frame
+returns-in-Frame c = simp c.in-Frame.is (sym (one_long (bytes_of _ _ _) (length_control _ _ _) []))

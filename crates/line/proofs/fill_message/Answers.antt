@@ -1,0 +1,9 @@
+-- `line::fill_message` meets its contract: its five texts, one behind the other, are the line, and 96 bytes have room for them.
+-- Assumes nothing.
+use Rattle.line.specs.Report.{line_of}
+use Rattle.line.proofs.Puts.{put_more}
+use Rattle.line.proofs.fill_message.Goals as goal
+
+pub returns : goal.returns
+unfolding line_of
+returns c = put_more (put_more (put_more (put_more c.put_name-named.ensures.0 c.put_field-flagged.ensures.0) c.put_field-said.ensures.0) c.put_field-counted.ensures.0) c.put.ensures

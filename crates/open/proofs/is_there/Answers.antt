@@ -1,0 +1,25 @@
+-- `open::is_there` meets its contract, by the number. Assumes nothing.
+use borrow.Author.Rules.{rules}
+use Rattle.open.specs.Frame.{is_there}
+use Rattle.open.proofs.Skipped.{skipped}
+use Rattle.open.proofs.is_there.Goals as goal
+
+pub returns-in-1 : goal.returns-in-1
+unfolding is_there
+returns-in-1 c = simp c.in-1.is
+
+pub returns-in-2 : goal.returns-in-2
+unfolding is_there
+returns-in-2 c = simp c.in-2.is
+
+pub returns-in-3 : goal.returns-in-3
+unfolding is_there
+returns-in-3 c = simp c.in-3.is
+
+pub returns-in-4 : goal.returns-in-4
+unfolding is_there
+returns-in-4 c = simp c.in-4.is
+
+pub returns-in_default : goal.returns-in_default
+unfolding is_there
+returns-in_default c = skipped c.args.number _ _ _ _ _ ((((tt, search rules), search rules), search rules), search rules)
