@@ -23,6 +23,6 @@ most_limit = 50000000
 abbrev pub in_limits : ℕ → Bool
 in_limits number = nat_le least_limit number && nat_le number most_limit
 
--- "only where nothing is lost": the limit that a double says; the double of its integer is that double again (`limit-exact`)
+-- "only where nothing is lost": the limit that a double says; the double of its integer is that double again (`limit_exact`)
 unfoldable pub limit_of : Float → Limit
 limit_of double = cond (is_whole double && in_limits (integer_of double)) (Whole (integer_of double)) Bad

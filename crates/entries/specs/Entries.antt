@@ -42,7 +42,7 @@ pub record Entries : Type 0 where
   pub receives : List ℕ → Offer → List ℕ → List ℕ → ReceiveResult
 
 -- whatever is called, with arguments of their types, the result meets the contract of the entry. Blocks, messages and outputs are any lists of numbers,
--- as in the contracts: an entry is known on bytes alone, and on other lists it is taken to do as `byTables`.
+-- as in the contracts: an entry is known on bytes alone, and on other lists it is taken to do as `by_tables`.
 pub record Meets (entries : Entries) : Type 0 where
   pub making : (making : Making) (block : List ℕ)
       → MakeAnswer (fresh_by making) block (entries.makes making block).number (entries.makes making block).next

@@ -29,7 +29,7 @@ OneByOne =
     (bundle : List ℕ) → good bundle ≡ true → (more : ℕ)
     → handed_out bundle 0 (count_of bundle + more) ≡ tabulate 0 (count_of bundle) (λ k. At (place_of bundle k)) ++ replicate more Behind
 
--- a bad bundle: `BadBundle` each time, whose `frameNumber` is 10, and no frame, ever
+-- a bad bundle: `BadBundle` each time, whose `frame_number` is 10, and no frame, ever
 abbrev pub BadEachTime : Type 0
 BadEachTime = (bundle : List ℕ) → good bundle ≡ false → (position often : ℕ) → handed_out bundle position often ≡ replicate often BadBundle
 

@@ -29,7 +29,7 @@ by_field number name socket format parameters skipped =
 unfoldable pub oversized : ℕ → ℕ → Bool
 oversized number value = eqb number 2 && ltb 0xFFFF_FFFF value
 
--- "with its own wire type": a length and so many bytes, or a varint; fields 5 and up have none of their own, and `payloadAt` has refused
+-- "with its own wire type": a length and so many bytes, or a varint; fields 5 and up have none of their own, and `payload_at` has refused
 -- what is none of 0, 1, 2 and 5
 unfoldable pub frame_wire : ℕ → ℕ → Bool
 frame_wire number wire = by_field number (eqb wire 2) (eqb wire 0) (eqb wire 2) (eqb wire 2) true

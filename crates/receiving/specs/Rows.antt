@@ -1,4 +1,4 @@
--- "Receiving": which message an end may hear, and what it then becomes, in the words of document 01. `hearRow` says the same by the row of the
+-- "Receiving": which message an end may hear, and what it then becomes, in the words of document 01. `hear_row` says the same by the row of the
 -- sender: what may be heard is what the other end may send.
 use Rattle.std.specs.Prelude.{ℕ, ◌-◌, ◌≡◌, true, cond, ◌&&◌, ◌||◌, leb, eqb}
 use Rattle.control.specs.declared.MessageType.{MessageType}
@@ -11,7 +11,7 @@ use Rattle.table.specs.declared.Row.TheVariants.{To}
 use Rattle.table.specs.Table.{allowed, up_to, begun}
 use Rattle.receiving.specs.Hearing.{confirms, hear_row}
 
--- "OPEN: server in phase 0; becomes 1"; its limit by `limitedBy`
+-- "OPEN: server in phase 0; becomes 1"; its limit by `limited_by`
 unfoldable pub open_heard : Endpoint → Row
 open_heard e = allowed (eqb e.role server && eqb e.phase fresh) (To opening 0)
 

@@ -5,7 +5,7 @@ ghost use Rattle.std.specs.Prelude.{◌≡◌, ◌+◌, ◌≤◌, length};
 ghost use Rattle.open.specs.Offer.{offer_of};
 ghost use Rattle.message.specs.Reading.{body_place};
 ghost use Rattle.receiving.specs.Refusing.{version_code, close_code, silent, refused, unchanged};
-ghost use Rattle.receiving.specs.Hearing.{confirmable, confirms as Hearing·confirms, asks as the-asks-Hearing, moves_as, hear_row, too_large, open_carried, body_carried, open_at, carried_by, carried_number, matches_oldest, unmatched, confirmed_by, limited_by, reply_to, accepted, hear_content, hear_message, hear_of};
+ghost use Rattle.receiving.specs.Hearing.{confirmable, confirms as Hearing·confirms, asks as Hearing·asks, moves_as, hear_row, too_large, open_carried, body_carried, open_at, carried_by, carried_number, matches_oldest, unmatched, confirmed_by, limited_by, reply_to, accepted, hear_content, hear_message, hear_of};
 ghost use Rattle.receiving.specs.Receiving.{replied, ReceiveAnswer};
 
 use bytes_be::Place;
@@ -169,7 +169,7 @@ fn confirms(message: MessageType, flags: u8) -> bool
 
 // Whether it asks for a confirmation.
 fn asks(message: MessageType, flags: u8) -> bool
-    ensures { result ≡ the-asks-Hearing message flags }
+    ensures { result ≡ Hearing·asks message flags }
 {
     is_confirmable(message) & (flags == 1)
 }

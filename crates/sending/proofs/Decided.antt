@@ -20,6 +20,7 @@ use Rattle.table.specs.Table.{above_offer, moved, not_allowed, row_of}
 use Rattle.sending.specs.declared.Outgoing.{Outgoing}
 use Rattle.sending.specs.declared.Sent.{Sent}
 use Rattle.sending.specs.Calls.{bundle_with, flags_for, number_if}
+use Rattle.sending.specs.Held.{plain}
 use Rattle.sending.specs.Sending.{Answered, asked_by, is_full, left_by, number_for, send_row, sent_by, sent_if}
 
 not_zero : {k : ℕ} → 0 < k → k ≡ 0 → ⊥
@@ -135,6 +136,12 @@ refused_if false k rest some e = e
 
 abbrev pub longer : Outgoing → ℕ → Outgoing
 longer o size = record { message = o.message; type_data = o.type_data; ask = o.ask; own = o.own; length = size }
+
+-- a control frame alone makes a bundle of 14 bytes, by which its send is decided
+pub plain_decided : (e : Endpoint) (message : MessageType) (ask : Bool) (type-data own room : ℕ)
+    → sent_by e (longer (plain message type-data ask own) 14) room ≡ sent_by e (plain message type-data ask own) room
+plain_decided e message ask type-data own room =
+    ap (λ (size : ℕ). sent_by e (longer (plain message type-data ask own) size) room) (sym (plain_long message ask type-data))
 
 pub refused_any : (e : Endpoint) (o : Outgoing) (room size : ℕ) → eqb o.own 0 ≡ false → sent_by e o room ≡ sent_by e (longer o size) room
 unfolding sent_by number_for is_full send_row

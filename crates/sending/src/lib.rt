@@ -54,6 +54,7 @@ fn send_row(e: Endpoint, o: Outgoing) -> Row
 }
 
 // The first test that refuses, or 0.
+#[tactic(auto, unfolding(crate::specs::Sending::number_for))]
 fn number_for(e: Endpoint, o: Outgoing, row: Row, room: usize) -> u8
     ensures { result ≡ number_for e o row room }
 {

@@ -1,4 +1,4 @@
--- `control::known_type_of` meets its contract: each arm is the case of `knownTypeOf` at its own number.
+-- `control::known_type_of` meets its contract: each arm is the case of `known_type_of` at its own number.
 -- Assumes nothing.
 use borrow.Author.Tests.{ne_eqb}
 use borrow.Author.Rules.{rules}

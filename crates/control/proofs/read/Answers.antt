@@ -1,4 +1,4 @@
--- `control::read` meets its contract: each stage's answer decides the same case of `controlOf`.
+-- `control::read` meets its contract: each stage's answer decides the same case of `control_of`.
 -- Assumes nothing.
 use mathlib.Core.Path.{sym, ◌∙◌}
 use Rattle.control.specs.Frame.{control_of}

@@ -1,4 +1,4 @@
--- `control::version_of` meets its contract: the test is that of `versionOf`.
+-- `control::version_of` meets its contract: the test is that of `version_of`.
 -- Assumes nothing.
 use borrow.Author.Tests.{eq-eqb, ne_eqb}
 use Rattle.control.specs.Frame.{version_of}

@@ -1,4 +1,4 @@
--- `endpoint::entry_bytes` meets its contract: its three bytes are what `entryBytes` computes to.
+-- `endpoint::entry_bytes` meets its contract: its three bytes are what `entry_bytes` computes to.
 -- Assumes nothing.
 use mathlib.Core.Path.{refl}
 use Rattle.bytes_be.specs.Number.{to_bytes}

@@ -1,4 +1,4 @@
--- `receiving::hear` meets its contract: each answer is the case of `hearOf` that led there.
+-- `receiving::hear` meets its contract: each answer is the case of `hear_of` that led there.
 -- Assumes nothing.
 use mathlib.Core.Path.{◌∙◌, ap, subst, sym}
 use borrow.Author.Tests.{eq-eqb, ne_eqb}

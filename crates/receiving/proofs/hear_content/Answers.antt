@@ -1,4 +1,4 @@
--- `receiving::hear_content` meets its contract: each answer is the case of `hearContent` whose tests were passed.
+-- `receiving::hear_content` meets its contract: each answer is the case of `hear_content` whose tests were passed.
 -- Assumes nothing.
 use mathlib.Core.Path.{◌∙◌, ◌≡◌, ap, sym}
 use mathlib.Core.Bool.{false}

@@ -1,4 +1,4 @@
--- `receiving::hear_message` meets its contract: each answer is the case of `hearMessage` whose tests were passed.
+-- `receiving::hear_message` meets its contract: each answer is the case of `hear_message` whose tests were passed.
 -- Assumes nothing.
 use mathlib.Core.Path.{◌∙◌, ◌≡◌, ap, sym}
 use mathlib.Core.Bool.{false}

@@ -18,32 +18,30 @@ use Rattle.sending.specs.Calls.{OPEN, misgiven, bundle_with, outgoing}
 use Rattle.sending.specs.Held.{frame_size}
 use Rattle.sending.specs.Sending.{send_of}
 use Rattle.sending.proofs.Decided.{accepted_passed, framed_long, not_applies, wrote_bytes, wrote_nothing}
-use Rattle.sending.proofs.Opened.{given_long, given_short, open_decided, open_frame, open_given, put_open}
+use Rattle.sending.proofs.Opened.{given_long, given_short, open_decided, open_frame, put_open}
 use Rattle.sending.proofs.send_open.Goals as goal
 
 pub overflow_add-o : goal.overflow_add-o
 overflow_add-o c =
-    let given : c.frame_size-frame.result ≡ frame_size (open_given c.args.e (offer_of c.args.name.now c.args.format.now)) = c.frame_size-frame.ensures ∙ ap frame_size c.given_of-given.ensures in
-    let short : c.frame_size-frame.result ≤ 568 = rw given (given_short c.args.e (offer_of c.args.name.now c.args.format.now)) in
-    omega (arith, short)
+    let given = c.frame_size-frame.ensures ∙ ap frame_size c.given_of-given.ensures in
+    omega (arith, rw (← given) at (given_short c.args.e (offer_of c.args.name.now c.args.format.now)))
 
 pub overflow_cast-frame : goal.overflow_cast-frame
 overflow_cast-frame c =
-    let given : c.frame_size-frame.result ≡ frame_size (open_given c.args.e (offer_of c.args.name.now c.args.format.now)) = c.frame_size-frame.ensures ∙ ap frame_size c.given_of-given.ensures in
-    let short : c.frame_size-frame.result ≤ 568 = rw given (given_short c.args.e (offer_of c.args.name.now c.args.format.now)) in
-    omega (arith, short)
+    let given = c.frame_size-frame.ensures ∙ ap frame_size c.given_of-given.ensures in
+    omega (arith, rw (← given) at (given_short c.args.e (offer_of c.args.name.now c.args.format.now)))
 
 pub returns-then-sent-eq0 : goal.returns-then-sent-eq0
 unfolding bundle_with misgiven
 returns-then-sent-eq0 c =
-    let given : c.frame_size-frame.result ≡ frame_size (open_given c.args.e (offer_of c.args.name.now c.args.format.now)) = c.frame_size-frame.ensures ∙ ap frame_size c.given_of-given.ensures in
-    let is_decided : c.decide-sent.result ≡ send_of c.args.e (OPEN (offer_of c.args.name.now c.args.format.now)) (length c.args.out.now) = let a = c.args in
-    c.decide-sent.ensures
-    ∙ simp (c.given_number.ensures, c.frame_size-frame.ensures, c.given_of-given.ensures)
-    (open_decided a.e (offer_of a.name.now a.format.now) (length a.out.now)) in
+    let given = c.frame_size-frame.ensures ∙ ap frame_size c.given_of-given.ensures in
     let a = c.args in
     let call = OPEN (offer_of a.name.now a.format.now) in
     let room = length a.out.now in
+    let is_decided : c.decide-sent.result ≡ send_of a.e call room =
+    c.decide-sent.ensures
+    ∙ simp (c.given_number.ensures, c.frame_size-frame.ensures, c.given_of-given.ensures)
+    (open_decided a.e (offer_of a.name.now a.format.now) room) in
     let number : (send_of a.e call room).number ≡ 0 = ap (λ (s : Sent). s.number) (sym is_decided) ∙ c.if-sent-eq0.true in
     let tests = accepted_passed a.e (outgoing a.e call) room number in
     let good : is_good (offer_of a.name.now a.format.now) ≡ true = not-false _ (not_applies (misgiven (offer_of a.name.now a.format.now)) 34 (lit< tt) tests.unrefused) in
@@ -55,10 +53,11 @@ returns-then-sent-eq0 c =
 
 pub returns-else-sent-eq0 : goal.returns-else-sent-eq0
 returns-else-sent-eq0 c =
-    let is_decided : c.decide-sent.result ≡ send_of c.args.e (OPEN (offer_of c.args.name.now c.args.format.now)) (length c.args.out.now) = let a = c.args in
-    c.decide-sent.ensures
-    ∙ simp (c.given_number.ensures, c.frame_size-frame.ensures, c.given_of-given.ensures)
-    (open_decided a.e (offer_of a.name.now a.format.now) (length a.out.now)) in
     let a = c.args in
     let call = OPEN (offer_of a.name.now a.format.now) in
+    let room = length a.out.now in
+    let is_decided : c.decide-sent.result ≡ send_of a.e call room =
+    c.decide-sent.ensures
+    ∙ simp (c.given_number.ensures, c.frame_size-frame.ensures, c.given_of-given.ensures)
+    (open_decided a.e (offer_of a.name.now a.format.now) room) in
     wrote_nothing a.e (outgoing a.e call) _ a.out.now c.decide-sent.result is_decided c.if-sent-eq0.false

@@ -1,6 +1,6 @@
 -- `sending::send_plain` meets its contract: the bundle of a control frame alone is written where the send is accepted.
 -- Assumes nothing.
-use mathlib.Core.Path.{◌∙◌, ◌≡◌, ap, sym}
+use mathlib.Core.Path.{◌∙◌, ◌≡◌, ap}
 use Prim.Native.Nat.{ℕ}
 use mathlib.Core.List.{List, [], ◌∷◌}
 use lib.ListN.{length}
@@ -10,17 +10,14 @@ use Rattle.bundle.proofs.Outputs.{left_put, one_made}
 use Rattle.control.proofs.Round.{length_control}
 use Rattle.sending.specs.Calls.{bundle_with, flags_for}
 use Rattle.sending.specs.Held.{plain}
-use Rattle.sending.specs.Sending.{sent_by}
-use Rattle.sending.proofs.Decided.{longer, plain_long, wrote_bytes, wrote_nothing}
+use Rattle.sending.proofs.Decided.{plain_decided, wrote_bytes, wrote_nothing}
 use Rattle.sending.proofs.send_plain.Goals as goal
 
 pub returns-then-sent-eq0 : goal.returns-then-sent-eq0
 unfolding bundle_with
 returns-then-sent-eq0 c =
-    let is_decided : c.decide-sent.result ≡ sent_by c.args.e (plain c.args.message c.args.type_data c.args.ask c.args.own) (length c.args.out.now) = let a = c.args in
-    c.decide-sent.ensures
-    ∙ ap (λ (size : ℕ). sent_by a.e (longer (plain a.message a.type_data a.ask a.own) size) (length a.out.now)) (sym (plain_long a.message a.ask a.type_data)) in
     let a = c.args in
+    let is_decided = c.decide-sent.ensures ∙ plain_decided a.e a.message a.ask a.type_data a.own (length a.out.now) in
     let frame = c.control_frame.result in
     let eight : length frame ≡ 8 = ap length c.control_frame.ensures ∙ length_control a.message (flags_for a.ask) a.type_data in
     let put = left_put (frame ∷ []) a.out.now (one_made frame eight a.out.now) c.write_one.ensures in
@@ -29,8 +26,6 @@ returns-then-sent-eq0 c =
 
 pub returns-else-sent-eq0 : goal.returns-else-sent-eq0
 returns-else-sent-eq0 c =
-    let is_decided : c.decide-sent.result ≡ sent_by c.args.e (plain c.args.message c.args.type_data c.args.ask c.args.own) (length c.args.out.now) = let a = c.args in
-    c.decide-sent.ensures
-    ∙ ap (λ (size : ℕ). sent_by a.e (longer (plain a.message a.type_data a.ask a.own) size) (length a.out.now)) (sym (plain_long a.message a.ask a.type_data)) in
     let a = c.args in
+    let is_decided = c.decide-sent.ensures ∙ plain_decided a.e a.message a.ask a.type_data a.own (length a.out.now) in
     wrote_nothing a.e (plain a.message a.type_data a.ask a.own) _ a.out.now c.decide-sent.result is_decided c.if-sent-eq0.false
