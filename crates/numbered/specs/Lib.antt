@@ -1,0 +1,2 @@
+-- Document 01: "Every refusal has a listed number".
+pub mod Numbered

@@ -1,0 +1,23 @@
+// The numbers of document 01 by which what is refused is told, as each error of this library has one.
+#![tactic(auto)]
+
+ghost use Rattle.std.specs.Prelude.{◌≡◌, ℕ};
+ghost use Rattle.numbered.specs.Numbered.{number_of};
+
+// An error that has a number of 01.
+pub trait Numbered {
+    ghost number: { Self → ℕ };
+
+    fn number(&self) -> u8
+        ensures { result ≡ number self.now };
+}
+
+// The number of an answer: 0, or that of its error.
+pub fn number_of<T, E: Numbered>(answer: &Result<T, E>) -> u8
+    ensures { result ≡ number_of E.number answer.now }
+{
+    match answer {
+        Ok(_) => 0,
+        Err(why) => why.number(),
+    }
+}
