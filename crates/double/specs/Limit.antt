@@ -1,9 +1,7 @@
 -- "The limit parameter must be a number that is whole, 1,000,000 to 50,000,000; it is turned into an integer only where nothing is lost."
-use Rattle.std.specs.Prelude.{ℕ, Bool, cond, ◌&&◌, nat_le, Float}
+use Rattle.std.specs.Prelude.{ℕ, Bool, cond, ◌&&◌, nat_le, Float, Option, Some, None}
 use Rattle.std.specs.Float.{binary64}
 use Rattle.std.specs.Float.Ieee.{in_unsigned, to_unsigned}
-use Rattle.double.specs.declared.Limit.{Limit}
-use Rattle.double.specs.declared.Limit.TheVariants.{Whole, Bad}
 
 -- "a number that is whole": finite, with no fraction, neither negative nor -0, and below 2^32; no NaN and no infinity is one
 abbrev pub is_whole : Float → Bool
@@ -24,5 +22,5 @@ abbrev pub in_limits : ℕ → Bool
 in_limits number = nat_le least_limit number && nat_le number most_limit
 
 -- "only where nothing is lost": the limit that a double says; the double of its integer is that double again (`limit_exact`)
-unfoldable pub limit_of : Float → Limit
-limit_of double = cond (is_whole double && in_limits (integer_of double)) (Whole (integer_of double)) Bad
+unfoldable pub limit_of : Float → Option ℕ
+limit_of double = cond (is_whole double && in_limits (integer_of double)) (Some (integer_of double)) None

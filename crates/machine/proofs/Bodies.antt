@@ -1,4 +1,5 @@
 -- What a host is told says whether there is a body: DATA that is heard has one where it has a data frame, and nothing else has. Assumes nothing.
+use Rattle.std.specs.Prelude.{Result, Ok, Err}
 use mathlib.Core.Path.{◌≡◌, ◌∙◌, ap, refl, subst, sym}
 use Prim.Native.Nat.{ℕ, ◌+◌}
 use mathlib.Core.List.{List}
@@ -9,8 +10,6 @@ use Rattle.bytes_be.proofs.Tests.{clash}
 use Rattle.control.specs.declared.MessageType.{MessageType}
 use Rattle.control.specs.declared.MessageType.TheVariants.{Open, Ready, Noop, Data, Close}
 use Rattle.control.specs.Frame.{ack_reply, type_of}
-use Rattle.open.specs.declared.Open.{Open as OpenFrame}
-use Rattle.open.specs.declared.Open.TheVariants.{Heard, Refused}
 use Rattle.open.specs.Open.{heard_by}
 use Rattle.message.specs.declared.Body.{Body as BodyPlace}
 use Rattle.message.specs.declared.Body.TheVariants.{Nothing as BodyPlace-as-Nothing, At}
@@ -22,6 +21,8 @@ use Rattle.receiving.specs.declared.Answer.TheVariants.{Heard as Answer-as-Heard
 use Rattle.receiving.specs.declared.Carried.{Carried}
 use Rattle.receiving.specs.declared.Carried.TheVariants.{Content as Carried-as-Content, Refused as Carried-as-Refused}
 use Rattle.receiving.specs.declared.Received.{Received}
+use Rattle.open.specs.declared.Opening.{Opening}
+use Rattle.open.specs.declared.Refusal.{Refusal}
 use Rattle.receiving.specs.Hearing.{accepted, body_carried, carried_as, carried_by, open_at, open_carried}
 use Rattle.receiving.specs.Refusing.{refused, unchanged}
 use Rattle.sending.specs.Calls.{is_missing}
@@ -35,9 +36,9 @@ module _ (s : List ℕ) where
   Lacks none (Carried-as-Refused number) = Unit
 
   -- the frame of an OPEN is no body
-  opening_lacks : (said : OpenFrame) → Lacks true (open_carried said)
-  opening_lacks (Heard opening) = refl
-  opening_lacks (Refused refusal) = tt
+  opening_lacks : (said : Result Opening Refusal) → Lacks true (open_carried said)
+  opening_lacks (Ok opening) = refl
+  opening_lacks (Err refusal) = tt
 
   data_lacks : (flags frames : ℕ) (place : Place) → bad_frames Data flags frames ≡ false
       → Lacks (not (not (eqb frames 0))) (body_carried (body_behind Data flags frames place))
@@ -49,7 +50,7 @@ module _ (s : List ℕ) where
       go false true passes = refl
       go false false passes = refl
 
-  carried_lacks : (said : OpenFrame) (message : MessageType) (flags frames : ℕ) (place : Place) → bad_frames message flags frames ≡ false
+  carried_lacks : (said : Result Opening Refusal) (message : MessageType) (flags frames : ℕ) (place : Place) → bad_frames message flags frames ≡ false
       → Lacks (not (tells_body (type_of message) frames)) (carried_as message (open_carried said) (body_carried (body_behind message flags frames place)))
   carried_lacks said Open flags frames place passes = opening_lacks said
   carried_lacks said Ready flags frames place passes = refl

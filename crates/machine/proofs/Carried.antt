@@ -1,12 +1,11 @@
 -- What is carried by an OPEN that is heard has a limit that is one, and one that is not heard is refused by a number of 18 to 22. Assumes nothing.
+use Rattle.std.specs.Prelude.{Result, Ok, Err}
 use Prim.Native.Nat.{◌+◌, ◌≤◌, ℕ}
 use mathlib.Core.List.{List}
 use native.Mathlib.Omega.{arith}
 use Rattle.bytes_be.specs.declared.Place.{Place}
 use Rattle.control.specs.declared.MessageType.{MessageType}
 use Rattle.control.specs.declared.MessageType.TheVariants.{Open, Ready, Noop, Data, Close}
-use Rattle.open.specs.declared.Open.{Open as OpenFrame}
-use Rattle.open.specs.declared.Open.TheVariants.{Heard, Refused}
 use Rattle.open.specs.declared.Refusal.{Refusal}
 use Rattle.open.specs.declared.Refusal.TheVariants.{Unreadable, OutOfRange, UnknownSocket, OtherPipe, OtherFormat}
 use Rattle.open.specs.Open.{heard_by, refusal_number}
@@ -40,9 +39,9 @@ CarriedBounded (Carried-as-Content (Opening opening)) = HeardBounded opening
 CarriedBounded (Carried-as-Content (Content-as-Body place)) = Unit
 CarriedBounded (Carried-as-Refused number) = WhileCarried number
 
-open_carries : (said : OpenFrame) → OfOpening HeardBounded said → CarriedBounded (open_carried said)
-open_carries (Heard opening) bounded = bounded
-open_carries (Refused refusal) bounded = refusal_numbered refusal
+open_carries : (said : Result Opening Refusal) → OfOpening HeardBounded said → CarriedBounded (open_carried said)
+open_carries (Ok opening) bounded = bounded
+open_carries (Err refusal) bounded = refusal_numbered refusal
 
 body_carries : (body : Body) → CarriedBounded (body_carried body)
 body_carries Body-as-Nothing = tt

@@ -1,4 +1,5 @@
 -- What an end that may hear a message makes of it, and of an OPEN that asks for what is offered. Assumes nothing.
+use Rattle.std.specs.Prelude.{Ok}
 use mathlib.Core.Path.{◌≡◌, refl}
 use Prim.Native.Nat.{ℕ}
 use mathlib.Core.List.{List}
@@ -8,7 +9,6 @@ use lib.ListN.{length}
 use Rattle.bytes_be.specs.Part.{same}
 use Rattle.bytes_be.proofs.Tests.{both_true, clash}
 use Rattle.open.specs.Offer.{Offer}
-use Rattle.open.specs.declared.Open.TheVariants.{Heard}
 use Rattle.open.specs.declared.Opening.{Opening}
 use Rattle.open.specs.Open.{offered_socket}
 use Rattle.open_write.specs.Frame.{socket_of}
@@ -45,7 +45,7 @@ one_true false false e = clash cc
 
 pub offered_heard : (flow : ℕ) (asked : Offer) (opening : Opening) (serverFlow : ℕ) (pipe : Offer) →
     same asked.name pipe.name && eqb (socket_of flow) (offered_socket serverFlow) && (eqb (length asked.format) 0 || same asked.format pipe.format) ≡ true →
-    answer_to flow asked opening serverFlow pipe ≡ Heard opening
+    answer_to flow asked opening serverFlow pipe ≡ Ok opening
 unfolding answer_to
 offered_heard flow asked opening serverFlow pipe offers =
     let all = both_true (same asked.name pipe.name && eqb (socket_of flow) (offered_socket serverFlow)) (eqb (length asked.format) 0 || same asked.format pipe.format) offers in

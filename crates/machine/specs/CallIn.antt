@@ -1,18 +1,18 @@
 -- The call that a message is of, read off its bytes.
-use Rattle.std.specs.Prelude.{ℕ, ◌+◌, ◌≡◌, List, cond, eqb}
+use Rattle.std.specs.Prelude.{ℕ, ◌+◌, ◌≡◌, List, cond, eqb, Result, Ok, Err}
 use Rattle.bytes_be.specs.Part.{part_at}
 use Rattle.control.specs.declared.MessageType.{MessageType}
 use Rattle.control.specs.declared.MessageType.TheVariants.{Open, Ready, Noop, Data, Close}
 use Rattle.control.specs.Frame.{ack_request}
 use Rattle.open.specs.Offer.{offer_of}
-use Rattle.open.specs.declared.Open.{Open as OpenFrame}
-use Rattle.open.specs.declared.Open.TheVariants.{Heard, Refused}
 use Rattle.open.specs.Open.{open_of}
 use Rattle.message.specs.declared.Message.{Message}
 use Rattle.message.specs.declared.Reading.{Reading}
 use Rattle.message.specs.declared.Reading.TheVariants.{Read, Refused as Reading-as-Refused}
 use Rattle.message.specs.Reading.{body_place, reading_of}
 use Rattle.endpoint.specs.declared.Endpoint.{Endpoint}
+use Rattle.open.specs.declared.Opening.{Opening}
+use Rattle.open.specs.declared.Refusal.{Refusal}
 use Rattle.receiving.specs.Hearing.{confirms}
 use Rattle.sending.specs.Calls.{Call, OPEN, READY, DATA, NOOP, CLOSE, written}
 use Rattle.sending.specs.Sending.{send_of}
@@ -24,9 +24,9 @@ pub data CallRead : Type 0 where
   TheCall : Call → CallRead
 
 -- an OPEN asks for the pipe name and the format that stand in its frame
-abbrev pub open_read : List ℕ → OpenFrame → CallRead
-open_read s (Heard opening) = TheCall (OPEN (offer_of (part_at s opening.name) (part_at s opening.format)))
-open_read s (Refused refusal) = NoCall
+abbrev pub open_read : List ℕ → Result Opening Refusal → CallRead
+open_read s (Ok opening) = TheCall (OPEN (offer_of (part_at s opening.name) (part_at s opening.format)))
+open_read s (Err refusal) = NoCall
 
 -- by the type of the message; whether it asks stands in its flags
 abbrev pub call_of : MessageType → List ℕ → Message → CallRead

@@ -1,4 +1,5 @@
 -- What a frame holds, from any of its fields on; its parts lie in the bytes. Assumes nothing.
+use Rattle.std.specs.Prelude.{Ok, Err}
 use Prim.Native.Nat.{ℕ, zero, suc, ◌+◌, ◌-◌, ◌≤◌, ◌<◌}
 use mathlib.Core.Path.{◌≡◌, refl, sym, ◌∙◌}
 use mathlib.Core.List.{List, []}
@@ -8,9 +9,7 @@ use lib.Dec.{ltb, eqb}
 use native.Mathlib.Omega.{arith}
 use Rattle.bytes_be.specs.declared.Place.{Place}
 use Rattle.wire.specs.declared.Field.{Field}
-use Rattle.wire.specs.declared.Reading.{Reading}
-use Rattle.wire.specs.declared.Reading.TheVariants.{Read, Refused}
-use Rattle.wire.specs.Fields.{field_at, and_behind, fields_within, fields_of}
+use Rattle.wire.specs.Fields.{Reading, field_at, and_behind, fields_within, fields_of}
 use Rattle.wire.proofs.Readings.{Within, field_within, no_fields, first_field}
 use Rattle.params.specs.Message.{place_of}
 use Rattle.open.specs.declared.Parts.{Parts}
@@ -22,7 +21,7 @@ module _ (s : List ℕ) (to at : ℕ) (parts whole : Parts) (known : whole ≡ k
   unfolding kept
   kept_done h = sym (known ∙ rw (no_fields s at to h))
 
-  pub kept_on : at < to → (r : Reading) → r ≡ field_at s at to → (field : Field) → r ≡ Read field → whole ≡ kept (fields_of s field.next to) (keep parts field)
+  pub kept_on : at < to → (r : Reading) → r ≡ field_at s at to → (field : Field) → r ≡ Ok field → whole ≡ kept (fields_of s field.next to) (keep parts field)
   unfolding kept
   kept_on more r is field read = known ∙ rw (first_field s at to more r is field read)
 
@@ -53,8 +52,8 @@ module _ (s : List ℕ) (to : ℕ) where
       go : (t : Bool) (r : Reading) → field_at s at to ≡ r → ((next : ℕ) (parts : Parts) → Placed s parts → Placed s (kept (fields_within left s to next) parts))
           → Placed s (kept (cond t (and_behind (fields_within left s to) r) []) parts)
       go false r e behind = h
-      go true (Refused why) e behind = h
-      go true (Read field) e behind =
+      go true (Err why) e behind = h
+      go true (Ok field) e behind =
           let w = field_within s at to field e in
           behind field.next (keep parts field) (record {
             name = place_if_lies 1 at field parts.name w h.name;

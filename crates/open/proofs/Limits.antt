@@ -1,4 +1,5 @@
 -- The limit that is heard with an OPEN is in the limits. Assumes nothing.
+use Rattle.std.specs.Prelude.{Ok, Err}
 use Prim.Native.Nat.{◌+◌, ℕ}
 use mathlib.Core.List.{List}
 use mathlib.Core.Bool.{Bool, ◌&&◌, ◌||◌, not}
@@ -6,8 +7,6 @@ use lib.Dec.{eqb, leb, ltb}
 use borrow.Author.Tests.{eqb-true, not-false}
 use Rattle.bytes_be.specs.Part.{part_at, same}
 use Rattle.bytes_be.proofs.Tests.{last_false}
-use Rattle.params.specs.declared.Check.{Check}
-use Rattle.params.specs.declared.Check.TheVariants.{Good, Refused as Check-as-Refused}
 use Rattle.terms.specs.Announced.{announced_number}
 use Rattle.terms.proofs.Limits.{Bounded, Limited, limit_bounded}
 use Rattle.open.specs.declared.Opening.{Opening}
@@ -15,6 +14,7 @@ use Rattle.open.specs.declared.Refusal.TheVariants.{OutOfRange, UnknownSocket, O
 use Rattle.open.specs.Frame.{frame_check, parts_of}
 use Rattle.open.specs.Offer.{Offer}
 use Rattle.open.specs.Open.{opening_of, if_good, readable, out_of_range, in_range, known_socket, offered_socket, offered_pipe, offered_format, ◌then◌, open_of, offered, heard_by}
+use Rattle.params.specs.Message.{Check}
 use Rattle.open.proofs.Stages.{OfOpening, stage_holds, then_holds}
 
 -- the opening that a readable frame says, and one that is heard
@@ -29,8 +29,8 @@ unfolding readable opening_of
 readable_bounded s from to = go (frame_check s from to)
   where
     go : (check : Check) → OfOpening SaidBounded (if_good check (opening_of s (parts_of s from to)))
-    go Good = limit_bounded s (parts_of s from to).parameters.at ((parts_of s from to).parameters.at + (parts_of s from to).parameters.length)
-    go (Check-as-Refused why) = tt
+    go (Ok passed) = limit_bounded s (parts_of s from to).parameters.at ((parts_of s from to).parameters.at + (parts_of s from to).parameters.length)
+    go (Err why) = tt
 
 range_bounded : (opening : Opening) → SaidBounded opening → OfOpening HeardBounded (in_range opening)
 unfolding in_range out_of_range

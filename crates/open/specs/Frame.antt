@@ -1,18 +1,14 @@
 -- "Fields: 1 data_pipe (string), 2 pipe_socket (uint32), 3 data_format (string), 4 parameters (Struct). Each at most once, with its own
 -- wire type. Fields 5 and up are skipped for wire types 0, 1, 2, 5." Behind tag and payload the tests at a field run: an oversized socket,
 -- wire type, repetition, UTF-8; only then inside.
-use Rattle.std.specs.Prelude.{ℕ, List, [], ◌∷◌, Bool, true, false, cond, not, ◌&&◌, ◌||◌, ltb, eqb}
+use Rattle.std.specs.Prelude.{ℕ, List, [], ◌∷◌, Bool, true, false, cond, not, ◌&&◌, ◌||◌, ltb, eqb, Ok, Err}
 use Rattle.bytes_be.specs.Part.{between}
 use Rattle.bytes_be.specs.declared.Place.{Place}
 use Rattle.utf8.specs.Text.{well_formed}
 use Rattle.wire.specs.declared.Kind.TheVariants.{BadVarint, WireType, Repeated, BadText}
 use Rattle.wire.specs.declared.Field.{Field}
-use Rattle.wire.specs.declared.Reading.{Reading}
-use Rattle.wire.specs.declared.Reading.TheVariants.{Read, Refused}
-use Rattle.wire.specs.Fields.{fields_of}
-use Rattle.params.specs.declared.Check.{Check}
-use Rattle.params.specs.declared.Check.TheVariants.{Good}
-use Rattle.params.specs.Message.{refuse_if, and_then, walk, place_of, nowhere}
+use Rattle.wire.specs.Fields.{Reading, fields_of}
+use Rattle.params.specs.Message.{Check, good, refuse_if, and_then, walk, place_of, nowhere}
 use Rattle.params.specs.Rules.{struct_check}
 use Rattle.open.specs.declared.Parts.{Parts}
 
@@ -55,12 +51,12 @@ frame_rule s parts field =
     (refuse_if (not (frame_wire field.number field.wire)) WireType field.tag
     (refuse_if (is_there parts field.number) Repeated field.tag
     (refuse_if (not (frame_text s field.number field.at field.next)) BadText field.tag
-    Good)))
+    good)))
 
 -- "4 parameters (Struct)"
 unfoldable pub frame_field : List ℕ → Parts → Field → Check
 frame_field s parts field =
-    and_then (frame_rule s parts field) (cond (eqb field.number 4) (struct_check s field.at field.next) Good)
+    and_then (frame_rule s parts field) (cond (eqb field.number 4) (struct_check s field.at field.next) good)
 
 -- the parts before the first field: "an absent one as the empty place at 0", and an absent socket says 0
 abbrev pub nothing : Parts
@@ -87,12 +83,12 @@ keep parts field =
 -- the parts after the last field
 unfoldable pub kept : List Reading → Parts → Parts
 kept [] parts = parts
-kept (Refused why ∷ rest) parts = parts
-kept (Read field ∷ rest) parts = kept rest (keep parts field)
+kept (Err why ∷ rest) parts = parts
+kept (Ok field ∷ rest) parts = kept rest (keep parts field)
 
 -- nothing that a frame lacks makes it unreadable
 abbrev pub frame_done : Parts → Check
-frame_done parts = Good
+frame_done parts = good
 
 -- the frame from `from` to `to`: whether it is readable, and its parts
 unfoldable pub frame_check : List ℕ → ℕ → ℕ → Check

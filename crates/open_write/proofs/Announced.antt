@@ -1,4 +1,5 @@
 -- The limit parameter that was written is a readable Struct, and announces the limit, wherever it stands. Assumes nothing.
+use Rattle.std.specs.Prelude.{Ok}
 use Prim.Native.Nat.{ℕ, ◌+◌, ◌-◌, ◌≤◌, ◌<◌, ◌^◌}
 use mathlib.Core.Path.{◌≡◌, refl, sym, ap, ◌∙◌}
 use mathlib.Core.List.{List, [], ◌∷◌, ◌++◌, append_assoc}
@@ -10,9 +11,7 @@ use Rattle.bytes_be.proofs.Parts.{part_there, drop_past}
 use Rattle.bytes_be.proofs.Sameness.{equal_same}
 use Rattle.utf8.specs.Text.{table, due_behind, rest as Text·rest, well_formed}
 use Rattle.wire.specs.declared.Field.{Field}
-use Rattle.wire.specs.declared.Reading.{Reading}
-use Rattle.wire.specs.declared.Reading.TheVariants.{Read}
-use Rattle.wire.specs.Fields.{field_at, fields_of}
+use Rattle.wire.specs.Fields.{Reading, field_at, fields_of}
 use Rattle.wire.specs.Written.{tag_of, eight_field, bytes_field}
 use Rattle.wire.proofs.Readings.{no_fields}
 use Rattle.wire.proofs.Shortest.{varint_at_most}
@@ -21,8 +20,7 @@ use Rattle.wire.proofs.Written.{bytes_field_at, eight_field_at, length_bytes_fie
 use Rattle.double.specs.Double.{bytes_of}
 use Rattle.double.proofs.Order.{length_bytes_of}
 use Rattle.double.proofs.Limits.{limit_back}
-use Rattle.params.specs.declared.Check.TheVariants.{Good}
-use Rattle.params.specs.Message.{walk, first_of, place_in}
+use Rattle.params.specs.Message.{good, walk, first_of, place_in}
 use Rattle.params.specs.Keys.{key_of, value_place, find_in}
 use Rattle.params.specs.Rules.{value_wire, value_text, value_allowed, value_rule, value_field, value_check, bytes_rule, key_rule, seen_of, entry_field, entry_done, entry_check, item_field, items_check, struct_check}
 use Rattle.terms.specs.declared.Announced.TheVariants.{Limit}
@@ -87,27 +85,27 @@ module _ (limit : ℕ) (s : List ℕ) (from : ℕ) (rest : List ℕ) (stands : d
   value_inside = rw entry_ends there
 
   -- the fields of each of the three messages
-  struct_fields : fields_of s from entry_field_at.next ≡ Read entry_field_at ∷ []
-  struct_fields = the_entry.first ∙ ap (λ (l : List Reading). Read entry_field_at ∷ l) (no_fields s entry_field_at.next entry_field_at.next (omega arith))
+  struct_fields : fields_of s from entry_field_at.next ≡ Ok entry_field_at ∷ []
+  struct_fields = the_entry.first ∙ ap (λ (l : List Reading). Ok entry_field_at ∷ l) (no_fields s entry_field_at.next entry_field_at.next (omega arith))
 
-  entry_fields : fields_of s entry_field_at.at entry_field_at.next ≡ Read key_field_at ∷ Read value_field_at ∷ []
+  entry_fields : fields_of s entry_field_at.at entry_field_at.next ≡ Ok key_field_at ∷ Ok value_field_at ∷ []
   entry_fields =
       the_key.first
-      ∙ ap (λ (l : List Reading). Read key_field_at ∷ l)
-      (the_value.first ∙ ap (λ (l : List Reading). Read value_field_at ∷ l) (no_fields s value_field_at.next entry_field_at.next (omega (arith, entry_ends))))
+      ∙ ap (λ (l : List Reading). Ok key_field_at ∷ l)
+      (the_value.first ∙ ap (λ (l : List Reading). Ok value_field_at ∷ l) (no_fields s value_field_at.next entry_field_at.next (omega (arith, entry_ends))))
 
-  value_fields : fields_of s value_field_at.at value_field_at.next ≡ Read number_field_at ∷ []
+  value_fields : fields_of s value_field_at.at value_field_at.next ≡ Ok number_field_at ∷ []
   value_fields =
       eight_first s value_field_at.at value_field_at.next value_inside 2 (bytes_of limit) rest (omega arith, omega arith) (length_bytes_of limit) the_value.payload (omega (arith, the_value.ends))
-      ∙ ap (λ (l : List Reading). Read number_field_at ∷ l) (no_fields s number_field_at.next value_field_at.next (omega (arith, the_value.ends)))
+      ∙ ap (λ (l : List Reading). Ok number_field_at ∷ l) (no_fields s number_field_at.next value_field_at.next (omega (arith, the_value.ends)))
 
   -- it is readable
-  pub limit_readable : struct_check s from (from + length (limit_struct limit)) ≡ Good
+  pub limit_readable : struct_check s from (from + length (limit_struct limit)) ≡ good
   unfolding struct_check items_check item_field bytes_rule entry_check entry_field seen_of entry_done value_check value_field value_rule value_wire value_text value_allowed key_rule walk find_in first_of
   limit_readable = simp (struct_fields, entry_fields, value_fields, no_fields s from from (omega arith), the_key.whole, key_text)
 
   -- the number that stands in it
-  number_read : field_at s value_field_at.at value_field_at.next ≡ Read number_field_at
+  number_read : field_at s value_field_at.at value_field_at.next ≡ Ok number_field_at
   number_read = (begins s value_field_at.next value_field_at.at number_field_at [] value_fields).read
 
   number_there : part s number_field_at.at 8 ≡ bytes_of limit

@@ -1,5 +1,6 @@
 -- Reading undoes writing: of a frame that was written, wherever it stands, the same socket, name, format and limit are heard. Assumes
 -- nothing.
+use Rattle.std.specs.Prelude.{Result, Ok}
 use Prim.Native.Nat.{ℕ, ◌+◌, ◌-◌, ◌≤◌}
 use mathlib.Core.Path.{◌≡◌, refl, sym, ap, ◌∙◌}
 use mathlib.Core.List.{List, [], ◌∷◌, ◌++◌, append_assoc}
@@ -14,15 +15,12 @@ use Rattle.bytes_be.proofs.Tests.{both_true}
 use Rattle.bytes_be.proofs.Parts.{drop_past, part_put}
 use Rattle.utf8.specs.Text.{well_formed}
 use Rattle.wire.specs.declared.Field.{Field}
-use Rattle.wire.specs.declared.Reading.{Reading}
-use Rattle.wire.specs.declared.Reading.TheVariants.{Read}
-use Rattle.wire.specs.Fields.{fields_of}
+use Rattle.wire.specs.Fields.{Reading, fields_of}
 use Rattle.wire.specs.Written.{bytes_field}
 use Rattle.wire.proofs.Readings.{no_fields}
 use Rattle.wire.proofs.Written.{bytes_field_at, varint_field_at, varint_first, bytes_stand, length_bytes_field}
 use Rattle.double.specs.Limit.{least_limit, most_limit}
-use Rattle.params.specs.declared.Check.TheVariants.{Good}
-use Rattle.params.specs.Message.{walk, first_of, place_of, nowhere}
+use Rattle.params.specs.Message.{good, walk, first_of, place_of, nowhere}
 use Rattle.params.specs.Keys.{find_in}
 use Rattle.params.specs.Rules.{struct_check}
 use Rattle.terms.specs.Announced.{limit_in, announced_number, announced_limit}
@@ -30,8 +28,7 @@ use Rattle.open.specs.declared.Parts.{Parts}
 use Rattle.open.specs.Frame.{frame_wire, oversized, is_there, frame_text, frame_rule, frame_field, place_if, socket_if, keep, kept, frame_done, frame_check, parts_of}
 use Rattle.open.specs.declared.Opening.{Opening}
 use Rattle.open.specs.declared.Refusal.TheVariants.{OtherPipe}
-use Rattle.open.specs.declared.Open.{Open}
-use Rattle.open.specs.declared.Open.TheVariants.{Heard}
+use Rattle.open.specs.declared.Refusal.{Refusal}
 use Rattle.open.specs.Offer.{Offer, offer_of}
 use Rattle.open.specs.Open.{opening_of, readable, refused_if, out_of_range, in_range, known_socket, offered_socket, offered_pipe, offered_format, ◌then◌, open_of, offered, heard_by}
 use Rattle.open_write.specs.Frame.{good_name, good_format, is_good, socket_of, name_field, socket_field, format_field, limit_struct, parameters_field, frame_for, written}
@@ -51,7 +48,7 @@ module _ (s : List ℕ) (to : ℕ) (there : to ≤ length s) (limit : ℕ) (low 
   record ParametersBack (at : ℕ) (name socket format : Place) (number : ℕ) : Type 0 where
     place : Place
     bytes : part_at s place ≡ cond (eqb limit most_limit) [] (limit_struct limit)
-    good : walk (frame_field s) keep frame_done (fields_of s at to) (holding name socket format nowhere number) ≡ Good
+    good : walk (frame_field s) keep frame_done (fields_of s at to) (holding name socket format nowhere number) ≡ good
     held : kept (fields_of s at to) (holding name socket format nowhere number) ≡ holding name socket format place number
     fine : announced_number (limit_in s place.at (place.at + place.length)) ≡ 0
     said : announced_limit (limit_in s place.at (place.at + place.length)) ≡ limit
@@ -70,11 +67,11 @@ module _ (s : List ℕ) (to : ℕ) (there : to ≤ length s) (limit : ℕ) (low 
   some_parameters at rest other stands ends name socket format number =
       let field : Field = bytes_field_at at 4 (limit_struct limit) in
       let found = bytes_stand s at to there 4 (limit_struct limit) rest (omega arith, omega arith) (omega (arith, length_struct limit)) stands (omega arith) in
-      let only : fields_of s at to ≡ Read field ∷ [] = found.first ∙ ap (λ (l : List Reading). Read field ∷ l) (no_fields s field.next to (omega arith)) in
+      let only : fields_of s at to ≡ Ok field ∷ [] = found.first ∙ ap (λ (l : List Reading). Ok field ∷ l) (no_fields s field.next to (omega arith)) in
       let inside = found.ends in
       let room : field.at + length (limit_struct limit) ≤ length s = omega arith in
       let long : field.next - field.at ≡ length (limit_struct limit) = omega arith in
-      let readable : struct_check s field.at field.next ≡ Good = rw inside at (limit_readable limit s field.at rest found.payload room) in
+      let readable : struct_check s field.at field.next ≡ good = rw inside at (limit_readable limit s field.at rest found.payload room) in
       let announced = limit_announced limit s field.at rest found.payload room low high in
       record { place = place_of field; bytes = simp (ne_eqb limit 50000000 other) found.whole; good = simp (only, readable); held = simp only; fine = simp (long, announced); said = simp (long, announced) }
 
@@ -96,7 +93,7 @@ module _ (s : List ℕ) (to : ℕ) (there : to ≤ length s) (limit : ℕ) (low 
     bytes : part_at s place ≡ format
     parameters : Place
     held_bytes : part_at s parameters ≡ cond (eqb limit most_limit) [] (limit_struct limit)
-    good : walk (frame_field s) keep frame_done (fields_of s at to) (holding name socket nowhere nowhere number) ≡ Good
+    good : walk (frame_field s) keep frame_done (fields_of s at to) (holding name socket nowhere nowhere number) ≡ good
     held : kept (fields_of s at to) (holding name socket nowhere nowhere number) ≡ holding name socket place parameters number
     fine : announced_number (limit_in s parameters.at (parameters.at + parameters.length)) ≡ 0
     said : announced_limit (limit_in s parameters.at (parameters.at + parameters.length)) ≡ limit
@@ -157,7 +154,7 @@ module _ (s : List ℕ) (to : ℕ) (there : to ≤ length s) (limit : ℕ) (low 
     bytes : part_at s place ≡ name
     socket : Place
     behind : FormatBack format (from + length (name_field name) + length (socket_field flow)) place socket (socket_of flow)
-    good : frame_check s from to ≡ Good
+    good : frame_check s from to ≡ good
     held : parts_of s from to ≡ holding place socket behind.place behind.parameters (socket_of flow)
 
   frame_back : (flow : ℕ) (name format : List ℕ) (from : ℕ) (rest : List ℕ) → length name ≤ 255 → well_formed name ≡ true
@@ -227,7 +224,7 @@ module _ (flow : ℕ) (name format : List ℕ) (limit : ℕ) (good : is_good (of
       }
 
   -- 18, 19 and 20 do not refuse it
-  opened : open_of s from to ≡ Heard opening
+  opened : open_of s from to ≡ Ok opening
   unfolding open_of readable in_range out_of_range known_socket opening_of
   opened =
       let named = name_says name both_good.0 in
@@ -247,7 +244,7 @@ module _ (flow : ℕ) (name format : List ℕ) (limit : ℕ) (good : is_good (of
       )
 
   -- the second of two stages looks at this opening and at no other
-  second_of : (t : Bool) (one other : Opening → Open) → one opening ≡ other opening → (refused_if t OtherPipe opening then one) ≡ (refused_if t OtherPipe opening then other)
+  second_of : (t : Bool) (one other : Opening → Result Opening Refusal) → one opening ≡ other opening → (refused_if t OtherPipe opening then one) ≡ (refused_if t OtherPipe opening then other)
   second_of true one other e = refl
   second_of false one other e = e
 

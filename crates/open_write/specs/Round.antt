@@ -1,12 +1,11 @@
 -- An OPEN frame that was written is read as it was given: what a server of any flow and offer hears of it.
-use Rattle.std.specs.Prelude.{ℕ, ◌+◌, ◌≡◌, List, [], Bool, true, cond, not, ◌&&◌, ◌||◌, length, eqb}
+use Rattle.std.specs.Prelude.{ℕ, ◌+◌, ◌≡◌, List, [], Bool, true, cond, not, ◌&&◌, ◌||◌, length, eqb, Result, Ok}
 use Rattle.bytes_be.specs.Part.{holds, part, part_at, same}
 use Rattle.double.specs.Limit.{most_limit, in_limits}
 use Rattle.terms.specs.Announced.{announced_limit}
 use Rattle.open.specs.declared.Opening.{Opening}
 use Rattle.open.specs.declared.Refusal.TheVariants.{OtherPipe, OtherFormat}
-use Rattle.open.specs.declared.Open.{Open}
-use Rattle.open.specs.declared.Open.TheVariants.{Heard}
+use Rattle.open.specs.declared.Refusal.{Refusal}
 use Rattle.open.specs.Offer.{Offer}
 use Rattle.open.specs.Open.{refused_if, offered_socket, ◌then◌, open_of, heard_by}
 use Rattle.open_write.specs.Frame.{is_good, socket_of, limit_struct, frame_for, written}
@@ -20,7 +19,7 @@ abbrev pub same_format : Offer → Offer → Bool
 same_format asked offer = eqb (length asked.format) 0 || same asked.format offer.format
 
 -- refused only where name, socket or format is not the offered one
-unfoldable pub answer_to : ℕ → Offer → Opening → ℕ → Offer → Open
+unfoldable pub answer_to : ℕ → Offer → Opening → ℕ → Offer → Result Opening Refusal
 answer_to flow asked opening serverFlow offer =
     refused_if (not (same asked.name offer.name) || not (eqb (socket_of flow) (offered_socket serverFlow))) OtherPipe opening
     then refused_if (not (eqb (length asked.format) 0) && not (same asked.format offer.format)) OtherFormat
@@ -29,7 +28,7 @@ answer_to flow asked opening serverFlow offer =
 pub record ReadBack (flow : ℕ) (asked : Offer) (limit : ℕ) (s : List ℕ) (from to : ℕ) : Type 0 where
   pub opening : Opening
   -- 18, 19 and 20 do not refuse it
-  pub opened : open_of s from to ≡ Heard opening
+  pub opened : open_of s from to ≡ Ok opening
   pub socket : opening.socket ≡ socket_of flow
   pub named : part_at s opening.name ≡ asked.name
   pub formatted : part_at s opening.format ≡ asked.format

@@ -1,4 +1,5 @@
 -- A Value that is readable where it stands is readable as a part of its own, in which no fewer levels may nest. Assumes nothing.
+use Rattle.std.specs.Prelude.{Option, None, Ok, Err}
 use Prim.Native.Nat.{ℕ, zero, suc, ◌+◌, ◌-◌, ◌≤◌}
 use mathlib.Core.Path.{◌≡◌, refl, sym, ap, ◌∙◌, subst}
 use mathlib.Core.List.{List, [], map}
@@ -16,25 +17,20 @@ use Rattle.wire.specs.declared.Kind.{Kind}
 use Rattle.wire.specs.declared.Kind.TheVariants.{WireType, Repeated, BadText, Other}
 use Rattle.wire.specs.declared.Fault.{Fault}
 use Rattle.wire.specs.declared.Field.{Field}
-use Rattle.wire.specs.declared.Reading.{Reading}
-use Rattle.wire.specs.declared.Reading.TheVariants.{Read, Refused as Reading-as-Refused}
-use Rattle.wire.specs.Fields.{field_at, and_behind, fields_within, fields_of}
+use Rattle.wire.specs.Fields.{Reading, field_at, and_behind, fields_within, fields_of}
 use Rattle.wire.proofs.Readings.{Within, field_within}
 use Rattle.wire.proofs.Moved.{field_by, reading_by, fields_by}
-use Rattle.params.specs.declared.Check.{Check}
-use Rattle.params.specs.declared.Check.TheVariants.{Good, Refused}
-use Rattle.params.specs.declared.Found.{Found}
-use Rattle.params.specs.declared.Found.TheVariants.{Nothing}
-use Rattle.params.specs.Message.{refuse_if, and_then, walk, first_of, has_number, place_of, nowhere, place_in}
+use Rattle.params.specs.Message.{Check, good, refuse_if, and_then, walk, first_of, has_number, place_of, nowhere, place_in}
 use Rattle.params.specs.Keys.{key_of, has_key, value_found, find_in, is_found}
-use Rattle.params.specs.Rules.{value_wire, value_text, value_allowed, value_rule, value_field, value_move, value_done, value_check, bytes_rule, key_rule, Seen, seen_of, entry_field, entry_move, entry_done, entry_check, item_field, item_judge, item_move, item_done, items_check, inside}
+use Rattle.params.specs.declared.Seen.{Seen}
+use Rattle.params.specs.Rules.{value_wire, value_text, value_allowed, value_rule, value_field, value_move, value_done, value_check, bytes_rule, key_rule, seen_of, entry_field, entry_move, entry_done, entry_check, item_field, item_judge, item_move, item_done, items_check, inside}
 
 -- ---- one check that is good whenever another is
 
 abbrev Implies : Check → Check → Type 0
-Implies one other = one ≡ Good → other ≡ Good
+Implies one other = one ≡ good → other ≡ good
 
-pub refused_not_good : {A : Type 0} {why : Fault} → Refused why ≡ Good → A
+pub refused_not_good : {A : Type 0} {why : Fault} → Err why ≡ good → A
 refused_not_good e = clash cc
 
 refuse_implies : (t : Bool) {t' : Bool} (kind : Kind) (at at' : ℕ) {one other : Check} → t ≡ t' → Implies one other
@@ -46,21 +42,21 @@ refuse_implies t {t'} kind at at' {one} {other} e f = go t t' e
     go false true e = clash cc
     go false false e = f
 
-good_implies : Implies Good Good
+good_implies : Implies good good
 good_implies e = e
 
 then_implies : (one one' behind behind' : Check) → Implies one one' → Implies behind behind' → Implies (and_then one behind) (and_then one' behind')
-then_implies (Refused why) one' behind behind' f g h = refused_not_good h
-then_implies Good one' behind behind' f g h = rw (f refl) (g h)
+then_implies (Err why) one' behind behind' f g h = refused_not_good h
+then_implies (Ok passed) one' behind behind' f g h = rw (f refl) (g h)
 
 choice_implies : (t : Bool) {x y x' y' : Check} → Implies x x' → Implies y y' → Implies (cond t x y) (cond t x' y')
 choice_implies true f g = f
 choice_implies false f g = g
 
 -- what a good check says of its parts
-pub then_good : (one behind : Check) → and_then one behind ≡ Good → (one ≡ Good) × (behind ≡ Good)
-then_good Good behind e = (refl, e)
-then_good (Refused why) behind e = refused_not_good e
+pub then_good : (one behind : Check) → and_then one behind ≡ good → (one ≡ good) × (behind ≡ good)
+then_good (Ok passed) behind e = (refl, e)
+then_good (Err why) behind e = refused_not_good e
 
 -- ---- the fields of a part, and the same fields where it stands
 
@@ -80,8 +76,8 @@ module _ (s : List ℕ) (n size : ℕ) (there : n + size ≤ length s) where
             → ((next : ℕ) (seen : Seen) → Implies (walk judge move done (map (reading_by n) (fields_within left (part s n size) to next)) seen) (walk judge' move done' (fields_within left (part s n size) to next) seen))
             → Implies (walk judge move done (map (reading_by n) (cond t (and_behind (fields_within left (part s n size) to) r) [])) seen) (walk judge' move done' (cond t (and_behind (fields_within left (part s n size) to) r) []) seen)
         go false r e behind = ends seen
-        go true (Reading-as-Refused why) e behind = λ h. refused_not_good h
-        go true (Read field) e behind =
+        go true (Err why) e behind = λ h. refused_not_good h
+        go true (Ok field) e behind =
             then_implies (judge seen (field_by n field)) (judge' seen field) _ _
             (judges at field (field_within (part s n size) at to field e) seen)
             (rw (moves field seen) (behind field.next (move seen field)))
@@ -111,8 +107,8 @@ module _ (s : List ℕ) (n size : ℕ) (there : n + size ≤ length s) where
             → ((next : ℕ) → R (first_of test answer none (map (reading_by n) (fields_within left (part s n size) to next))) (first_of test' answer' none' (fields_within left (part s n size) to next)))
             → R (first_of test answer none (map (reading_by n) (cond t (and_behind (fields_within left (part s n size) to) r) []))) (first_of test' answer' none' (cond t (and_behind (fields_within left (part s n size) to) r) []))
         go false r e behind = neither
-        go true (Reading-as-Refused why) e behind = neither
-        go true (Read field) e behind =
+        go true (Err why) e behind = neither
+        go true (Ok field) e behind =
             let w = field_within (part s n size) at to field e in
             pick (test (field_by n field)) (test' field) (tests at field w) (answers at field w) (behind field.next)
 
@@ -139,7 +135,7 @@ module _ (s : List ℕ) (n size : ℕ) (there : n + size ≤ length s) where
   found_by : (from to : ℕ) (key : List ℕ) → to ≤ size → is_found (find_in s (n + from) (n + to) key) ≡ is_found (find_in (part s n size) from to key)
   unfolding find_in
   found_by from to key room =
-      search_related (λ (there here : Found). is_found there ≡ is_found here) (has_key s key) (has_key (part s n size) key) (value_found s) (value_found (part s n size)) Nothing Nothing to room
+      search_related (λ (there here : Option Place). is_found there ≡ is_found here) (has_key s key) (has_key (part s n size) key) (value_found s) (value_found (part s n size)) None None to room
       (λ at field w. let i = w.inside in ap (λ (l : List ℕ). same l key) (key_by field.at field.next (omega arith)))
       (λ at field w. refl)
       refl
@@ -231,8 +227,8 @@ module _ (s : List ℕ) (n size : ℕ) (there : n + size ≤ length s) where
   inside_implies (suc levels) (suc levels') h field a l =
       items_implies (inside levels s) (inside levels' (part s n size)) (inside_implies levels levels' (omega arith)) (eqb field.number 6) field.at field.next l
 
-  pub alone_implies : (levels levels' : ℕ) → levels ≤ levels' → value_check (inside levels s) s n (n + size) ≡ Good
-      → value_check (inside levels' (part s n size)) (part s n size) 0 (length (part s n size)) ≡ Good
+  pub alone_implies : (levels levels' : ℕ) → levels ≤ levels' → value_check (inside levels s) s n (n + size) ≡ good
+      → value_check (inside levels' (part s n size)) (part s n size) 0 (length (part s n size)) ≡ good
   alone_implies levels levels' h e =
       rw (length_part s n size there)
       (value_implies (inside levels s) (inside levels' (part s n size)) (inside_implies levels levels' h) 0 size (omega arith) (rw add-zero e))

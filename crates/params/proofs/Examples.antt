@@ -9,9 +9,7 @@ use Rattle.utf8.specs.Text.{table, due_behind, rest, well_formed}
 use Rattle.wire.specs.declared.Kind.TheVariants.{Repeated, Other, TooDeep}
 use Rattle.wire.specs.Varint.{said_at, varint_at}
 use Rattle.wire.specs.Fields.{payload_at, field_at, fields_within, fields_of}
-use Rattle.params.specs.declared.Check.{Check}
-use Rattle.params.specs.declared.Check.TheVariants.{Good}
-use Rattle.params.specs.Message.{fault, walk, first_of, place_in}
+use Rattle.params.specs.Message.{Check, good, fault, walk, first_of, place_in}
 use Rattle.params.specs.Keys.{key_of, value_place, find_in}
 use Rattle.params.specs.Rules.{value_wire, value_text, value_allowed, value_rule, value_field, value_check, bytes_rule, key_rule, seen_of, entry_field, entry_done, entry_check, item_field, items_check, inside, struct_check}
 
@@ -45,8 +43,8 @@ abbrev repeated : List ℕ
 repeated = entry (ascii "a") (0x08 ∷ 0 ∷ []) ++ bytes 0x0A (bytes 0x12 (0x08 ∷ 0 ∷ []) ++ bytes 0x0A (ascii "a"))
 
 pub examples :
-    (checked kinds ≡ Good)
-    × (checked (nesting 7) ≡ Good)
+    (checked kinds ≡ good)
+    × (checked (nesting 7) ≡ good)
     × (checked (nesting 8) ≡ fault TooDeep 70)
     × (checked repeated ≡ fault Repeated 15)
     × (checked (entry (ascii "a") (0x20 ∷ 2 ∷ [])) ≡ fault Other 7)

@@ -1,4 +1,5 @@
 -- A search for the first field of a kind, from any field on; what is found lies in the bytes. Assumes nothing.
+use Rattle.std.specs.Prelude.{Option, Some, None, Ok, Err}
 use Prim.Native.Nat.{ℕ, zero, suc, ◌+◌, ◌-◌, ◌≤◌, ◌<◌}
 use mathlib.Core.Path.{◌≡◌, refl, sym, ◌∙◌, subst}
 use mathlib.Core.List.{List, []}
@@ -7,14 +8,9 @@ use lib.ListN.{length}
 use lib.Dec.{ltb}
 use native.Mathlib.Omega.{arith}
 use Rattle.bytes_be.specs.declared.Place.{Place}
-use Rattle.wire.specs.declared.Fault.{Fault}
 use Rattle.wire.specs.declared.Field.{Field}
-use Rattle.wire.specs.declared.Reading.{Reading}
-use Rattle.wire.specs.declared.Reading.TheVariants.{Read, Refused}
-use Rattle.wire.specs.Fields.{field_at, and_behind, fields_within, fields_of}
+use Rattle.wire.specs.Fields.{Reading, field_at, and_behind, fields_within, fields_of}
 use Rattle.wire.proofs.Readings.{Within, field_within, no_fields, first_field, first_fault}
-use Rattle.params.specs.declared.Found.{Found}
-use Rattle.params.specs.declared.Found.TheVariants.{At, Nothing}
 use Rattle.params.specs.Message.{first_of, has_number, place_of, nowhere, place_in}
 use Rattle.params.specs.Keys.{has_key, value_place, value_found, find_in}
 
@@ -26,11 +22,15 @@ module _ {A : Type 0} (test : Field → Bool) (answer : Field → A) (none : A) 
   search_done h = sym (known ∙ rw (no_fields s at to h))
 
   module _ (more : at < to) (r : Reading) (is : r ≡ field_at s at to) where
-    pub search_refused : (why : Fault) → r ≡ Refused why → none ≡ whole
+    pub search_refused : ((field : Field) → r ≡ Ok field → ⊥) → none ≡ whole
     unfolding first_of
-    search_refused why e = sym (known ∙ rw (first_fault s at to more r is why e))
+    search_refused unread = go r refl
+      where
+        go : (w : Reading) → r ≡ w → none ≡ whole
+        go (Ok field) e = absurd (unread field e)
+        go (Err why) e = sym (known ∙ rw (first_fault s at to more r is why e))
 
-    module _ (field : Field) (read : r ≡ Read field) where
+    module _ (field : Field) (read : r ≡ Ok field) where
       pub search_here : test field ≡ true → answer field ≡ whole
       unfolding first_of
       search_here e = sym (known ∙ rw (first_field s at to more r is field read, e))
@@ -56,8 +56,8 @@ module _ {A : Type 0} (P : A → Type 0) (test : Field → Bool) (answer : Field
       go : (t : Bool) (r : Reading) → field_at s at to ≡ r → ((next : ℕ) → P (first_of test answer none (fields_within left s to next)))
           → P (first_of test answer none (cond t (and_behind (fields_within left s to) r) []))
       go false r e behind = otherwise
-      go true (Refused why) e behind = otherwise
-      go true (Read field) e behind =
+      go true (Err why) e behind = otherwise
+      go true (Ok field) e behind =
           here field (each at field (field_within s at to field e)) (test field) (first_of test answer none (fields_within left s to field.next)) (behind field.next)
 
 abbrev Lies : List ℕ → Place → Type 0
@@ -75,12 +75,12 @@ place_lies number s from to =
 pub lies : (number : ℕ) (s : List ℕ) (from to : ℕ) (place : Place) → place ≡ place_in number (fields_of s from to) → place.at + place.length ≤ length s
 lies number s from to place e = subst (Lies s) (sym e) (place_lies number s from to)
 
-abbrev FoundLies : List ℕ → Found → Type 0
-FoundLies s (At place) = Lies s place
-FoundLies s Nothing = Unit {0}
+abbrev FoundLies : List ℕ → Option Place → Type 0
+FoundLies s (Some place) = Lies s place
+FoundLies s None = Unit {0}
 
-pub find_lies : (s : List ℕ) (from to : ℕ) (key : List ℕ) (place : Place) → find_in s from to key ≡ At place → place.at + place.length ≤ length s
+pub find_lies : (s : List ℕ) (from to : ℕ) (key : List ℕ) (place : Place) → find_in s from to key ≡ Some place → place.at + place.length ≤ length s
 unfolding fields_of find_in value_place
 find_lies s from to key place e =
     subst (FoundLies s) e
-    (search_gives (FoundLies s) (has_key s key) (value_found s) Nothing s to tt (λ at field w. place_lies 2 s field.at field.next) (to - from) from)
+    (search_gives (FoundLies s) (has_key s key) (value_found s) None s to tt (λ at field w. place_lies 2 s field.at field.next) (to - from) from)

@@ -1,4 +1,5 @@
 -- A message that is judged field by field, from any of its fields on. Assumes nothing.
+use Rattle.std.specs.Prelude.{Ok, Err}
 use Prim.Native.Nat.{ℕ, zero, suc, ◌-◌, ◌≤◌, ◌<◌}
 use mathlib.Core.Path.{◌≡◌, refl, sym, ◌∙◌}
 use mathlib.Core.List.{List}
@@ -7,13 +8,9 @@ use native.Mathlib.Numerals.{sub-one}
 use Rattle.wire.specs.declared.Kind.TheVariants.{TooDeep}
 use Rattle.wire.specs.declared.Fault.{Fault}
 use Rattle.wire.specs.declared.Field.{Field}
-use Rattle.wire.specs.declared.Reading.{Reading}
-use Rattle.wire.specs.declared.Reading.TheVariants.{Read, Refused as Reading-as-Refused}
-use Rattle.wire.specs.Fields.{field_at, fields_of}
+use Rattle.wire.specs.Fields.{Reading, field_at, fields_of}
 use Rattle.wire.proofs.Readings.{no_fields, first_field, first_fault}
-use Rattle.params.specs.declared.Check.{Check}
-use Rattle.params.specs.declared.Check.TheVariants.{Good, Refused}
-use Rattle.params.specs.Message.{fault, and_then, walk}
+use Rattle.params.specs.Message.{Check, good, fault, and_then, walk}
 use Rattle.params.specs.Rules.{items_check, inside}
 
 -- `whole` is what the message comes to, and is known to be what its fields from `at` on come to, after what was seen
@@ -24,24 +21,24 @@ module _ {Seen : Type 0} (judge : Seen → Field → Check) (move : Seen → Fie
   walk_done h = sym (known ∙ rw (no_fields s at to h))
 
   module _ (more : at < to) (r : Reading) (is : r ≡ field_at s at to) where
-    pub walk_refused : (why : Fault) → r ≡ Reading-as-Refused why → Refused why ≡ whole
+    pub walk_refused : (why : Fault) → r ≡ Err why → Err why ≡ whole
     unfolding walk
     walk_refused why e = sym (known ∙ rw (first_fault s at to more r is why e))
 
-    module _ (field : Field) (read : r ≡ Read field) (check : Check) (judged : check ≡ judge seen field) where
+    module _ (field : Field) (read : r ≡ Ok field) (check : Check) (judged : check ≡ judge seen field) where
       step : whole ≡ and_then (judge seen field) (walk judge move done (fields_of s field.next to) (move seen field))
       unfolding walk
       step = known ∙ rw (first_field s at to more r is field read)
 
-      pub walk_stopped : (why : Fault) → check ≡ Refused why → check ≡ whole
+      pub walk_stopped : (why : Fault) → check ≡ Err why → check ≡ whole
       walk_stopped why e =
-          let stops : judge seen field ≡ Refused why = sym judged ∙ e in
+          let stops : judge seen field ≡ Err why = sym judged ∙ e in
           e ∙ sym (step ∙ rw stops)
 
-      pub walk_on : check ≡ Good → whole ≡ walk judge move done (fields_of s field.next to) (move seen field)
+      pub walk_on : check ≡ good → whole ≡ walk judge move done (fields_of s field.next to) (move seen field)
       walk_on e =
-          let good : judge seen field ≡ Good = sym judged ∙ e in
-          step ∙ rw good
+          let passes : judge seen field ≡ good = sym judged ∙ e in
+          step ∙ rw passes
 
 -- ---- a level further in
 
@@ -58,12 +55,12 @@ inside_more (suc levels) s field n = rw sub-one
 -- ---- one check behind another
 
 module _ (r check behind : Check) (is : r ≡ check) where
-  pub stopped : (why : Fault) → r ≡ Refused why → r ≡ and_then check behind
+  pub stopped : (why : Fault) → r ≡ Err why → r ≡ and_then check behind
   stopped why e =
-      let stops : check ≡ Refused why = sym is ∙ e in
+      let stops : check ≡ Err why = sym is ∙ e in
       e ∙ sym (rw stops)
 
-  pub passed : r ≡ Good → {result : Check} → result ≡ behind → result ≡ and_then check behind
+  pub passed : r ≡ good → {result : Check} → result ≡ behind → result ≡ and_then check behind
   passed e h =
-      let good : check ≡ Good = sym is ∙ e in
-      rw good h
+      let passes : check ≡ good = sym is ∙ e in
+      rw passes h

@@ -6,9 +6,8 @@ use Rattle.utf8.specs.Text.{well_formed}
 use Rattle.wire.specs.declared.Kind.TheVariants.{WireType, Repeated, BadText, Other, TooDeep}
 use Rattle.wire.specs.declared.Field.{Field}
 use Rattle.wire.specs.Fields.{fields_of}
-use Rattle.params.specs.declared.Check.{Check}
-use Rattle.params.specs.declared.Check.TheVariants.{Good}
-use Rattle.params.specs.Message.{fault, refuse_if, lacking_of, and_then, walk}
+use Rattle.params.specs.declared.Seen.{Seen}
+use Rattle.params.specs.Message.{Check, good, fault, refuse_if, lacking_of, and_then, walk}
 use Rattle.params.specs.Keys.{find_in, is_found}
 
 -- ---- "A Value holds exactly one of 1 null (0), 2 number (8 bytes, little-endian double), 3 string, 4 bool (0 or 1), 5 Struct, 6 list"
@@ -43,11 +42,11 @@ value_rule s held field =
     (refuse_if (eqb held field.number) Repeated field.tag
     (refuse_if (not (value_text s field.number field.at field.next)) BadText field.tag
     (refuse_if (not (eqb held 0 && value_allowed field.number field.value)) Other field.tag
-    Good)))
+    good)))
 
 -- a field of a Value, where `inner` judges a Struct or a list, which counts a level
 unfoldable pub value_field : (Field → Check) → List ℕ → ℕ → Field → Check
-value_field inner s held field = and_then (value_rule s held field) (cond (ltb field.number 5) Good (inner field))
+value_field inner s held field = and_then (value_rule s held field) (cond (ltb field.number 5) good (inner field))
 
 abbrev pub value_move : ℕ → Field → ℕ
 value_move held field = field.number
@@ -67,20 +66,16 @@ bytes_rule most repeated field =
     refuse_if (leb field.number most && not (eqb field.wire 2)) WireType field.tag
     (refuse_if repeated Repeated field.tag
     (refuse_if (ltb most field.number) Other field.tag
-    Good))
+    good))
 
 -- "no key twice in one Struct", which begins at `from` and has the tag of the key's entry at `tag`; then "bad UTF-8 in any string"
 unfoldable pub key_rule : List ℕ → ℕ → ℕ → Field → Check
 key_rule s from tag field =
     refuse_if (is_found (find_in s from tag (between s field.at field.next))) Repeated field.tag
     (refuse_if (not (well_formed (between s field.at field.next))) BadText field.tag
-    Good)
+    good)
 
--- what an entry has had
-pub record Seen : Type 0 where
-  pub key : Bool
-  pub value : Bool
-
+-- whether an entry has had a field of this number
 unfoldable pub seen_of : Seen → ℕ → Bool
 seen_of seen number = cond (eqb number 1) seen.key (cond (eqb number 2) seen.value false)
 
@@ -121,7 +116,7 @@ abbrev pub item_move : Unit {0} → Field → Unit {0}
 item_move seen field = seen
 
 abbrev pub item_done : Unit {0} → Check
-item_done seen = Good
+item_done seen = good
 
 -- the list or the Struct from `from` to `to`
 unfoldable pub items_check : (Field → Check) → List ℕ → Bool → ℕ → ℕ → Check

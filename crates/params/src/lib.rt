@@ -4,58 +4,28 @@
 ghost use Rattle.std.specs.Prelude.{◌≡◌, ◌≤◌, length};
 ghost use Rattle.bytes_be.specs.Part.{same};
 ghost use Rattle.wire.specs.Fields.{fields_of};
-ghost use Rattle.params.specs.Message.{fault_number, fault, lacking_of, check_number, place_in};
-ghost use Rattle.params.specs.Keys.{key_of, find_in, is_found};
+ghost use Rattle.params.specs.Message.{good, refuse_if, lacking_of, place_in};
+ghost use Rattle.params.specs.Keys.{key_of, find_in};
 ghost use Rattle.params.specs.Rules.{value_wire, value_text, value_allowed, value_rule, value_field, value_check, bytes_rule, seen_of, key_rule, entry_field, entry_done, entry_check, item_field, items_check, inside, struct_check, alone_check};
 
 use bytes_be::Place;
-use wire::{Fault, Field, Kind, Reading};
+use wire::{Fault, Field, Kind};
 
-#[derive(Clone, Copy)]
-pub enum Check {
-    Good,
-    // Why, and where.
-    Refused(Fault),
-}
-
-// Where a key's Value stands.
-#[derive(Clone, Copy)]
-pub enum Found {
-    At(Place),
-    Nothing,
-}
-
-// The number of 01 for a fault.
-pub fn fault_number(_why: Fault) -> u8
-    ensures { result ≡ fault_number _why }
+// A fault where the test holds.
+pub fn refuse_if(test: bool, kind: Kind, at: usize) -> Result<(), Fault>
+    ensures { result ≡ refuse_if test kind at good }
 {
-    18
-}
-
-// The number of 01 for a check: 0, or that of its fault.
-pub fn check_number(check: Check) -> u8
-    ensures { result ≡ check_number check }
-{
-    match check {
-        Check::Good => 0,
-        Check::Refused(why) => fault_number(why),
+    if test {
+        return Err(Fault { kind, at });
     }
+    Ok(())
 }
 
-pub fn fault_of(kind: Kind, at: usize) -> Check
-    ensures { result ≡ fault kind at }
-{
-    Check::Refused(Fault { kind: kind, at: at })
-}
-
-// What a message that ends at `to` comes to, by whether it has what it must have.
-fn lacking(to: usize, there: bool) -> Check
+// A message that ends at `to` is at fault there where it lacks what it must have.
+fn lacking(to: usize, there: bool) -> Result<(), Fault>
     ensures { result ≡ lacking_of to there }
 {
-    if there {
-        return Check::Good;
-    }
-    fault_of(Kind::Other, to)
+    refuse_if(!there, Kind::Other, to)
 }
 
 // The place of the first field of this number in the message from `from` to `to`, or the empty place at 0.
@@ -64,20 +34,16 @@ pub fn place_in(s: &[u8], from: usize, to: usize, number: u64) -> Place
 {
     let mut at = from;
     while at < to {
-        match wire::field_at(s, at, to) {
-            Reading::Refused(_) => {
-                return Place { at: 0, length: 0 };
-            }
-            Reading::Read(field) => {
-                if field.number == number {
-                    return Place {
-                        at: field.at,
-                        length: field.next - field.at,
-                    };
-                }
-                at = field.next;
-            }
+        let Ok(field) = wire::field_at(s, at, to) else {
+            return Place { at: 0, length: 0 };
+        };
+        if field.number == number {
+            return Place {
+                at: field.at,
+                length: field.next - field.at,
+            };
         }
+        at = field.next;
     }
     Place { at: 0, length: 0 }
 }
@@ -93,33 +59,20 @@ fn has_key(s: &[u8], from: usize, to: usize, key: &[u8]) -> bool
 }
 
 // The Value of the first entry with this key, among those of the Struct from `from` to `to`.
-pub fn find(s: &[u8], from: usize, to: usize, key: &[u8]) -> Found
+pub fn find(s: &[u8], from: usize, to: usize, key: &[u8]) -> Option<Place>
     ensures { result ≡ find_in s.now from to key.now }
 {
     let mut at = from;
     while at < to {
-        match wire::field_at(s, at, to) {
-            Reading::Refused(_) => {
-                return Found::Nothing;
-            }
-            Reading::Read(field) => {
-                if has_key(s, field.at, field.next, key) {
-                    return Found::At(place_in(s, field.at, field.next, 2));
-                }
-                at = field.next;
-            }
+        let Ok(field) = wire::field_at(s, at, to) else {
+            return None;
+        };
+        if has_key(s, field.at, field.next, key) {
+            return Some(place_in(s, field.at, field.next, 2));
         }
+        at = field.next;
     }
-    Found::Nothing
-}
-
-fn is_found(found: Found) -> bool
-    ensures { result ≡ is_found found }
-{
-    match found {
-        Found::At(_) => true,
-        Found::Nothing => false,
-    }
+    None
 }
 
 // Whether a field of a Value has its own wire type, or a number that has no place there.
@@ -160,129 +113,119 @@ fn value_allowed(number: u64, value: u64) -> bool
 }
 
 // What a field of a Value comes to before its inside is looked at, behind the field `held`, or 0.
-fn value_rule(s: &[u8], held: u64, field: Field) -> Check
+#[tactic(auto, unfolding(crate::specs::Rules::value_rule))]
+fn value_rule(s: &[u8], held: u64, field: Field) -> Result<(), Fault>
     requires { (field.at ≤ field.next) × (field.next ≤ length s.now) }
     ensures { result ≡ value_rule s.now held field }
 {
-    if !value_wire(field.number, field.wire) {
-        return fault_of(Kind::WireType, field.tag);
-    }
-    if held == field.number {
-        return fault_of(Kind::Repeated, field.tag);
-    }
-    if !value_text(s, field.number, field.at, field.next) {
-        return fault_of(Kind::BadText, field.tag);
-    }
-    if (held == 0) & value_allowed(field.number, field.value) {
-        return Check::Good;
-    }
-    fault_of(Kind::Other, field.tag)
+    let number = field.number;
+    refuse_if(!value_wire(number, field.wire), Kind::WireType, field.tag)?;
+    refuse_if(held == number, Kind::Repeated, field.tag)?;
+    refuse_if(
+        !value_text(s, number, field.at, field.next),
+        Kind::BadText,
+        field.tag,
+    )?;
+    let allowed = (held == 0) & value_allowed(number, field.value);
+    refuse_if(!allowed, Kind::Other, field.tag)
 }
 
 // A field of a Value, where so many levels may still nest.
 #[cycle(nesting)]
-fn value_field(s: &[u8], held: u64, field: Field, levels: u8) -> Check
+#[tactic(auto, unfolding(crate::specs::Rules::value_field))]
+fn value_field(s: &[u8], held: u64, field: Field, levels: u8) -> Result<(), Fault>
     requires { (field.at ≤ field.next) × (field.next ≤ length s.now) }
     ensures { result ≡ value_field (inside levels s.now) s.now held field }
 {
-    let rule = value_rule(s, held, field);
-    let Check::Good = rule else {
-        return rule;
-    };
+    value_rule(s, held, field)?;
     if field.number < 5 {
-        return Check::Good;
+        return Ok(());
     }
     if levels == 0 {
-        return fault_of(Kind::TooDeep, field.tag);
+        return Err(Fault {
+            kind: Kind::TooDeep,
+            at: field.tag,
+        });
     }
     check_items(s, field.at, field.next, levels - 1, field.number == 6)
 }
 
 #[cycle(nesting)]
-fn check_value(s: &[u8], from: usize, to: usize, levels: u8) -> Check
+fn check_value(s: &[u8], from: usize, to: usize, levels: u8) -> Result<(), Fault>
     ensures { result ≡ value_check (inside levels s.now) s.now from to }
 {
     let mut at = from;
     let mut held = 0;
     while at < to {
-        match wire::field_at(s, at, to) {
-            Reading::Refused(why) => {
-                return Check::Refused(why);
-            }
-            Reading::Read(field) => {
-                let check = value_field(s, held, field, levels);
-                let Check::Good = check else {
-                    return check;
-                };
-                held = field.number;
-                at = field.next;
-            }
-        }
+        let field = wire::field_at(s, at, to)?;
+        value_field(s, held, field, levels)?;
+        held = field.number;
+        at = field.next;
     }
     lacking(to, held != 0)
 }
 
 // What a field that holds bytes comes to, in a message that has these in fields 1 to `most` and nothing else.
-fn bytes_rule(field: Field, most: u64, repeated: bool) -> Check
+#[tactic(auto, unfolding(crate::specs::Rules::bytes_rule))]
+fn bytes_rule(field: Field, most: u64, repeated: bool) -> Result<(), Fault>
     ensures { result ≡ bytes_rule most repeated field }
 {
-    if (field.number <= most) & (field.wire != 2) {
-        return fault_of(Kind::WireType, field.tag);
-    }
-    if repeated {
-        return fault_of(Kind::Repeated, field.tag);
-    }
-    if most < field.number {
-        return fault_of(Kind::Other, field.tag);
-    }
-    Check::Good
+    let otherwise = (field.number <= most) & (field.wire != 2);
+    refuse_if(otherwise, Kind::WireType, field.tag)?;
+    refuse_if(repeated, Kind::Repeated, field.tag)?;
+    refuse_if(most < field.number, Kind::Other, field.tag)
 }
 
 // A key, in a Struct that begins at `from` and has the tag of the key's entry at `tag`.
-fn key_rule(s: &[u8], from: usize, tag: usize, field: Field) -> Check
+#[tactic(auto, unfolding(crate::specs::Rules::key_rule))]
+fn key_rule(s: &[u8], from: usize, tag: usize, field: Field) -> Result<(), Fault>
     requires { (field.at ≤ field.next) × (field.next ≤ length s.now) }
     ensures { result ≡ key_rule s.now from tag field }
 {
     let at = field.at;
     let next = field.next;
-    if is_found(find(s, from, tag, &s[at..next])) {
-        return fault_of(Kind::Repeated, field.tag);
-    }
-    if utf8::well_formed(&s[at..next]) {
-        return Check::Good;
-    }
-    fault_of(Kind::BadText, field.tag)
+    let found = find(s, from, tag, &s[at..next]);
+    refuse_if(found.is_some(), Kind::Repeated, field.tag)?;
+    let text = utf8::well_formed(&s[at..next]);
+    refuse_if(!text, Kind::BadText, field.tag)
 }
 
-// Whether an entry has had a field of this number.
-fn seen_of(key: bool, value: bool, number: u64) -> bool
-    ensures { result ≡ seen_of (record { key = key; value = value }) number }
-{
-    match number {
-        1 => key,
-        2 => value,
-        _ => false,
+// What an entry has had.
+#[derive(Clone, Copy)]
+pub struct Seen {
+    pub key: bool,
+    pub value: bool,
+}
+
+impl Seen {
+    // Whether it has had a field of this number.
+    #[tactic(auto, unfolding(crate::specs::Rules::seen_of))]
+    fn has(self, number: u64) -> bool
+        ensures { result ≡ seen_of self number }
+    {
+        match number {
+            1 => self.key,
+            2 => self.value,
+            _ => false,
+        }
     }
 }
 
 // A field of an entry, in a Struct that begins at `from` and has the entry's tag at `tag`.
 #[cycle(nesting)]
+#[tactic(auto, unfolding(crate::specs::Rules::entry_field))]
 fn entry_field(
     s: &[u8],
     from: usize,
     tag: usize,
-    key: bool,
-    value: bool,
+    seen: Seen,
     field: Field,
     levels: u8,
-) -> Check
+) -> Result<(), Fault>
     requires { (field.at ≤ field.next) × (field.next ≤ length s.now) }
-    ensures { result ≡ entry_field (inside levels s.now) s.now from tag (record { key = key; value = value }) field }
+    ensures { result ≡ entry_field (inside levels s.now) s.now from tag seen field }
 {
-    let rule = bytes_rule(field, 2, seen_of(key, value, field.number));
-    let Check::Good = rule else {
-        return rule;
-    };
+    bytes_rule(field, 2, seen.has(field.number))?;
     if field.number == 1 {
         return key_rule(s, from, tag, field);
     }
@@ -290,54 +233,55 @@ fn entry_field(
 }
 
 // What an entry that ends at `to` comes to at its end.
-fn entry_done(s: &[u8], from: usize, tag: usize, to: usize, key: bool, value: bool) -> Check
-    ensures { result ≡ entry_done s.now from tag to (record { key = key; value = value }) }
+#[tactic(auto, unfolding(crate::specs::Rules::entry_done))]
+fn entry_done(s: &[u8], from: usize, tag: usize, to: usize, seen: Seen) -> Result<(), Fault>
+    ensures { result ≡ entry_done s.now from tag to seen }
 {
-    if key {
-        return lacking(to, value);
-    }
-    if is_found(find(s, from, tag, &s[..0])) {
-        return fault_of(Kind::Repeated, to);
-    }
-    lacking(to, value)
+    let empty = !seen.key;
+    refuse_if(
+        empty && find(s, from, tag, &s[..0]).is_some(),
+        Kind::Repeated,
+        to,
+    )?;
+    lacking(to, seen.value)
 }
 
 // The entry from `start` to `to`, in a Struct that begins at `from` and has the entry's tag at `tag`.
 #[cycle(nesting)]
-fn check_entry(s: &[u8], from: usize, tag: usize, start: usize, to: usize, levels: u8) -> Check
+fn check_entry(
+    s: &[u8],
+    from: usize,
+    tag: usize,
+    start: usize,
+    to: usize,
+    levels: u8,
+) -> Result<(), Fault>
     ensures { result ≡ entry_check (inside levels s.now) s.now from tag start to }
 {
     let mut at = start;
-    let mut key = false;
-    let mut value = false;
+    let mut seen = Seen {
+        key: false,
+        value: false,
+    };
     while at < to {
-        match wire::field_at(s, at, to) {
-            Reading::Refused(why) => {
-                return Check::Refused(why);
-            }
-            Reading::Read(field) => {
-                let check = entry_field(s, from, tag, key, value, field, levels);
-                let Check::Good = check else {
-                    return check;
-                };
-                key = key | (field.number == 1);
-                value = value | (field.number != 1);
-                at = field.next;
-            }
-        }
+        let field = wire::field_at(s, at, to)?;
+        entry_field(s, from, tag, seen, field, levels)?;
+        seen = Seen {
+            key: seen.key | (field.number == 1),
+            value: seen.value | (field.number != 1),
+        };
+        at = field.next;
     }
-    entry_done(s, from, tag, to, key, value)
+    entry_done(s, from, tag, to, seen)
 }
 
 // A field of a Struct that begins at `from`, or of a list.
 #[cycle(nesting)]
-fn item_field(s: &[u8], from: usize, field: Field, levels: u8, list: bool) -> Check
+#[tactic(auto, unfolding(crate::specs::Rules::item_field))]
+fn item_field(s: &[u8], from: usize, field: Field, levels: u8, list: bool) -> Result<(), Fault>
     ensures { result ≡ item_field (inside levels s.now) s.now list from field }
 {
-    let rule = bytes_rule(field, 1, false);
-    let Check::Good = rule else {
-        return rule;
-    };
+    bytes_rule(field, 1, false)?;
     if list {
         return check_value(s, field.at, field.next, levels);
     }
@@ -346,36 +290,27 @@ fn item_field(s: &[u8], from: usize, field: Field, levels: u8, list: bool) -> Ch
 
 // A Struct or a list from `from` to `to`, in which so many levels may still nest.
 #[cycle(nesting)]
-fn check_items(s: &[u8], from: usize, to: usize, levels: u8, list: bool) -> Check
+fn check_items(s: &[u8], from: usize, to: usize, levels: u8, list: bool) -> Result<(), Fault>
     ensures { result ≡ items_check (inside levels s.now) s.now list from to }
 {
     let mut at = from;
     while at < to {
-        match wire::field_at(s, at, to) {
-            Reading::Refused(why) => {
-                return Check::Refused(why);
-            }
-            Reading::Read(field) => {
-                let check = item_field(s, from, field, levels, list);
-                let Check::Good = check else {
-                    return check;
-                };
-                at = field.next;
-            }
-        }
+        let field = wire::field_at(s, at, to)?;
+        item_field(s, from, field, levels, list)?;
+        at = field.next;
     }
-    Check::Good
+    Ok(())
 }
 
 // The Struct from `from` to `to`, which is level 1.
-pub fn check_struct(s: &[u8], from: usize, to: usize) -> Check
+pub fn check_struct(s: &[u8], from: usize, to: usize) -> Result<(), Fault>
     ensures { result ≡ struct_check s.now from to }
 {
     check_items(s, from, to, 7, false)
 }
 
 // A Value that is read alone: its own Struct or list is level 1.
-pub fn check_alone(s: &[u8]) -> Check
+pub fn check_alone(s: &[u8]) -> Result<(), Fault>
     ensures { result ≡ alone_check s.now }
 {
     check_value(s, 0, s.len(), 8)

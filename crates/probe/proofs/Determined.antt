@@ -1,4 +1,5 @@
 -- For each contract of several equations that `Entries` has: any two results which meet it, at the same arguments, coincide. Assumes nothing.
+use Rattle.std.specs.Prelude.{Result}
 use mathlib.Core.Path.{◌≡◌}
 use mathlib.Core.Bool.{Bool}
 use mathlib.Core.List.{List}
@@ -7,8 +8,9 @@ use Rattle.bytes_be.proofs.Determined.{coincide}
 use Rattle.bundle.proofs.Determined.{written_determined}
 use Rattle.control.specs.declared.KnownType.{KnownType}
 use Rattle.control.specs.declared.KnownType.TheVariants.{Known, Unknown}
+use Rattle.open.specs.declared.Opening.{Opening}
+use Rattle.open.specs.declared.Refusal.{Refusal}
 use Rattle.open.specs.Offer.{Offer}
-use Rattle.open.specs.declared.Open.{Open}
 use Rattle.probe.specs.Entries.{ContentsAnswer, HandOutAnswer, ControlAnswer, Wrote, FieldAnswer, Stored}
 use Rattle.probe.specs.Entries.{CheckAnswer, LimitAnswer, OpenAnswer, OpenFrameAnswer}
 
@@ -46,7 +48,7 @@ pub limit_determined : {parameters : List ℕ} {number number' : ℕ} {slots slo
     LimitAnswer parameters number' slots' → (number ≡ number') × (slots ≡ slots')
 limit_determined one other = (coincide one.numbered other.numbered, coincide one.told other.told)
 
-pub open_determined : {said : Open} {number number' : ℕ} {slots slots' : List ℕ} → OpenAnswer said number slots → OpenAnswer said number' slots' →
+pub open_determined : {said : (Result Opening Refusal)} {number number' : ℕ} {slots slots' : List ℕ} → OpenAnswer said number slots → OpenAnswer said number' slots' →
     (number ≡ number') × (slots ≡ slots')
 open_determined one other = (coincide one.numbered other.numbered, coincide one.told other.told)
 

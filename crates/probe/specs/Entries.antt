@@ -1,5 +1,5 @@
 -- What the functions that are exported for the comparison answer and leave, where no definition below says it already.
-use Rattle.std.specs.Prelude.{ℕ, ◌-◌, ◌≡◌, List, [], ◌∷◌, Bool, true, false, cond, length, eqb}
+use Rattle.std.specs.Prelude.{ℕ, ◌-◌, ◌≡◌, List, [], ◌∷◌, Bool, true, false, cond, length, eqb, Result, Ok, Err}
 use Rattle.bytes_be.specs.Part.{put_at}
 use Rattle.bundle.specs.Reading.{contents_of, contents_number, frame_number}
 use Rattle.bundle.specs.Writing.{Written}
@@ -15,13 +15,9 @@ use Rattle.control.specs.declared.Control.{Control}
 use Rattle.control.specs.declared.Control.TheVariants.{Read, BadSignature, OtherVersion, UnknownType}
 use Rattle.wire.specs.declared.Kind.{Kind}
 use Rattle.wire.specs.declared.Kind.TheVariants.{CutShort, BadVarint, WireType, Repeated, BadText, Other, TooDeep}
-use Rattle.wire.specs.declared.Reading.{Reading}
-use Rattle.wire.specs.declared.Reading.TheVariants.{Read as Reading-as-Read, Refused as Reading-as-Refused}
 use Rattle.wire.specs.Varint.{shortest_of, varint_length}
-use Rattle.wire.specs.Fields.{field_at}
-use Rattle.params.specs.declared.Check.{Check}
-use Rattle.params.specs.declared.Check.TheVariants.{Good, Refused}
-use Rattle.params.specs.Message.{check_number}
+use Rattle.wire.specs.Fields.{Reading, field_at}
+use Rattle.params.specs.Message.{Check, check_number}
 use Rattle.params.specs.Rules.{struct_check, alone_check}
 use Rattle.terms.specs.declared.Announced.{Announced}
 use Rattle.terms.specs.declared.Announced.TheVariants.{Nothing, Limit, Bad}
@@ -30,8 +26,6 @@ use Rattle.open.specs.Offer.{Offer}
 use Rattle.open.specs.declared.Opening.{Opening}
 use Rattle.open.specs.declared.Refusal.{Refusal}
 use Rattle.open.specs.declared.Refusal.TheVariants.{Unreadable, OutOfRange, UnknownSocket, OtherPipe, OtherFormat}
-use Rattle.open.specs.declared.Open.{Open}
-use Rattle.open.specs.declared.Open.TheVariants.{Heard, Refused as Open-as-Refused}
 use Rattle.open.specs.Open.{open_number}
 use Rattle.open_write.specs.declared.Given.{Given}
 use Rattle.open_write.specs.declared.Given.TheVariants.{Good as Given-as-Good, Bad as Given-as-Bad}
@@ -89,14 +83,14 @@ kind_number Other = 6
 kind_number TooDeep = 7
 
 abbrev pub reading_number : Reading → ℕ
-reading_number (Reading-as-Read field) = 0
-reading_number (Reading-as-Refused why) = kind_number why.kind
+reading_number (Ok field) = 0
+reading_number (Err why) = kind_number why.kind
 
 -- number, wire type, what its varint says or how many bytes it holds, the payload's place, the place behind it
 abbrev pub reading_slots : Reading → List ℕ
-reading_slots (Reading-as-Read field) =
+reading_slots (Ok field) =
     field.number ∷ field.wire ∷ cond (eqb field.wire 2) (field.next - field.at) field.value ∷ field.at ∷ field.next ∷ []
-reading_slots (Reading-as-Refused why) = 0 ∷ 0 ∷ 0 ∷ 0 ∷ 0 ∷ []
+reading_slots (Err why) = 0 ∷ 0 ∷ 0 ∷ 0 ∷ 0 ∷ []
 
 pub record FieldAnswer (bytes : List ℕ) (at end number : ℕ) (slots : List ℕ) : Type 0 where
   pub numbered : number ≡ reading_number (field_at bytes at end)
@@ -112,8 +106,8 @@ check_of false bytes = struct_check bytes 0 (length bytes)
 
 -- why and where
 abbrev pub check_slots : Check → List ℕ
-check_slots Good = 0 ∷ 0 ∷ []
-check_slots (Refused why) = kind_number why.kind ∷ why.at ∷ []
+check_slots (Ok passed) = 0 ∷ 0 ∷ []
+check_slots (Err why) = kind_number why.kind ∷ why.at ∷ []
 
 pub record CheckAnswer (value : Bool) (bytes : List ℕ) (number : ℕ) (slots : List ℕ) : Type 0 where
   pub numbered : number ≡ check_number (check_of value bytes)
@@ -126,8 +120,8 @@ announced_slots (Limit limit) = 1 ∷ limit ∷ []
 announced_slots Bad = 2 ∷ 0 ∷ []
 
 abbrev pub if_readable : Check → List ℕ → List ℕ
-if_readable Good slots = slots
-if_readable (Refused why) slots = 0 ∷ 0 ∷ []
+if_readable (Ok passed) slots = slots
+if_readable (Err why) slots = 0 ∷ 0 ∷ []
 
 pub record LimitAnswer (parameters : List ℕ) (number : ℕ) (slots : List ℕ) : Type 0 where
   pub numbered : number ≡ check_number (check_of false parameters)
@@ -158,11 +152,11 @@ refusal_slots UnknownSocket = no_opening 0 0
 refusal_slots OtherPipe = no_opening 0 0
 refusal_slots OtherFormat = no_opening 0 0
 
-abbrev pub open_slots : Open → List ℕ
-open_slots (Heard opening) = opening_slots opening
-open_slots (Open-as-Refused refusal) = refusal_slots refusal
+abbrev pub open_slots : Result Opening Refusal → List ℕ
+open_slots (Ok opening) = opening_slots opening
+open_slots (Err refusal) = refusal_slots refusal
 
-pub record OpenAnswer (said : Open) (number : ℕ) (slots : List ℕ) : Type 0 where
+pub record OpenAnswer (said : Result Opening Refusal) (number : ℕ) (slots : List ℕ) : Type 0 where
   pub numbered : number ≡ open_number said
   pub told : slots ≡ open_slots said
 

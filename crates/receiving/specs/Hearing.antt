@@ -1,14 +1,12 @@
 -- "Receiving": "Checks run in the order of the numbers .. and the first that applies is given." What an endpoint with an offer makes of a
 -- message.
-use Rattle.std.specs.Prelude.{ℕ, ◌+◌, List, Bool, true, false, cond, not, ◌&&◌, ◌||◌, ltb, eqb}
+use Rattle.std.specs.Prelude.{ℕ, ◌+◌, List, Bool, true, false, cond, not, ◌&&◌, ◌||◌, ltb, eqb, Result, Ok, Err}
 use Rattle.bytes_be.specs.declared.Place.{Place}
 use Rattle.control.specs.declared.MessageType.{MessageType}
 use Rattle.control.specs.declared.MessageType.TheVariants.{Open, Ready, Noop, Data, Close}
 use Rattle.control.specs.Frame.{ack_request, ack_reply, type_of}
 use Rattle.terms.specs.Announced.{announced_limit}
 use Rattle.open.specs.Offer.{Offer}
-use Rattle.open.specs.declared.Open.{Open as OpenFrame}
-use Rattle.open.specs.declared.Open.TheVariants.{Heard as OpenFrame-as-Heard, Refused as OpenFrame-as-Refused}
 use Rattle.open.specs.Open.{heard_by, open_number}
 use Rattle.message.specs.declared.Body.{Body}
 use Rattle.message.specs.declared.Body.TheVariants.{Nothing as Body-as-Nothing, At}
@@ -29,6 +27,7 @@ use Rattle.receiving.specs.declared.Answer.TheVariants.{Heard}
 use Rattle.receiving.specs.declared.Reply.{Reply}
 use Rattle.receiving.specs.declared.Reply.TheVariants.{Nothing as Reply-as-Nothing, Frame}
 use Rattle.receiving.specs.declared.Received.{Received}
+use Rattle.open.specs.declared.Refusal.{Refusal}
 use Rattle.receiving.specs.Refusing.{refused, unchanged}
 
 -- the types that ask for a confirmation, and are confirmed: 14 refuses ACK-REPLY on OPEN and READY, and a CLOSE stays a CLOSE "whatever its
@@ -73,9 +72,9 @@ unfoldable pub too_large : Endpoint → Message → Bool
 too_large e m = large_by m.message (ltb e.limit m.size) (body_place m.body).length
 
 -- 18 to 22, or "its socket and the places of name, format and parameters"
-abbrev pub open_carried : OpenFrame → Carried
-open_carried (OpenFrame-as-Heard opening) = Carried-as-Content (Opening opening)
-open_carried (OpenFrame-as-Refused refusal) = Refused (open_number (OpenFrame-as-Refused refusal))
+abbrev pub open_carried : Result Opening Refusal → Carried
+open_carried (Ok opening) = Carried-as-Content (Opening opening)
+open_carried (Err refusal) = Refused (open_number (Err refusal))
 
 -- "Heard too is the place of its body."
 abbrev pub body_carried : Body → Carried

@@ -1,4 +1,5 @@
 -- The tables have the laws: an OPEN for what is not offered is refused by 21 or 22, and all else is as in `Packets` and `Taking`. Assumes nothing.
+use Rattle.std.specs.Prelude.{Err}
 use mathlib.Core.Path.{◌≡◌, ◌∙◌, refl, ap, subst, sym}
 use Prim.Native.Nat.{ℕ, ◌<◌, ◌^◌, ◌≤◌}
 use mathlib.Core.List.{List}
@@ -10,7 +11,6 @@ use native.Mathlib.Omega.{arith}
 use Rattle.bytes_be.specs.Part.{same}
 use Rattle.bytes_be.proofs.Tests.{both_true, clash}
 use Rattle.control.specs.declared.MessageType.TheVariants.{Open}
-use Rattle.open.specs.declared.Open.TheVariants.{Refused as OpenFrame-as-Refused}
 use Rattle.open.specs.declared.Opening.{Opening}
 use Rattle.open.specs.declared.Refusal.{Refusal}
 use Rattle.open.specs.declared.Refusal.TheVariants.{OtherPipe, OtherFormat}
@@ -60,14 +60,14 @@ both_fail false b fails = simp fails
 module _ (flow : ℕ) (asked : Offer) (opening : Opening) (serverFlow : ℕ) (pipe : Offer) where
   -- 21 for another name or socket
   pipe_refused : same asked.name pipe.name && eqb (socket_of flow) (offered_socket serverFlow) ≡ false
-      → answer_to flow asked opening serverFlow pipe ≡ OpenFrame-as-Refused OtherPipe
+      → answer_to flow asked opening serverFlow pipe ≡ Err OtherPipe
   unfolding answer_to
   pipe_refused differs = simp (either_fails (same asked.name pipe.name) (eqb (socket_of flow) (offered_socket serverFlow)) differs)
 
   -- 22 for another format
   format_refused : same asked.name pipe.name && eqb (socket_of flow) (offered_socket serverFlow) ≡ true
       → eqb (length asked.format) 0 || same asked.format pipe.format ≡ false
-      → answer_to flow asked opening serverFlow pipe ≡ OpenFrame-as-Refused OtherFormat
+      → answer_to flow asked opening serverFlow pipe ≡ Err OtherFormat
   unfolding answer_to
   format_refused agrees differs =
       let named = both_true (same asked.name pipe.name) (eqb (socket_of flow) (offered_socket serverFlow)) agrees in
@@ -85,8 +85,8 @@ module _ (makings : Makings) (x y : Side Endpoint) (e : Endpoint) (asked pipe : 
 
   -- what refuses the frame refuses the message
   frame_refused : (refusal : Refusal)
-      → ((opening : Opening) → answer_to e.flow asked opening r.flow pipe ≡ OpenFrame-as-Refused refusal)
-      → hear_of r s pipe ≡ refused r (open_number (OpenFrame-as-Refused refusal)) 1
+      → ((opening : Opening) → answer_to e.flow asked opening r.flow pipe ≡ Err refusal)
+      → hear_of r s pipe ≡ refused r (open_number (Err refusal)) 1
   unfolding hear_of hear_message hear_content forbidden carried_by open_at
   frame_refused refusal answers =
       let call = OPEN asked in

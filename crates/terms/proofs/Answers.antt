@@ -1,4 +1,5 @@
 -- A readable Value is answered as one of its six kinds, and so is the Value of every term that is found. Assumes nothing.
+use Rattle.std.specs.Prelude.{Ok}
 use Prim.Native.Nat.{ℕ, zero, suc, ◌≤◌, ◌<◌}
 use mathlib.Core.Path.{◌≡◌, refl, ap, ◌∙◌}
 use mathlib.Core.List.{List, [], ◌∷◌}
@@ -11,13 +12,12 @@ use Rattle.bytes_be.specs.declared.Place.{Place}
 use Rattle.wire.specs.declared.Field.{Field}
 use Rattle.wire.specs.Fields.{field_at}
 use Rattle.wire.proofs.Front.{begins}
-use Rattle.params.specs.declared.Check.{Check}
-use Rattle.params.specs.declared.Check.TheVariants.{Good}
 use Rattle.params.specs.Rules.{inside, alone_check}
 use Rattle.params.proofs.Readable.{one_field, found_readable}
 use Rattle.terms.specs.declared.Term.TheVariants.{In}
 use Rattle.terms.specs.Value.{held_by, from_reading, value_at, if_good, value_of, value_number}
 use Rattle.terms.specs.Lookup.{look_up}
+use Rattle.params.specs.Message.{good, Check}
 use Rattle.terms.proofs.Layers.{of_its_layer}
 
 held_answered : (s : List ℕ) (field : Field) → 0 < field.number → field.number ≤ 6 → value_number (held_by s field) ≡ 0
@@ -35,7 +35,7 @@ held_answered s field h l = go field.number h l
     go (suc (suc (suc (suc (suc (suc (suc n))))))) h l = absurd (omega arith)
 
 -- a readable Value is answered
-pub readable_answered : (s : List ℕ) → alone_check s ≡ Good → value_number (value_of s) ≡ 0
+pub readable_answered : (s : List ℕ) → alone_check s ≡ good → value_number (value_of s) ≡ 0
 unfolding value_of value_at alone_check
 readable_answered s good =
     let one = one_field (inside 8 s) s 0 (length s) good in
@@ -46,9 +46,9 @@ readable_answered s good =
 
 -- the Value of a term that is found is readable alone, and so it is answered
 pub term_readable : (client defaults key : List ℕ) (layer : ℕ) (place : Place) → look_up (client ∷ defaults ∷ []) key ≡ In layer place
-    → alone_check (part_at (cond (eqb layer 0) client defaults) place) ≡ Good
+    → alone_check (part_at (cond (eqb layer 0) client defaults) place) ≡ good
 term_readable client defaults key =
-    of_its_layer (λ (s : List ℕ) (place : Place). alone_check (part_at s place) ≡ Good) client defaults key (λ s there. found_readable s key there)
+    of_its_layer (λ (s : List ℕ) (place : Place). alone_check (part_at s place) ≡ good) client defaults key (λ s there. found_readable s key there)
 
 pub term_answered : (client defaults key : List ℕ) (layer : ℕ) (place : Place) → look_up (client ∷ defaults ∷ []) key ≡ In layer place
     → value_number (value_of (part_at (cond (eqb layer 0) client defaults) place)) ≡ 0

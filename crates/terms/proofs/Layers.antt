@@ -1,4 +1,5 @@
 -- The cases of a lookup in the client's parameters over the default Struct, and that a term lies in its layer. Assumes nothing.
+use Rattle.std.specs.Prelude.{Option, Some, None, Ok, Err}
 use Prim.Native.Nat.{ℕ, ◌+◌, ◌≤◌}
 use mathlib.Core.Path.{◌≡◌, refl, sym, ◌∙◌, subst}
 use mathlib.Core.List.{List, [], ◌∷◌}
@@ -10,33 +11,30 @@ use denote.Ref.{Bor}
 use Rattle.bytes_be.proofs.Tests.{clash}
 use Rattle.bytes_be.specs.declared.Place.{Place}
 use Rattle.wire.specs.declared.Fault.{Fault}
-use Rattle.params.specs.declared.Check.{Check}
-use Rattle.params.specs.declared.Check.TheVariants.{Good, Refused}
-use Rattle.params.specs.declared.Found.{Found}
-use Rattle.params.specs.declared.Found.TheVariants.{At, Nothing}
 use Rattle.params.specs.Keys.{find_in}
 use Rattle.params.specs.Rules.{struct_check}
 use Rattle.params.proofs.Finds.{find_lies}
 use Rattle.terms.specs.declared.Term.{Term}
 use Rattle.terms.specs.declared.Term.TheVariants.{In, Unreadable, Absent}
 use Rattle.terms.specs.Lookup.{if_readable, read_layers, find_layers, in_layer, look_up, PartOf}
+use Rattle.params.specs.Message.{good, Check}
 
 module _ (client defaults key : List ℕ) (first : Check) (read : first ≡ struct_check client 0 (length client)) where
-  pub client_unreadable : (why : Fault) → first ≡ Refused why → (term : Term) → term ≡ if_readable 0 first Absent → term ≡ look_up (client ∷ defaults ∷ []) key
+  pub client_unreadable : (why : Fault) → first ≡ Err why → (term : Term) → term ≡ if_readable 0 first Absent → term ≡ look_up (client ∷ defaults ∷ []) key
   unfolding look_up read_layers
   client_unreadable why e term is = rw e at is ∙ sym (rw (← read, e))
 
-  module _ (good : first ≡ Good) (second : Check) (also : second ≡ struct_check defaults 0 (length defaults)) where
-    pub defaults_unreadable : (why : Fault) → second ≡ Refused why → (term : Term) → term ≡ if_readable 1 second Absent → term ≡ look_up (client ∷ defaults ∷ []) key
+  module _ (good : first ≡ good) (second : Check) (also : second ≡ struct_check defaults 0 (length defaults)) where
+    pub defaults_unreadable : (why : Fault) → second ≡ Err why → (term : Term) → term ≡ if_readable 1 second Absent → term ≡ look_up (client ∷ defaults ∷ []) key
     unfolding look_up read_layers
     defaults_unreadable why e term is = rw e at is ∙ sym (rw (← read, good, ← also, e))
 
-    module _ (both : second ≡ Good) (found : Found) (looked : found ≡ find_in client 0 (length client) key) where
-      pub in_client : (term : Term) → term ≡ in_layer 0 found Absent → (place : Place) → found ≡ At place → term ≡ look_up (client ∷ defaults ∷ []) key
+    module _ (both : second ≡ good) (found : Option Place) (looked : found ≡ find_in client 0 (length client) key) where
+      pub in_client : (term : Term) → term ≡ in_layer 0 found Absent → (place : Place) → found ≡ Some place → term ≡ look_up (client ∷ defaults ∷ []) key
       unfolding look_up read_layers find_layers
       in_client term is place e = rw e at is ∙ sym (rw (← read, good, ← also, both, ← looked, e))
 
-      pub in_defaults : found ≡ Nothing → (other : Found) → other ≡ find_in defaults 0 (length defaults) key → (term : Term) → term ≡ in_layer 1 other Absent
+      pub in_defaults : found ≡ None → (other : Option Place) → other ≡ find_in defaults 0 (length defaults) key → (term : Term) → term ≡ in_layer 1 other Absent
           → term ≡ look_up (client ∷ defaults ∷ []) key
       unfolding look_up read_layers find_layers
       in_defaults e other is term q = q ∙ sym (rw (← read, good, ← also, both, ← looked, e, ← is))
@@ -54,7 +52,7 @@ same_layer e = (cc, cc)
 
 -- what holds of every term that a readable Struct has holds of the term that a lookup finds in its layer
 pub of_its_layer : (P : List ℕ → Place → Type 0) (client defaults key : List ℕ)
-    → ((s : List ℕ) (there : Place) → struct_check s 0 (length s) ≡ Good → find_in s 0 (length s) key ≡ At there → P s there)
+    → ((s : List ℕ) (there : Place) → struct_check s 0 (length s) ≡ good → find_in s 0 (length s) key ≡ Some there → P s there)
     → (layer : ℕ) (place : Place) → look_up (client ∷ defaults ∷ []) key ≡ In layer place → P (cond (eqb layer 0) client defaults) place
 unfolding look_up read_layers find_layers
 of_its_layer P client defaults key each layer place e =
@@ -65,13 +63,13 @@ of_its_layer P client defaults key each layer place e =
     moved other there e h = let same = same_layer e in rw (← same.0, ← same.1) h
 
     go : (first : Check) → struct_check client 0 (length client) ≡ first → (second : Check) → struct_check defaults 0 (length defaults) ≡ second
-        → (found : Found) → find_in client 0 (length client) key ≡ found → (other : Found) → find_in defaults 0 (length defaults) key ≡ other
+        → (found : Option Place) → find_in client 0 (length client) key ≡ found → (other : Option Place) → find_in defaults 0 (length defaults) key ≡ other
         → if_readable 0 first (if_readable 1 second (in_layer 0 found (in_layer 1 other Absent))) ≡ In layer place → P (cond (eqb layer 0) client defaults) place
-    go (Refused why) a second b found p other q e = unreadable_not_in e
-    go Good a (Refused why) b found p other q e = unreadable_not_in e
-    go Good a Good b (At there) p other q e = moved 0 there e (each client there a p)
-    go Good a Good b Nothing p (At there) q e = moved 1 there e (each defaults there b q)
-    go Good a Good b Nothing p Nothing q e = absent_not_in e
+    go (Err why) a second b found p other q e = unreadable_not_in e
+    go (Ok passed) a (Err why) b found p other q e = unreadable_not_in e
+    go (Ok passed) a (Ok passed) b (Some there) p other q e = moved 0 there e (each client there a p)
+    go (Ok passed) a (Ok passed) b None p (Some there) q e = moved 1 there e (each defaults there b q)
+    go (Ok passed) a (Ok passed) b None p None q e = absent_not_in e
 
 pub term_lies : (client defaults key : List ℕ) (layer : ℕ) (place : Place) → look_up (client ∷ defaults ∷ []) key ≡ In layer place
     → place.at + place.length ≤ length (cond (eqb layer 0) client defaults)

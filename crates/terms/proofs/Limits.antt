@@ -1,4 +1,5 @@
 -- What is announced is in the limits, or 19 refuses it. Assumes nothing.
+use Rattle.std.specs.Prelude.{Option, Some, None}
 use mathlib.Core.Path.{◌≡◌, refl}
 use Prim.Native.Nat.{◌+◌, ℕ}
 use mathlib.Core.List.{List}
@@ -6,27 +7,24 @@ use mathlib.Core.Bool.{◌&&◌, true}
 use native.Mathlib.Omega.{arith}
 use lib.Ieee.{Float}
 use Rattle.bytes_be.proofs.Tests.{both_true, clash, took_first}
-use Rattle.double.specs.declared.Limit.{Limit}
-use Rattle.double.specs.declared.Limit.TheVariants.{Whole, Bad as Limit-as-Bad}
 use Rattle.double.specs.Limit.{in_limits, integer_of, is_whole, limit_of}
-use Rattle.params.specs.declared.Found.{Found}
-use Rattle.params.specs.declared.Found.TheVariants.{At, Nothing as Found-as-Nothing}
 use Rattle.params.specs.Keys.{find_in}
 use Rattle.terms.specs.declared.Announced.{Announced}
 use Rattle.terms.specs.declared.Value.{Value}
 use Rattle.terms.specs.declared.Value.TheVariants.{Null, Number, Text, Boolean, Struct, List as Value-as-List, Unreadable}
+use Rattle.bytes_be.specs.declared.Place.{Place}
 use Rattle.terms.specs.Announced.{announced_limit, announced_number, from_double, from_found, from_value, limit_in, limit_key}
 use Rattle.terms.specs.Value.{value_at}
 
-bad_whole : {n : ℕ} → Limit-as-Bad ≡ Whole n → ⊥
+bad_whole : {n : ℕ} → None ≡ Some n → ⊥
 bad_whole e = clash cc
 
 -- what a double says is in the limits
-whole_bounded : (double : Float) (n : ℕ) → limit_of double ≡ Whole n → in_limits n ≡ true
+whole_bounded : (double : Float) (n : ℕ) → limit_of double ≡ Some n → in_limits n ≡ true
 unfolding limit_of
 whole_bounded double n e =
     let taken = took_first (is_whole double && in_limits (integer_of double)) bad_whole e in
-    let whole : Whole (integer_of double) ≡ Whole n = taken.1 in
+    let whole : Some (integer_of double) ≡ Some n = taken.1 in
     let number : integer_of double ≡ n = cc in
     rw (← number) (both_true (is_whole double) (in_limits (integer_of double)) taken.0).1
 
@@ -37,9 +35,9 @@ Limited announced = in_limits (announced_limit announced) ≡ true
 abbrev pub Bounded : Announced → Type 0
 Bounded announced = announced_number announced ≡ 0 → Limited announced
 
-double_bounded : (limit : Limit) → ((n : ℕ) → limit ≡ Whole n → in_limits n ≡ true) → Bounded (from_double limit)
-double_bounded (Whole n) there fine = there n refl
-double_bounded Limit-as-Bad there bad = absurd (omega arith)
+double_bounded : (limit : Option ℕ) → ((n : ℕ) → limit ≡ Some n → in_limits n ≡ true) → Bounded (from_double limit)
+double_bounded (Some n) there fine = there n refl
+double_bounded None there bad = absurd (omega arith)
 
 value_bounded : (value : Value) → Bounded (from_value value)
 value_bounded (Number double bits) fine = double_bounded (limit_of double) (whole_bounded double) fine
@@ -50,9 +48,9 @@ value_bounded Struct bad = absurd (omega arith)
 value_bounded Value-as-List bad = absurd (omega arith)
 value_bounded (Unreadable why) bad = absurd (omega arith)
 
-found_bounded : (s : List ℕ) (found : Found) → Bounded (from_found s found)
-found_bounded s (At place) fine = value_bounded (value_at s place.at (place.at + place.length)) fine
-found_bounded s Found-as-Nothing fine = refl
+found_bounded : (s : List ℕ) (found : Option Place) → Bounded (from_found s found)
+found_bounded s (Some place) fine = value_bounded (value_at s place.at (place.at + place.length)) fine
+found_bounded s None fine = refl
 
 pub limit_bounded : (s : List ℕ) (from to : ℕ) → Bounded (limit_in s from to)
 unfolding limit_in

@@ -1,22 +1,19 @@
 -- "the limit as parameter `max_message_bytes`"; "The limit parameter must be a number that is whole, 1,000,000 to 50,000,000".
-use Rattle.std.specs.Prelude.{ℕ, ◌+◌, List}
+use Rattle.std.specs.Prelude.{ℕ, ◌+◌, List, Option, Some, None}
 use Rattle.bytes_be.specs.Ascii.{ascii}
-use Rattle.double.specs.declared.Limit.{Limit}
-use Rattle.double.specs.declared.Limit.TheVariants.{Whole, Bad as Limit-as-Bad}
 use Rattle.double.specs.Limit.{most_limit, limit_of}
-use Rattle.params.specs.declared.Found.{Found}
-use Rattle.params.specs.declared.Found.TheVariants.{At, Nothing as Found-as-Nothing}
 use Rattle.params.specs.Keys.{find_in}
 use Rattle.terms.specs.declared.Value.{Value}
 use Rattle.terms.specs.declared.Value.TheVariants.{Null, Number, Text, Boolean, Struct, List as Value-as-List, Unreadable}
 use Rattle.terms.specs.declared.Announced.{Announced}
 use Rattle.terms.specs.declared.Announced.TheVariants.{Nothing, Limit as Announced-as-Limit, Bad}
+use Rattle.bytes_be.specs.declared.Place.{Place}
 use Rattle.terms.specs.Value.{value_at}
 
 -- "whole, 1,000,000 to 50,000,000"
-abbrev pub from_double : Limit → Announced
-from_double (Whole number) = Announced-as-Limit number
-from_double Limit-as-Bad = Bad
+abbrev pub from_double : Option ℕ → Announced
+from_double (Some number) = Announced-as-Limit number
+from_double None = Bad
 
 -- "must be a number"
 abbrev pub from_value : Value → Announced
@@ -28,9 +25,9 @@ from_value Struct = Bad
 from_value Value-as-List = Bad
 from_value (Unreadable why) = Bad
 
-abbrev pub from_found : List ℕ → Found → Announced
-from_found s (At place) = from_value (value_at s place.at (place.at + place.length))
-from_found s Found-as-Nothing = Nothing
+abbrev pub from_found : List ℕ → Option Place → Announced
+from_found s (Some place) = from_value (value_at s place.at (place.at + place.length))
+from_found s None = Nothing
 
 -- "parameter `max_message_bytes`"
 abbrev pub limit_key : List ℕ

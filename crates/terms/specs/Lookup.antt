@@ -1,23 +1,19 @@
 -- "A term is looked up by key in the client's parameters (a lent Struct, empty if absent), and failing that in the server's lent default
 -- Struct; the answer is that part of whichever slice holds the Value's bytes, without tag and length. A refused lookup answers the empty
 -- part at the start of the client's slice."
-use Rattle.std.specs.Prelude.{ℕ, suc, ◌+◌, ◌≡◌, List, [], ◌∷◌, cond, length, eqb}
+use Rattle.std.specs.Prelude.{ℕ, suc, ◌+◌, ◌≡◌, List, [], ◌∷◌, cond, length, eqb, Option, Some, None, Ok, Err}
 use Rattle.std.specs.Borrow.{Bor}
 use Rattle.bytes_be.specs.Part.{part_at}
 use Rattle.bytes_be.specs.declared.Place.{Place}
-use Rattle.params.specs.declared.Check.{Check}
-use Rattle.params.specs.declared.Check.TheVariants.{Good, Refused}
-use Rattle.params.specs.declared.Found.{Found}
-use Rattle.params.specs.declared.Found.TheVariants.{At, Nothing}
-use Rattle.params.specs.Message.{fault_number, nowhere}
+use Rattle.params.specs.Message.{Check, fault_number, nowhere}
 use Rattle.params.specs.Keys.{find_in}
 use Rattle.params.specs.Rules.{struct_check}
 use Rattle.terms.specs.declared.Term.{Term}
 use Rattle.terms.specs.declared.Term.TheVariants.{In, Unreadable, Absent}
 
 abbrev pub if_readable : ℕ → Check → Term → Term
-if_readable layer Good term = term
-if_readable layer (Refused why) term = Unreadable layer why
+if_readable layer (Ok passed) term = term
+if_readable layer (Err why) term = Unreadable layer why
 
 -- "Lookup tests 18, 36, 37": every layer is read whole, in order, before one is looked at
 unfoldable pub read_layers : ℕ → List (List ℕ) → Term → Term
@@ -25,9 +21,9 @@ read_layers layer [] term = term
 read_layers layer (bytes ∷ beneath) term =
     if_readable layer (struct_check bytes 0 (length bytes)) (read_layers (suc layer) beneath term)
 
-abbrev pub in_layer : ℕ → Found → Term → Term
-in_layer layer (At place) beneath = In layer place
-in_layer layer Nothing beneath = beneath
+abbrev pub in_layer : ℕ → Option Place → Term → Term
+in_layer layer (Some place) beneath = In layer place
+in_layer layer None beneath = beneath
 
 -- "and failing that": the first layer that has the key
 unfoldable pub find_layers : ℕ → List (List ℕ) → List ℕ → Term

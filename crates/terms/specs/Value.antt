@@ -1,17 +1,13 @@
 -- "A scalar Value is answered as null, number, boolean or text place. One that holds a Struct or list is answered as such, an unreadable
 -- one as 18; read alone, its own Struct or list is level 1."
-use Rattle.std.specs.Prelude.{ℕ, List, length, eqb}
+use Rattle.std.specs.Prelude.{ℕ, List, length, eqb, Ok, Err}
 use Rattle.std.specs.Float.{binary64}
 use Rattle.std.specs.Float.Ieee.{of_bits}
 use Rattle.wire.specs.declared.Kind.TheVariants.{Other}
 use Rattle.wire.specs.declared.Field.{Field}
-use Rattle.wire.specs.declared.Reading.{Reading}
-use Rattle.wire.specs.declared.Reading.TheVariants.{Read, Refused}
-use Rattle.wire.specs.Fields.{field_at}
+use Rattle.wire.specs.Fields.{Reading, field_at}
 use Rattle.double.specs.Double.{bits_at}
-use Rattle.params.specs.declared.Check.{Check}
-use Rattle.params.specs.declared.Check.TheVariants.{Good, Refused as Check-as-Refused}
-use Rattle.params.specs.Message.{fault_number, place_of}
+use Rattle.params.specs.Message.{Check, fault_number, place_of}
 use Rattle.params.specs.Rules.{by_kind, alone_check}
 use Rattle.terms.specs.declared.Value.{Value}
 use Rattle.terms.specs.declared.Value.TheVariants.{Null, Number, Text, Boolean, Struct, List as Value-as-List, Unreadable}
@@ -29,16 +25,16 @@ held_by s field =
     (Unreadable (record { kind = Other; at = field.tag }))
 
 abbrev pub from_reading : List ℕ → Reading → Value
-from_reading s (Read field) = held_by s field
-from_reading s (Refused why) = Unreadable why
+from_reading s (Ok field) = held_by s field
+from_reading s (Err why) = Unreadable why
 
 -- what the one field of the Value from `from` to `to` holds
 unfoldable pub value_at : List ℕ → ℕ → ℕ → Value
 value_at s from to = from_reading s (field_at s from to)
 
 abbrev pub if_good : Check → Value → Value
-if_good Good value = value
-if_good (Check-as-Refused why) value = Unreadable why
+if_good (Ok passed) value = value
+if_good (Err why) value = Unreadable why
 
 -- a Value read alone
 unfoldable pub value_of : List ℕ → Value

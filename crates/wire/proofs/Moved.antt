@@ -1,4 +1,5 @@
 -- A message that is read alone, as a part, has the same fields as where it stands, each moved to there. Assumes nothing.
+use Rattle.std.specs.Prelude.{Ok, Err}
 use Prim.Native.Nat.{ℕ, zero, suc, ◌+◌, ◌-◌, ◌/◌, ◌%◌, ◌^◌, ◌≤◌}
 use mathlib.Core.Path.{◌≡◌, refl, ap, ◌∙◌}
 use mathlib.Core.List.{List, [], ◌∷◌, map}
@@ -10,19 +11,15 @@ use native.Mathlib.Omega.{arith}
 use borrow.Author.Tests.{le-ltb, lt-ltb, ltb-true, ltb-false}
 use Rattle.bytes_be.specs.Part.{part}
 use Rattle.bytes_be.proofs.Parts.{length_part, get_d_part}
-use Rattle.wire.specs.declared.Varint.{Varint}
-use Rattle.wire.specs.declared.Varint.TheVariants.{Number, CutShort, Bad}
+use Rattle.wire.specs.declared.Kind.TheVariants.{CutShort, BadVarint}
 use Rattle.wire.specs.declared.Field.{Field}
-use Rattle.wire.specs.declared.Reading.{Reading}
-use Rattle.wire.specs.declared.Reading.TheVariants.{Read, Refused}
-use Rattle.wire.specs.Varint.{below, bounded, said_at, varint_at}
-use Rattle.wire.specs.Fields.{on_varint, sized, numbered, payload_at, tagged, field_at, and_behind, fields_within, fields_of}
+use Rattle.wire.specs.Varint.{Said, varint_of, below, bounded, said_at, varint_at}
+use Rattle.wire.specs.Fields.{Reading, on_varint, sized, numbered, payload_at, tagged, field_at, and_behind, fields_within, fields_of}
 
 -- everything moved by so many places
-abbrev varint_by : ℕ → Varint → Varint
-varint_by n (Number value next) = Number value (n + next)
-varint_by n CutShort = CutShort
-varint_by n Bad = Bad
+abbrev varint_by : ℕ → Said → Said
+varint_by n (Ok varint) = varint_of varint.value (n + varint.next)
+varint_by n (Err kind) = Err kind
 
 abbrev pub field_by : ℕ → Field → Field
 field_by n field =
@@ -36,8 +33,8 @@ field_by n field =
     }
 
 abbrev pub reading_by : ℕ → Reading → Reading
-reading_by n (Read field) = Read (field_by n field)
-reading_by n (Refused why) = Refused (record { kind = why.kind; at = n + why.at })
+reading_by n (Ok field) = Ok (field_by n field)
+reading_by n (Err why) = Err (record { kind = why.kind; at = n + why.at })
 
 ltb_by : (n i j : ℕ) → ltb (n + i) (n + j) ≡ ltb i j
 ltb_by n i j = go (ltb i j) refl
@@ -46,29 +43,26 @@ ltb_by n i j = go (ltb i j) refl
     go true e = let h = ltb-true i j e in lt-ltb (n + i) (n + j) (omega arith)
     go false e = let h = ltb-false i j e in le-ltb (n + i) (n + j) (omega arith)
 
-below_by : (n byte : ℕ) (w : Varint) → below byte (varint_by n w) ≡ varint_by n (below byte w)
-below_by n byte (Number value next) = refl
-below_by n byte CutShort = refl
-below_by n byte Bad = refl
+below_by : (n byte : ℕ) (w : Said) → below byte (varint_by n w) ≡ varint_by n (below byte w)
+below_by n byte (Ok varint) = refl
+below_by n byte (Err kind) = refl
 
-bounded_by : (n : ℕ) (w : Varint) → bounded (varint_by n w) ≡ varint_by n (bounded w)
-bounded_by n (Number value next) = go (ltb value (2 ^ 64))
+bounded_by : (n : ℕ) (w : Said) → bounded (varint_by n w) ≡ varint_by n (bounded w)
+bounded_by n (Ok varint) = go (ltb varint.value (2 ^ 64))
   where
-    go : (t : Bool) → cond t (Number value (n + next)) Bad ≡ varint_by n (cond t (Number value next) Bad)
+    go : (t : Bool) → cond t (varint_by n (Ok varint)) (Err BadVarint) ≡ varint_by n (cond t (Ok varint) (Err BadVarint))
     go true = refl
     go false = refl
-bounded_by n CutShort = refl
-bounded_by n Bad = refl
+bounded_by n (Err kind) = refl
 
 cond_by : (n : ℕ) (t : Bool) {x y : Reading} (x' y' : Reading) → x ≡ reading_by n x' → y ≡ reading_by n y' → cond t x y ≡ reading_by n (cond t x' y')
 cond_by n true x' y' p q = p
 cond_by n false x' y' p q = q
 
-on_varint_by : (n tag : ℕ) (then then' : ℕ → ℕ → Reading) (w : Varint) → ((v x : ℕ) → w ≡ Number v x → then v (n + x) ≡ reading_by n (then' v x))
+on_varint_by : (n tag : ℕ) (then then' : ℕ → ℕ → Reading) (w : Said) → ((v x : ℕ) → w ≡ varint_of v x → then v (n + x) ≡ reading_by n (then' v x))
     → on_varint (n + tag) then (varint_by n w) ≡ reading_by n (on_varint tag then' w)
-on_varint_by n tag then then' (Number v x) f = f v x refl
-on_varint_by n tag then then' CutShort f = refl
-on_varint_by n tag then then' Bad f = refl
+on_varint_by n tag then then' (Ok varint) f = f varint.value varint.next refl
+on_varint_by n tag then then' (Err kind) f = refl
 
 sized_by : (n tag number wire at end size : ℕ) → sized (n + tag) number wire (n + at) (n + end) size ≡ reading_by n (sized tag number wire at end size)
 sized_by n tag number wire at end size =
@@ -82,16 +76,16 @@ module _ (s : List ℕ) (n size : ℕ) (there : n + size ≤ length s) where
   said_by (suc left) i j h = rw (ltb_by n i j) (go (ltb i j) refl (said_by left (i + 1) j h))
     where
       go : (t : Bool) → ltb i j ≡ t → said_at left s (n + (i + 1)) (n + j) ≡ varint_by n (said_at left (part s n size) (i + 1) j)
-          → cond t (cond (ltb (get_or s (n + i) 0) 128) (Number (get_or s (n + i) 0) (n + i + 1)) (below (get_or s (n + i) 0) (said_at left s (n + i + 1) (n + j)))) CutShort
-          ≡ varint_by n (cond t (cond (ltb (get_or (part s n size) i 0) 128) (Number (get_or (part s n size) i 0) (i + 1)) (below (get_or (part s n size) i 0) (said_at left (part s n size) (i + 1) j))) CutShort)
+          → cond t (cond (ltb (get_or s (n + i) 0) 128) (varint_of (get_or s (n + i) 0) (n + i + 1)) (below (get_or s (n + i) 0) (said_at left s (n + i + 1) (n + j)))) (Err CutShort)
+          ≡ varint_by n (cond t (cond (ltb (get_or (part s n size) i 0) 128) (varint_of (get_or (part s n size) i 0) (i + 1)) (below (get_or (part s n size) i 0) (said_at left (part s n size) (i + 1) j))) (Err CutShort))
       go false e behind = refl
       go true e behind =
           let inside = ltb-true i j e in
           rw (get_d_part s n size i 0 (omega arith), add_assoc n i 1, behind) (last (ltb (get_or s (n + i) 0) 128))
         where
           last : (t : Bool)
-              → cond t (Number (get_or s (n + i) 0) (n + (i + 1))) (below (get_or s (n + i) 0) (varint_by n (said_at left (part s n size) (i + 1) j)))
-              ≡ varint_by n (cond t (Number (get_or s (n + i) 0) (i + 1)) (below (get_or s (n + i) 0) (said_at left (part s n size) (i + 1) j)))
+              → cond t (varint_of (get_or s (n + i) 0) (n + (i + 1))) (below (get_or s (n + i) 0) (varint_by n (said_at left (part s n size) (i + 1) j)))
+              ≡ varint_by n (cond t (varint_of (get_or s (n + i) 0) (i + 1)) (below (get_or s (n + i) 0) (said_at left (part s n size) (i + 1) j)))
           last true = refl
           last false = below_by n (get_or s (n + i) 0) (said_at left (part s n size) (i + 1) j)
 
@@ -126,8 +120,8 @@ module _ (s : List ℕ) (n size : ℕ) (there : n + size ≤ length s) where
       go : (t : Bool) (r : Reading) → ((next : ℕ) → fields_within left s (n + end) (n + next) ≡ map (reading_by n) (fields_within left (part s n size) end next))
           → cond t (and_behind (fields_within left s (n + end)) (reading_by n r)) [] ≡ map (reading_by n) (cond t (and_behind (fields_within left (part s n size) end) r) [])
       go false r behind = refl
-      go true (Refused why) behind = refl
-      go true (Read field) behind = ap (λ (l : List Reading). Read (field_by n field) ∷ l) (behind field.next)
+      go true (Err why) behind = refl
+      go true (Ok field) behind = ap (λ (l : List Reading). Ok (field_by n field) ∷ l) (behind field.next)
 
   -- the fields of the message where it stands
   pub fields_by : (from to : ℕ) → to ≤ size → fields_of s (n + from) (n + to) ≡ map (reading_by n) (fields_of (part s n size) from to)

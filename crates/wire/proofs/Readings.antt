@@ -1,4 +1,5 @@
 -- The cases of a field, that it lies within its message, and the fields of a message one after the other. Assumes nothing.
+use Rattle.std.specs.Prelude.{Result, Ok, Err}
 use Prim.Native.Nat.{ℕ, zero, suc, ◌+◌, ◌-◌, ◌/◌, ◌%◌, ◌≤◌, ◌<◌}
 use mathlib.Core.Path.{◌≡◌, refl, sym, ap, ◌∙◌, subst}
 use mathlib.Core.List.{List, [], ◌∷◌}
@@ -8,32 +9,42 @@ use lib.Dec.{ltb, leb, eqb}
 use native.Mathlib.Numerals.{sub-one}
 use native.Mathlib.Omega.{arith}
 use borrow.Author.Tests.{le-ltb, lt-ltb, ne_eqb, ltb-false, leb-true}
-use Rattle.bytes_be.proofs.Tests.{both_true}
-use Rattle.wire.specs.declared.Kind.TheVariants.{CutShort as Kind-as-CutShort, BadVarint, WireType}
+use Rattle.bytes_be.proofs.Tests.{both_true, clash}
+use Rattle.wire.specs.declared.Kind.{Kind}
+use Rattle.wire.specs.declared.Kind.TheVariants.{CutShort, WireType}
 use Rattle.wire.specs.declared.Varint.{Varint}
-use Rattle.wire.specs.declared.Varint.TheVariants.{Number, CutShort, Bad}
 use Rattle.wire.specs.declared.Field.{Field}
 use Rattle.wire.specs.declared.Fault.{Fault}
-use Rattle.wire.specs.declared.Reading.{Reading}
-use Rattle.wire.specs.declared.Reading.TheVariants.{Read, Refused}
-use Rattle.wire.specs.Varint.{varint_at}
-use Rattle.wire.specs.Fields.{fault, on_varint, sized, numbered, payload_at, tagged, field_at, and_behind, fields_within, fields_of}
-use Rattle.wire.proofs.Varints.{varint_within}
+use Rattle.wire.specs.Varint.{Said, varint_of, varint_at}
+use Rattle.wire.specs.Fields.{Reading, of_field, fault, on_varint, sized, numbered, payload_at, tagged, field_at, and_behind, fields_within, fields_of}
+use Rattle.wire.proofs.Varints.{same_varint, varint_within}
 
--- what a varint that was read comes to
-module _ (tag : ℕ) (then : ℕ → ℕ → Reading) (r w : Varint) (is : r ≡ w) where
-  pub on_read : (value next : ℕ) → r ≡ Number value next → then value next ≡ on_varint tag then w
-  on_read value next q = rw (← is, q)
+-- what follows a varint of a field, by what came of it
+module _ (tag : ℕ) (then : ℕ → ℕ → Reading) (w : Said) (r : Result Varint Fault) (is : r ≡ of_field tag w) where
+  pub on_read : (varint : Varint) → r ≡ Ok varint → then varint.value varint.next ≡ on_varint tag then w
+  on_read varint q = go w (sym is ∙ q)
+    where
+      go : (w : Said) → of_field tag w ≡ Ok varint → then varint.value varint.next ≡ on_varint tag then w
+      go (Ok here) e = rw (same_varint e)
+      go (Err kind) e = clash cc
 
-  pub on_cut : r ≡ CutShort → fault Kind-as-CutShort tag ≡ on_varint tag then w
-  on_cut q = rw (← is, q)
-
-  pub on_bad : r ≡ Bad → fault BadVarint tag ≡ on_varint tag then w
-  on_bad q = rw (← is, q)
+  pub on_fault : (why : Fault) → r ≡ Err why → Err why ≡ on_varint tag then w
+  on_fault why q = go w (sym is ∙ q)
+    where
+      go : (w : Said) → of_field tag w ≡ Err why → Err why ≡ on_varint tag then w
+      go (Ok here) e = clash cc
+      go (Err kind) e = cc
 
 -- a varint's end, from the call that read it
-pub read_within : (s : List ℕ) (at end : ℕ) (r : Varint) (value next : ℕ) → r ≡ varint_at s at end → r ≡ Number value next → (at < next) × (next ≤ end)
-read_within s at end r value next p q = varint_within s at end value next (sym p ∙ q)
+pub read_within : (s : List ℕ) (tag at end : ℕ) (r : Result Varint Fault) (varint : Varint) → r ≡ of_field tag (varint_at s at end) → r ≡ Ok varint → (at < varint.next) × (varint.next ≤ end)
+read_within s tag at end r varint p q = go (varint_at s at end) refl (sym p ∙ q)
+  where
+    go : (w : Said) → varint_at s at end ≡ w → of_field tag w ≡ Ok varint → (at < varint.next) × (varint.next ≤ end)
+    go (Ok here) e f = varint_within s at end varint.value varint.next (e ∙ f')
+      where
+        f' : Ok here ≡ varint_of varint.value varint.next
+        f' = cc
+    go (Err kind) e f = clash cc
 
 -- a payload by its wire type
 module _ (s : List ℕ) (tag number wire at end : ℕ) {r : Reading} where
@@ -59,7 +70,7 @@ module _ (s : List ℕ) (tag number wire at end : ℕ) {r : Reading} where
 
 -- a field by its tag
 module _ (s : List ℕ) (at end : ℕ) {r : Reading} where
-  pub field_behind : length s < end → r ≡ fault Kind-as-CutShort at → r ≡ field_at s at end
+  pub field_behind : length s < end → r ≡ fault CutShort at → r ≡ field_at s at end
   unfolding field_at
   field_behind h q = simp (lt-ltb (length s) end h) q
 
@@ -79,18 +90,17 @@ pub record Within (s : List ℕ) (at end : ℕ) (field : Field) : Type 0 where
   pub there : end ≤ length s
 
 abbrev Lies : List ℕ → ℕ → ℕ → Reading → Type 0
-Lies s at end (Read field) = Within s at end field
-Lies s at end (Refused fault) = Unit {0}
+Lies s at end (Ok field) = Within s at end field
+Lies s at end (Err fault) = Unit {0}
 
 by_cond : (P : Reading → Type 0) (b : Bool) (x y : Reading) → (b ≡ true → P x) → (b ≡ false → P y) → P (cond b x y)
 by_cond P true x y f g = f refl
 by_cond P false x y f g = g refl
 
-by_varint : (P : Reading → Type 0) (tag : ℕ) (then : ℕ → ℕ → Reading) (w : Varint) → ((v n : ℕ) → w ≡ Number v n → P (then v n))
-    → P (fault Kind-as-CutShort tag) → P (fault BadVarint tag) → P (on_varint tag then w)
-by_varint P tag then (Number v n) f g h = f v n refl
-by_varint P tag then CutShort f g h = g
-by_varint P tag then Bad f g h = h
+by_varint : (P : Reading → Type 0) (tag : ℕ) (then : ℕ → ℕ → Reading) (w : Said) → ((v n : ℕ) → w ≡ varint_of v n → P (then v n))
+    → ((kind : Kind) → P (fault kind tag)) → P (on_varint tag then w)
+by_varint P tag then (Ok varint) f g = f varint.value varint.next refl
+by_varint P tag then (Err kind) f g = g kind
 
 module _ (s : List ℕ) (tag end : ℕ) (there : end ≤ length s) where
   sized_lies : (number wire at size : ℕ) → 0 < number → tag < at → at ≤ end → Lies s tag end (sized tag number wire at end size)
@@ -115,10 +125,10 @@ module _ (s : List ℕ) (tag end : ℕ) (there : end ≤ length s) where
         ends = omega arith;
         inside = k.1;
         there = there;
-      }) tt tt)
+      }) (λ _. tt))
       (λ _. by_cond (Lies s tag end) (eqb wire 1) _ _ (λ _. sized_lies number 1 at 8 some h l)
       (λ _. by_cond (Lies s tag end) (eqb wire 2) _ _
-      (λ _. by_varint (Lies s tag end) tag (λ size from. sized tag number 2 from end size) (varint_at s at end) (λ v n q. let k = varint_within s at end v n q in sized_lies number 2 n v some (omega arith) k.1) tt tt)
+      (λ _. by_varint (Lies s tag end) tag (λ size from. sized tag number 2 from end size) (varint_at s at end) (λ v n q. let k = varint_within s at end v n q in sized_lies number 2 n v some (omega arith) k.1) (λ _. tt))
       (λ _. by_cond (Lies s tag end) (eqb wire 5) _ _ (λ _. sized_lies number 5 at 4 some h l) (λ _. tt))))
 
 field_lies : (s : List ℕ) (at end : ℕ) → Lies s at end (field_at s at end)
@@ -127,9 +137,9 @@ field_lies s at end =
     by_cond (Lies s at end) (ltb (length s) end) _ _ (λ _. tt)
     (λ p. let there = ltb-false (length s) end p in
     by_varint (Lies s at end) at (tagged s at end) (varint_at s at end) (λ v n q. let k = varint_within s at end v n q in
-    by_cond (Lies s at end) (leb 8 v && leb v 0xFFFF_FFFF) _ _ (λ t. let legal = leb-true 8 v (both_true (leb 8 v) (leb v 0xFFFF_FFFF) t).0 in payload_lies s at end there (v / 8) (v % 8) n (omega arith) k.0 k.1) (λ _. tt)) tt tt)
+    by_cond (Lies s at end) (leb 8 v && leb v 0xFFFF_FFFF) _ _ (λ t. let legal = leb-true 8 v (both_true (leb 8 v) (leb v 0xFFFF_FFFF) t).0 in payload_lies s at end there (v / 8) (v % 8) n (omega arith) k.0 k.1) (λ _. tt)) (λ _. tt))
 
-pub field_within : (s : List ℕ) (at end : ℕ) (field : Field) → field_at s at end ≡ Read field → Within s at end field
+pub field_within : (s : List ℕ) (at end : ℕ) (field : Field) → field_at s at end ≡ Ok field → Within s at end field
 field_within s at end field e = subst (Lies s at end) e (field_lies s at end)
 
 -- ---- the fields of a message, one after the other
@@ -146,10 +156,10 @@ enough (suc left) (suc more) s end at h k =
   where
     go : (r : Reading) → field_at s at end ≡ r → ((next : ℕ) → at < next → fields_within left s end next ≡ fields_within more s end next)
         → and_behind (fields_within left s end) r ≡ and_behind (fields_within more s end) r
-    go (Refused f) e behind = refl
-    go (Read f) e behind =
+    go (Err f) e behind = refl
+    go (Ok f) e behind =
         let w = field_within s at end f e in let a = w.behind in let b = w.ends in
-        ap (λ (l : List Reading). Read f ∷ l) (behind f.next (omega arith))
+        ap (λ (l : List Reading). Ok f ∷ l) (behind f.next (omega arith))
 
 pub no_fields : (s : List ℕ) (at end : ℕ) → end ≤ at → fields_of s at end ≡ []
 unfolding fields_of fields_within
@@ -168,18 +178,18 @@ module _ (s : List ℕ) (at end : ℕ) (inside : at < end) (r : Reading) (is : r
       go zero e = absurd (omega arith)
       go (suc n) e = rw (lt-ltb at end inside, ← is, sub-one)
 
-  pub first_field : (field : Field) → r ≡ Read field → fields_of s at end ≡ Read field ∷ fields_of s field.next end
+  pub first_field : (field : Field) → r ≡ Ok field → fields_of s at end ≡ Ok field ∷ fields_of s field.next end
   unfolding fields_of
   first_field field e =
       let w = field_within s at end field (sym is ∙ e) in
       let a = w.behind in let b = w.ends in let i = w.inside in
-      some_fields ∙ ap (and_behind (λ next. fields_within (end - at - 1) s end next)) e ∙ ap (λ (l : List Reading). Read field ∷ l) (enough (end - at - 1) (end - field.next) s end field.next (omega arith) (omega arith))
+      some_fields ∙ ap (and_behind (λ next. fields_within (end - at - 1) s end next)) e ∙ ap (λ (l : List Reading). Ok field ∷ l) (enough (end - at - 1) (end - field.next) s end field.next (omega arith) (omega arith))
 
-  pub first_fault : (why : Fault) → r ≡ Refused why → fields_of s at end ≡ Refused why ∷ []
+  pub first_fault : (why : Fault) → r ≡ Err why → fields_of s at end ≡ Err why ∷ []
   first_fault why e = some_fields ∙ ap (and_behind (λ next. fields_within (end - at - 1) s end next)) e
 
 -- behind a field that was read less of its message is left
-pub less_left : (s : List ℕ) (at end : ℕ) (r : Reading) (field : Field) → r ≡ field_at s at end → r ≡ Read field → at < end → end - field.next < end - at
+pub less_left : (s : List ℕ) (at end : ℕ) (r : Reading) (field : Field) → r ≡ field_at s at end → r ≡ Ok field → at < end → end - field.next < end - at
 less_left s at end r field is e more =
     let w = field_within s at end field (sym is ∙ e) in
     let b = w.behind in let l = w.ends in let i = w.inside in

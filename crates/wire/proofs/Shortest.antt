@@ -8,8 +8,9 @@ use lib.Dec.{ltb}
 use native.Mathlib.Numerals.{add-one}
 use native.Mathlib.Omega.{arith}
 use borrow.Author.Tests.{le-ltb, lt-ltb, ltb-true, ltb-false}
-use Rattle.wire.specs.declared.Varint.TheVariants.{Number, CutShort}
-use Rattle.wire.specs.Varint.{below, bounded, said_at, varint_at, shortest_within, shortest_of, varint_length}
+use Rattle.std.specs.Prelude.{Err}
+use Rattle.wire.specs.declared.Kind.TheVariants.{CutShort}
+use Rattle.wire.specs.Varint.{varint_of, below, bounded, said_at, varint_at, shortest_within, shortest_of, varint_length}
 
 -- the lowest seven bits, marked where higher ones follow, and so many of such digits
 abbrev digit_of : ℕ → ℕ
@@ -92,7 +93,7 @@ head_of [] (suc at) x l e = let z = ap length e in absurd (omega arith)
 head_of (y ∷ s) (suc at) x l e = head_of s at x l e
 
 said_back : (left number : ℕ) (s : List ℕ) (at end : ℕ) (rest : List ℕ) → 0 < left → number < 128 ^ left → drop at s ≡ shortest_within left number ++ rest
-    → at + length (shortest_within left number) ≤ end → said_at left s at end ≡ Number number (at + length (shortest_within left number))
+    → at + length (shortest_within left number) ≤ end → said_at left s at end ≡ varint_of number (at + length (shortest_within left number))
 unfolding shortest_within said_at
 said_back zero number s at end rest some h e room = absurd (omega arith)
 said_back (suc left) number s at end rest some h e room =
@@ -103,9 +104,9 @@ said_back (suc left) number s at end rest some h e room =
         → drop at s ≡ cond t (number ∷ []) ((number % 128 + 128) ∷ shortest_within left (number / 128)) ++ rest
         → at + length (cond t (number ∷ []) ((number % 128 + 128) ∷ shortest_within left (number / 128))) ≤ end
         → (0 < left → number / 128 < 128 ^ left → drop (at + 1) s ≡ shortest_within left (number / 128) ++ rest → at + 1 + length (shortest_within left (number / 128)) ≤ end
-        → said_at left s (at + 1) end ≡ Number (number / 128) (at + 1 + length (shortest_within left (number / 128))))
-        → cond (ltb at end) (cond (ltb (get_or s at 0) 128) (Number (get_or s at 0) (at + 1)) (below (get_or s at 0) (said_at left s (at + 1) end))) CutShort
-        ≡ Number number (at + length (cond t (number ∷ []) ((number % 128 + 128) ∷ shortest_within left (number / 128))))
+        → said_at left s (at + 1) end ≡ varint_of (number / 128) (at + 1 + length (shortest_within left (number / 128))))
+        → cond (ltb at end) (cond (ltb (get_or s at 0) 128) (varint_of (get_or s at 0) (at + 1)) (below (get_or s at 0) (said_at left s (at + 1) end))) (Err CutShort)
+        ≡ varint_of number (at + length (cond t (number ∷ []) ((number % 128 + 128) ∷ shortest_within left (number / 128))))
     go true p e room behind =
         let first = head_of s at number rest e in
         let small = ltb-true number 128 p in
@@ -125,7 +126,7 @@ said_back (suc left) number s at end rest some h e room =
 
 -- the shortest varint of a number, wherever it stands and whatever follows, is read as that number
 pub varint_back : (number : ℕ) (s : List ℕ) (at end : ℕ) (rest : List ℕ) → number < 2 ^ 64 → drop at s ≡ shortest_of number ++ rest → at + varint_length number ≤ end
-    → varint_at s at end ≡ Number number (at + varint_length number)
+    → varint_at s at end ≡ varint_of number (at + varint_length number)
 unfolding varint_at varint_length shortest_of
 varint_back number s at end rest h e room =
     ap bounded (said_back 10 number s at end rest (omega arith) (omega arith) e room) ∙ simp (lt-ltb number (2 ^ 64) h)

@@ -1,4 +1,5 @@
 -- A field that was written is read back, wherever it stands and whatever follows. Assumes nothing.
+use Rattle.std.specs.Prelude.{Ok}
 use Prim.Native.Nat.{ℕ, ◌+◌, ◌-◌, ◌*◌, ◌/◌, ◌%◌, ◌^◌, ◌≤◌, ◌<◌}
 use mathlib.Core.Path.{◌≡◌, refl, sym, ap, ◌∙◌}
 use mathlib.Core.List.{List, [], ◌∷◌, ◌++◌, append_assoc}
@@ -8,7 +9,6 @@ use borrow.Author.Tests.{le-ltb, lt-ltb, le-leb}
 use Rattle.bytes_be.specs.Part.{part, between}
 use Rattle.bytes_be.proofs.Parts.{part_there, drop_past}
 use Rattle.wire.specs.declared.Field.{Field}
-use Rattle.wire.specs.declared.Reading.TheVariants.{Read}
 use Rattle.wire.specs.Varint.{shortest_within, shortest_of, varint_length}
 use Rattle.wire.specs.Fields.{payload_at, field_at, fields_of}
 use Rattle.wire.specs.Written.{tag_of, varint_field, eight_field, bytes_field}
@@ -106,15 +106,15 @@ module _ (s : List ℕ) (at end : ℕ) (there : end ≤ length s) where
       )
 
   -- a field that is read is the first of the message from there on
-  field_first : (field : Field) → field_at s at end ≡ Read field → fields_of s at end ≡ Read field ∷ fields_of s field.next end
+  field_first : (field : Field) → field_at s at end ≡ Ok field → fields_of s at end ≡ Ok field ∷ fields_of s field.next end
   field_first field e =
       let w = field_within s at end field e in
       let b = w.behind in let l = w.ends in let i = w.inside in
-      first_field s at end (omega arith) (Read field) (sym e) field refl
+      first_field s at end (omega arith) (Ok field) (sym e) field refl
 
   pub varint_first : (number value : ℕ) (rest : List ℕ) → Numbers number → value < 2 ^ 64 → drop at s ≡ varint_field number value ++ rest
       → at + length (varint_field number value) ≤ end
-      → fields_of s at end ≡ Read (varint_field_at at number value) ∷ fields_of s (at + length (varint_field number value)) end
+      → fields_of s at end ≡ Ok (varint_field_at at number value) ∷ fields_of s (at + length (varint_field number value)) end
   unfolding varint_field payload_at varint_length
   varint_first number value rest n small e room =
       let ends = varint_ends at number value in
@@ -126,7 +126,7 @@ module _ (s : List ℕ) (at end : ℕ) (there : end ≤ length s) where
 
   pub eight_first : (number : ℕ) (eight rest : List ℕ) → Numbers number → length eight ≡ 8 → drop at s ≡ eight_field number eight ++ rest
       → at + length (eight_field number eight) ≤ end
-      → fields_of s at end ≡ Read (eight_field_at at number eight) ∷ fields_of s (at + length (eight_field number eight)) end
+      → fields_of s at end ≡ Ok (eight_field_at at number eight) ∷ fields_of s (at + length (eight_field number eight)) end
   unfolding eight_field payload_at
   eight_first number eight rest n e8 e room =
       let ends = eight_ends at number eight e8 in
@@ -136,7 +136,7 @@ module _ (s : List ℕ) (at end : ℕ) (there : end ≤ length s) where
 
   -- a field of bytes, these as its payload, and what follows it
   pub record Stands (number : ℕ) (bytes rest : List ℕ) : Type 0 where
-    pub first : fields_of s at end ≡ Read (bytes_field_at at number bytes) ∷ fields_of s (at + length (bytes_field number bytes)) end
+    pub first : fields_of s at end ≡ Ok (bytes_field_at at number bytes) ∷ fields_of s (at + length (bytes_field number bytes)) end
     pub payload : drop (bytes_field_at at number bytes).at s ≡ bytes ++ rest
     pub ends : (bytes_field_at at number bytes).at + length bytes ≡ (bytes_field_at at number bytes).next
     pub whole : between s (bytes_field_at at number bytes).at (bytes_field_at at number bytes).next ≡ bytes

@@ -1,33 +1,44 @@
 -- "field 0, tags above 2^32-1, other wire types, a varint over 10 bytes or above 2^64-1, .. a length past the end": what is refused at a
 -- field of any message, with the place of its tag.
-use Rattle.std.specs.Prelude.{ℕ, zero, suc, ◌+◌, ◌-◌, ◌/◌, ◌%◌, List, [], ◌∷◌, cond, ◌&&◌, length, ltb, leb, eqb}
+use Rattle.std.specs.Prelude.{ℕ, zero, suc, ◌+◌, ◌-◌, ◌/◌, ◌%◌, List, [], ◌∷◌, cond, ◌&&◌, length, ltb, leb, eqb, Result, Ok, Err}
 use Rattle.wire.specs.declared.Kind.{Kind}
-use Rattle.wire.specs.declared.Kind.TheVariants.{CutShort as Kind-as-CutShort, BadVarint, WireType}
+use Rattle.wire.specs.declared.Kind.TheVariants.{CutShort, BadVarint, WireType}
 use Rattle.wire.specs.declared.Varint.{Varint}
-use Rattle.wire.specs.declared.Varint.TheVariants.{Number, CutShort, Bad}
-use Rattle.wire.specs.declared.Reading.{Reading}
-use Rattle.wire.specs.declared.Reading.TheVariants.{Read, Refused}
-use Rattle.wire.specs.Varint.{varint_at}
+use Rattle.wire.specs.declared.Field.{Field}
+use Rattle.wire.specs.declared.Fault.{Fault}
+use Rattle.wire.specs.Varint.{Said, varint_at}
+
+-- a field, or why and where it cannot be read
+abbrev pub Reading : Type 0
+Reading = Result Field Fault
+
+-- "refused as 18", whatever the fault
+abbrev pub fault_number : Fault → ℕ
+fault_number why = 18
 
 abbrev pub fault : Kind → ℕ → Reading
-fault kind at = Refused (record { kind = kind; at = at })
+fault kind at = Err (record { kind = kind; at = at })
+
+-- a varint of the field whose tag is at `tag`, or the fault of that field
+abbrev pub of_field : ℕ → Said → Result Varint Fault
+of_field tag (Ok varint) = Ok varint
+of_field tag (Err kind) = Err (record { kind = kind; at = tag })
 
 -- what follows a varint that was read, or the fault of the field whose tag is at `tag`
-abbrev pub on_varint : ℕ → (ℕ → ℕ → Reading) → Varint → Reading
-on_varint tag then (Number value next) = then value next
-on_varint tag then CutShort = fault Kind-as-CutShort tag
-on_varint tag then Bad = fault BadVarint tag
+abbrev pub on_varint : ℕ → (ℕ → ℕ → Reading) → Said → Reading
+on_varint tag then (Ok varint) = then varint.value varint.next
+on_varint tag then (Err kind) = fault kind tag
 
 -- "a length past the end": of the message that holds the field
 abbrev pub sized : ℕ → ℕ → ℕ → ℕ → ℕ → ℕ → Reading
 sized tag number wire at end size =
     cond (ltb (end - at) size)
-    (fault Kind-as-CutShort tag)
-    (Read (record { tag = tag; number = number; wire = wire; value = 0; at = at; next = at + size }))
+    (fault CutShort tag)
+    (Ok (record { tag = tag; number = number; wire = wire; value = 0; at = at; next = at + size }))
 
 abbrev pub numbered : ℕ → ℕ → ℕ → ℕ → ℕ → Reading
 numbered tag number at value next =
-    Read (record { tag = tag; number = number; wire = 0; value = value; at = at; next = next })
+    Ok (record { tag = tag; number = number; wire = 0; value = value; at = at; next = next })
 
 -- wire types 0 (a varint), 1 (eight bytes), 2 (a length and so many bytes) and 5 (four bytes); "other wire types"
 unfoldable pub payload_at : List ℕ → ℕ → ℕ → ℕ → ℕ → ℕ → Reading
@@ -46,12 +57,12 @@ tagged s tag end value next =
 -- the field whose tag is at place `at` of a message that ends at `end`; one that ends behind the bytes is cut short
 unfoldable pub field_at : List ℕ → ℕ → ℕ → Reading
 field_at s at end =
-    cond (ltb (length s) end) (fault Kind-as-CutShort at) (on_varint at (tagged s at end) (varint_at s at end))
+    cond (ltb (length s) end) (fault CutShort at) (on_varint at (tagged s at end) (varint_at s at end))
 
 -- the field, and those behind it
 abbrev pub and_behind : (ℕ → List Reading) → Reading → List Reading
-and_behind behind (Read field) = Read field ∷ behind field.next
-and_behind behind (Refused fault) = Refused fault ∷ []
+and_behind behind (Ok field) = Ok field ∷ behind field.next
+and_behind behind (Err fault) = Err fault ∷ []
 
 -- the fields of a message from place `at` on, in order, up to the first that cannot be read; at most so many
 unfoldable pub fields_within : ℕ → List ℕ → ℕ → ℕ → List Reading

@@ -1,33 +1,40 @@
 -- "a varint over 10 bytes or above 2^64-1" is refused; "Long-form varints are read"; an OPEN frame that is sent has "shortest varints".
-use Rattle.std.specs.Prelude.{ℕ, zero, suc, ◌+◌, ◌*◌, ◌/◌, ◌%◌, ◌^◌, List, [], ◌∷◌, cond, length, get_or, ltb}
+use Rattle.std.specs.Prelude.{ℕ, zero, suc, ◌+◌, ◌*◌, ◌/◌, ◌%◌, ◌^◌, List, [], ◌∷◌, cond, length, get_or, ltb, Result, Ok, Err}
+use Rattle.wire.specs.declared.Kind.{Kind}
+use Rattle.wire.specs.declared.Kind.TheVariants.{CutShort, BadVarint}
 use Rattle.wire.specs.declared.Varint.{Varint}
-use Rattle.wire.specs.declared.Varint.TheVariants.{Number, CutShort, Bad}
+
+-- what bytes say as a varint, or why they say none
+abbrev pub Said : Type 0
+Said = Result Varint Kind
+
+-- a number, and the place behind its bytes
+abbrev pub varint_of : ℕ → ℕ → Said
+varint_of value next = Ok (record { value = value; next = next })
 
 -- a byte's seven bits below what the bytes behind it say
-abbrev pub below : ℕ → Varint → Varint
-below byte (Number value next) = Number (value * 128 + byte % 128) next
-below byte CutShort = CutShort
-below byte Bad = Bad
+abbrev pub below : ℕ → Said → Said
+below byte (Ok varint) = varint_of (varint.value * 128 + byte % 128) varint.next
+below byte (Err kind) = Err kind
 
 -- what the bytes at a place say, seven bits a byte and the lowest first: every byte but the last is 128 or more, and there are at most
 -- `left`; the message ends at `end`
-unfoldable pub said_at : ℕ → List ℕ → ℕ → ℕ → Varint
-said_at zero s at end = Bad
+unfoldable pub said_at : ℕ → List ℕ → ℕ → ℕ → Said
+said_at zero s at end = Err BadVarint
 said_at (suc left) s at end =
     cond (ltb at end)
     (cond (ltb (get_or s at 0) 128)
-    (Number (get_or s at 0) (at + 1))
+    (varint_of (get_or s at 0) (at + 1))
     (below (get_or s at 0) (said_at left s (at + 1) end)))
-    CutShort
+    (Err CutShort)
 
 -- "above 2^64-1"
-abbrev pub bounded : Varint → Varint
-bounded (Number value next) = cond (ltb value (2 ^ 64)) (Number value next) Bad
-bounded CutShort = CutShort
-bounded Bad = Bad
+abbrev pub bounded : Said → Said
+bounded (Ok varint) = cond (ltb varint.value (2 ^ 64)) (Ok varint) (Err BadVarint)
+bounded (Err kind) = Err kind
 
 -- "a varint over 10 bytes or above 2^64-1"
-unfoldable pub varint_at : List ℕ → ℕ → ℕ → Varint
+unfoldable pub varint_at : List ℕ → ℕ → ℕ → Said
 varint_at s at end = bounded (said_at 10 s at end)
 
 -- "shortest varints": seven bits a byte, the lowest first, none behind the last that is not zero; at most so many bytes

@@ -4,7 +4,9 @@
 ghost use Rattle.std.specs.Prelude.{◌≡◌, cond, ◌≤◌, ◌+◌, ◌%◌, ltb, length, take};
 ghost use Rattle.bytes_be.specs.Part.{put_at};
 ghost use Rattle.wire.specs.Varint.{bounded, said_at, varint_at, varint_length, shortest_of};
-ghost use Rattle.wire.specs.Fields.{fault, sized, payload_at, field_at};
+ghost use Rattle.wire.specs.Fields.{fault_number, of_field, sized, payload_at, field_at};
+
+use numbered::Numbered;
 
 // Why a message cannot be read.
 #[derive(Clone, Copy)]
@@ -32,12 +34,11 @@ pub struct Fault {
     pub at: usize,
 }
 
+// What a varint says, and the place behind it.
 #[derive(Clone, Copy)]
-pub enum Varint {
-    // The number, and the place behind it.
-    Number { value: u64, next: usize },
-    CutShort,
-    Bad,
+pub struct Varint {
+    pub value: u64,
+    pub next: usize,
 }
 
 #[derive(Clone, Copy)]
@@ -53,10 +54,12 @@ pub struct Field {
     pub next: usize,
 }
 
-#[derive(Clone, Copy)]
-pub enum Reading {
-    Read(Field),
-    Refused(Fault),
+impl Numbered for Fault {
+    ghost number = { fault_number };
+
+    fn number(&self) -> u8 {
+        18
+    }
 }
 
 fn wide(byte: u8) -> u64
@@ -66,128 +69,143 @@ fn wide(byte: u8) -> u64
 }
 
 // The varint at place `at` of a message that ends at `end`, where `left` bytes are the most it may have.
-fn varint_within(s: &[u8], at: usize, end: usize, left: usize) -> Varint
+fn varint_within(s: &[u8], at: usize, end: usize, left: usize) -> Result<Varint, Kind>
     requires { end ≤ length s.now }
     ensures { result ≡ bounded (said_at left s.now at end) }
 {
     if left == 0 {
-        return Varint::Bad;
+        return Err(Kind::BadVarint);
     }
     if end <= at {
-        return Varint::CutShort;
+        return Err(Kind::CutShort);
     }
     let byte = s[at];
     if byte < 128 {
-        return Varint::Number {
+        return Ok(Varint {
             value: wide(byte),
             next: at + 1,
-        };
+        });
     }
-    match varint_within(s, at + 1, end, left - 1) {
-        Varint::Number { value, next } => {
-            if value < 0x0200_0000_0000_0000 {
-                Varint::Number {
-                    value: value * 128 + wide(byte % 128),
-                    next: next,
-                }
-            } else {
-                Varint::Bad
-            }
-        }
-        Varint::CutShort => Varint::CutShort,
-        Varint::Bad => Varint::Bad,
+    let behind = varint_within(s, at + 1, end, left - 1)?;
+    if 0x0200_0000_0000_0000 <= behind.value {
+        return Err(Kind::BadVarint);
     }
+    Ok(Varint {
+        value: behind.value * 128 + wide(byte % 128),
+        next: behind.next,
+    })
 }
 
 // The varint at place `at` of a message that ends at `end`. Nearly all have one byte, and need no call.
-fn varint_at(s: &[u8], at: usize, end: usize) -> Varint
+fn varint_at(s: &[u8], at: usize, end: usize) -> Result<Varint, Kind>
     requires { end ≤ length s.now }
     ensures { result ≡ varint_at s.now at end }
 {
     if at < end {
         let byte = s[at];
         if byte < 128 {
-            return Varint::Number {
+            return Ok(Varint {
                 value: wide(byte),
                 next: at + 1,
-            };
+            });
         }
     }
     varint_within(s, at, end, 10)
 }
 
-fn fault_of(kind: Kind, at: usize) -> Reading
-    ensures { result ≡ fault kind at }
+// The same, of the field whose tag is at place `tag`.
+fn varint_of(s: &[u8], tag: usize, at: usize, end: usize) -> Result<Varint, Fault>
+    requires { end ≤ length s.now }
+    ensures { result ≡ of_field tag (varint_at s.now at end) }
 {
-    Reading::Refused(Fault { kind: kind, at: at })
+    varint_at(s, at, end).map_err(|kind| Fault { kind, at: tag })
 }
 
 // The field whose payload is the `size` bytes from place `at` on.
-fn sized_field(tag: usize, number: u64, wire: u64, at: usize, end: usize, size: u64) -> Reading
+fn sized_field(
+    tag: usize,
+    number: u64,
+    wire: u64,
+    at: usize,
+    end: usize,
+    size: u64,
+) -> Result<Field, Fault>
     requires { at ≤ end }
     ensures { result ≡ sized tag number wire at end size }
 {
     let room = (end - at) as u64;
     if room < size {
-        return fault_of(Kind::CutShort, tag);
+        return Err(Fault {
+            kind: Kind::CutShort,
+            at: tag,
+        });
     }
-    Reading::Read(Field {
-        tag: tag,
-        number: number,
-        wire: wire,
+    Ok(Field {
+        tag,
+        number,
+        wire,
         value: 0,
-        at: at,
+        at,
         next: at + size as usize,
     })
 }
 
 // The field whose tag was read, and whose payload begins at place `at`.
-fn payload_at(s: &[u8], tag: usize, number: u64, wire: u64, at: usize, end: usize) -> Reading
+fn payload_at(
+    s: &[u8],
+    tag: usize,
+    number: u64,
+    wire: u64,
+    at: usize,
+    end: usize,
+) -> Result<Field, Fault>
     requires { (at ≤ end) × (end ≤ length s.now) }
     ensures { result ≡ payload_at s.now tag number wire at end }
 {
     match wire {
-        0 => match varint_at(s, at, end) {
-            Varint::Number { value, next } => Reading::Read(Field {
-                tag: tag,
-                number: number,
+        0 => {
+            let said = varint_of(s, tag, at, end)?;
+            Ok(Field {
+                tag,
+                number,
                 wire: 0,
-                value: value,
-                at: at,
-                next: next,
-            }),
-            Varint::CutShort => fault_of(Kind::CutShort, tag),
-            Varint::Bad => fault_of(Kind::BadVarint, tag),
-        },
+                value: said.value,
+                at,
+                next: said.next,
+            })
+        }
         1 => sized_field(tag, number, 1, at, end, 8),
-        2 => match varint_at(s, at, end) {
-            Varint::Number { value, next } => sized_field(tag, number, 2, next, end, value),
-            Varint::CutShort => fault_of(Kind::CutShort, tag),
-            Varint::Bad => fault_of(Kind::BadVarint, tag),
-        },
+        2 => {
+            let size = varint_of(s, tag, at, end)?;
+            sized_field(tag, number, 2, size.next, end, size.value)
+        }
         5 => sized_field(tag, number, 5, at, end, 4),
-        _ => fault_of(Kind::WireType, tag),
+        _ => Err(Fault {
+            kind: Kind::WireType,
+            at: tag,
+        }),
     }
 }
 
-// The field whose tag is at place `at` of a message that ends at `end`.
-pub fn field_at(s: &[u8], at: usize, end: usize) -> Reading
+// The field whose tag is at place `at` of a message that ends at `end`, or why and where it cannot be read.
+pub fn field_at(s: &[u8], at: usize, end: usize) -> Result<Field, Fault>
     ensures { result ≡ field_at s.now at end }
 {
     if s.len() < end {
-        return fault_of(Kind::CutShort, at);
+        return Err(Fault {
+            kind: Kind::CutShort,
+            at,
+        });
     }
-    match varint_at(s, at, end) {
-        Varint::Number { value, next } => {
-            let legal = (8 <= value) & (value <= 0xFFFF_FFFF);
-            if legal {
-                return payload_at(s, at, value / 8, value % 8, next, end);
-            }
-            fault_of(Kind::BadVarint, at)
-        }
-        Varint::CutShort => fault_of(Kind::CutShort, at),
-        Varint::Bad => fault_of(Kind::BadVarint, at),
+    let tag = varint_of(s, at, at, end)?;
+    let legal = (8 <= tag.value) & (tag.value <= 0xFFFF_FFFF);
+    if !legal {
+        return Err(Fault {
+            kind: Kind::BadVarint,
+            at,
+        });
     }
+    payload_at(s, at, tag.value / 8, tag.value % 8, tag.next, end)
 }
 
 // A number's lowest seven bits, marked where higher ones follow.

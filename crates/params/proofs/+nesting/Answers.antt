@@ -6,30 +6,30 @@ use borrow.Author.Rules.{rules}
 use borrow.Author.Tests.{lt-ltb, le-ltb, eq-eqb, ne_eqb}
 use Rattle.wire.proofs.Readings.{field_within, less_left}
 use Rattle.params.specs.Rules.{value_field, value_check, entry_field, entry_check, item_field, items_check}
-use Rattle.params.proofs.Walks.{walk_done, walk_refused, walk_stopped, walk_on, inside_none, inside_more, stopped, passed}
+use Rattle.params.proofs.Walks.{walk_done, walk_refused, walk_stopped, walk_on, inside_none, inside_more, passed}
 use Rattle.params.proofs.+nesting.Goals as goal
 
 pub check_entry-loop-at-init : goal.check_entry-loop-at-init
 unfolding entry_check
 check_entry-loop-at-init t c = refl
 
-pub check_entry-returns-in-Refused : goal.check_entry-returns-in-Refused
-check_entry-returns-in-Refused t c = walk_refused _ _ _ _ _ _ _ _ c.loop-at.invariant c.loop-at-test.true _ c.field_at.ensures _ c.in-Refused.is
+pub check_entry-returns-in_err-field : goal.check_entry-returns-in_err-field
+check_entry-returns-in_err-field t c = let h = walk_refused _ _ _ _ _ _ _ _ c.loop-at.invariant c.loop-at-test.true _ c.field_at.ensures _ c.in_err-field.was in search rules
 
-pub check_entry-entry_field-check-requires : goal.check_entry-entry_field-check-requires
-check_entry-entry_field-check-requires t c =
-    let w = field_within _ _ _ _ (sym c.field_at.ensures ∙ c.in-Read.is) in
+pub check_entry-entry_field-requires : goal.check_entry-entry_field-requires
+check_entry-entry_field-requires t c =
+    let w = field_within _ _ _ _ (sym c.field_at.ensures ∙ c.in_ok-field.was) in
     let i = w.inside in let l = w.there in
     (search rules, (w.ends, omega arith))
 
-pub check_entry-returns-in_default : goal.check_entry-returns-in_default
-check_entry-returns-in_default t c = walk_stopped _ _ _ _ _ _ _ _ c.loop-at.invariant c.loop-at-test.true _ c.field_at.ensures _ c.in-Read.is _ c.entry_field-check.ensures _ c.in_default.is
+pub check_entry-returns-in_err-entry_field : goal.check_entry-returns-in_err-entry_field
+check_entry-returns-in_err-entry_field t c = let h = walk_stopped _ _ _ _ _ _ _ _ c.loop-at.invariant c.loop-at-test.true _ c.field_at.ensures _ c.in_ok-field.was _ c.entry_field.ensures _ c.in_err-entry_field.was in search rules
 
 pub check_entry-loop-at-smaller : goal.check_entry-loop-at-smaller
-check_entry-loop-at-smaller t c = less_left _ _ _ _ _ c.field_at.ensures c.in-Read.is c.loop-at-test.true
+check_entry-loop-at-smaller t c = less_left _ _ _ _ _ c.field_at.ensures c.in_ok-field.was c.loop-at-test.true
 
 pub check_entry-loop-at-preserved : goal.check_entry-loop-at-preserved
-check_entry-loop-at-preserved t c = walk_on _ _ _ _ _ _ _ _ c.loop-at.invariant c.loop-at-test.true _ c.field_at.ensures _ c.in-Read.is _ c.entry_field-check.ensures c.in-Good.is
+check_entry-loop-at-preserved t c = walk_on _ _ _ _ _ _ _ _ c.loop-at.invariant c.loop-at-test.true _ c.field_at.ensures _ c.in_ok-field.was _ c.entry_field.ensures c.in_ok-entry_field.was
 
 pub check_entry-returns : goal.check_entry-returns
 check_entry-returns t c = c.entry_done.ensures ∙ walk_done _ _ _ _ _ _ _ _ c.loop-at.invariant c.loop-at-test.false
@@ -38,17 +38,17 @@ pub check_items-loop-at-init : goal.check_items-loop-at-init
 unfolding items_check
 check_items-loop-at-init t c = refl
 
-pub check_items-returns-in-Refused : goal.check_items-returns-in-Refused
-check_items-returns-in-Refused t c = walk_refused _ _ _ _ _ _ _ _ c.loop-at.invariant c.loop-at-test.true _ c.field_at.ensures _ c.in-Refused.is
+pub check_items-returns-in_err-field : goal.check_items-returns-in_err-field
+check_items-returns-in_err-field t c = let h = walk_refused _ _ _ _ _ _ _ _ c.loop-at.invariant c.loop-at-test.true _ c.field_at.ensures _ c.in_err-field.was in search rules
 
-pub check_items-returns-in_default : goal.check_items-returns-in_default
-check_items-returns-in_default t c = walk_stopped _ _ _ _ _ _ _ _ c.loop-at.invariant c.loop-at-test.true _ c.field_at.ensures _ c.in-Read.is _ c.item_field-check.ensures _ c.in_default.is
+pub check_items-returns-in_err-item_field : goal.check_items-returns-in_err-item_field
+check_items-returns-in_err-item_field t c = let h = walk_stopped _ _ _ _ _ _ _ _ c.loop-at.invariant c.loop-at-test.true _ c.field_at.ensures _ c.in_ok-field.was _ c.item_field.ensures _ c.in_err-item_field.was in search rules
 
 pub check_items-loop-at-smaller : goal.check_items-loop-at-smaller
-check_items-loop-at-smaller t c = less_left _ _ _ _ _ c.field_at.ensures c.in-Read.is c.loop-at-test.true
+check_items-loop-at-smaller t c = less_left _ _ _ _ _ c.field_at.ensures c.in_ok-field.was c.loop-at-test.true
 
 pub check_items-loop-at-preserved : goal.check_items-loop-at-preserved
-check_items-loop-at-preserved t c = walk_on _ _ _ _ _ _ _ _ c.loop-at.invariant c.loop-at-test.true _ c.field_at.ensures _ c.in-Read.is _ c.item_field-check.ensures c.in-Good.is
+check_items-loop-at-preserved t c = walk_on _ _ _ _ _ _ _ _ c.loop-at.invariant c.loop-at-test.true _ c.field_at.ensures _ c.in_ok-field.was _ c.item_field.ensures c.in_ok-item_field.was
 
 pub check_items-returns : goal.check_items-returns
 check_items-returns t c = walk_done _ _ _ _ _ _ _ _ c.loop-at.invariant c.loop-at-test.false
@@ -57,63 +57,51 @@ pub check_value-loop-at-init : goal.check_value-loop-at-init
 unfolding value_check
 check_value-loop-at-init t c = refl
 
-pub check_value-returns-in-Refused : goal.check_value-returns-in-Refused
-check_value-returns-in-Refused t c = walk_refused _ _ _ _ _ _ _ _ c.loop-at.invariant c.loop-at-test.true _ c.field_at.ensures _ c.in-Refused.is
+pub check_value-returns-in_err-field : goal.check_value-returns-in_err-field
+check_value-returns-in_err-field t c = let h = walk_refused _ _ _ _ _ _ _ _ c.loop-at.invariant c.loop-at-test.true _ c.field_at.ensures _ c.in_err-field.was in search rules
 
-pub check_value-value_field-check-requires : goal.check_value-value_field-check-requires
-check_value-value_field-check-requires t c =
-    let w = field_within _ _ _ _ (sym c.field_at.ensures ∙ c.in-Read.is) in
+pub check_value-value_field-requires : goal.check_value-value_field-requires
+check_value-value_field-requires t c =
+    let w = field_within _ _ _ _ (sym c.field_at.ensures ∙ c.in_ok-field.was) in
     let i = w.inside in let l = w.there in
     (search rules, (w.ends, omega arith))
 
-pub check_value-returns-in_default : goal.check_value-returns-in_default
-check_value-returns-in_default t c = walk_stopped _ _ _ _ _ _ _ _ c.loop-at.invariant c.loop-at-test.true _ c.field_at.ensures _ c.in-Read.is _ c.value_field-check.ensures _ c.in_default.is
+pub check_value-returns-in_err-value_field : goal.check_value-returns-in_err-value_field
+check_value-returns-in_err-value_field t c = let h = walk_stopped _ _ _ _ _ _ _ _ c.loop-at.invariant c.loop-at-test.true _ c.field_at.ensures _ c.in_ok-field.was _ c.value_field.ensures _ c.in_err-value_field.was in search rules
 
 pub check_value-loop-at-smaller : goal.check_value-loop-at-smaller
-check_value-loop-at-smaller t c = less_left _ _ _ _ _ c.field_at.ensures c.in-Read.is c.loop-at-test.true
+check_value-loop-at-smaller t c = less_left _ _ _ _ _ c.field_at.ensures c.in_ok-field.was c.loop-at-test.true
 
 pub check_value-loop-at-preserved : goal.check_value-loop-at-preserved
-check_value-loop-at-preserved t c = walk_on _ _ _ _ _ _ _ _ c.loop-at.invariant c.loop-at-test.true _ c.field_at.ensures _ c.in-Read.is _ c.value_field-check.ensures c.in-Good.is
+check_value-loop-at-preserved t c = walk_on _ _ _ _ _ _ _ _ c.loop-at.invariant c.loop-at-test.true _ c.field_at.ensures _ c.in_ok-field.was _ c.value_field.ensures c.in_ok-value_field.was
 
 pub check_value-returns : goal.check_value-returns
 check_value-returns t c = c.lacking.ensures ∙ walk_done _ _ _ _ _ _ _ _ c.loop-at.invariant c.loop-at-test.false
 
-pub entry_field-returns-in_default : goal.entry_field-returns-in_default
-unfolding entry_field
-entry_field-returns-in_default t c = stopped _ _ _ (rw c.seen_of.ensures at c.bytes_rule-rule.ensures) _ c.in_default.is
-
 pub entry_field-returns-then-field-eq1 : goal.entry_field-returns-then-field-eq1
 unfolding entry_field
-entry_field-returns-then-field-eq1 t c = passed _ _ _ (rw c.seen_of.ensures at c.bytes_rule-rule.ensures) c.in-Good.is (simp (eq-eqb _ _ c.if-field-eq1.true) c.key_rule.ensures)
+entry_field-returns-then-field-eq1 t c = passed _ _ _ (rw c.has.ensures at c.bytes_rule.ensures) c.in_ok-bytes_rule.was (simp (eq-eqb _ _ c.if-field-eq1.true) c.key_rule.ensures)
 
 pub entry_field-returns : goal.entry_field-returns
 unfolding entry_field
-entry_field-returns t c = passed _ _ _ (rw c.seen_of.ensures at c.bytes_rule-rule.ensures) c.in-Good.is (simp (ne_eqb _ _ c.if-field-eq1.false) c.check_value.ensures)
-
-pub item_field-returns-in_default : goal.item_field-returns-in_default
-unfolding item_field
-item_field-returns-in_default t c = stopped _ _ _ c.bytes_rule-rule.ensures _ c.in_default.is
+entry_field-returns t c = passed _ _ _ (rw c.has.ensures at c.bytes_rule.ensures) c.in_ok-bytes_rule.was (simp (ne_eqb _ _ c.if-field-eq1.false) c.check_value.ensures)
 
 pub item_field-returns-then-list : goal.item_field-returns-then-list
 unfolding item_field
-item_field-returns-then-list t c = passed _ _ _ c.bytes_rule-rule.ensures c.in-Good.is (simp c.if-list.true c.check_value.ensures)
+item_field-returns-then-list t c = passed _ _ _ c.bytes_rule.ensures c.in_ok-bytes_rule.was (simp c.if-list.true c.check_value.ensures)
 
 pub item_field-returns : goal.item_field-returns
 unfolding item_field
-item_field-returns t c = passed _ _ _ c.bytes_rule-rule.ensures c.in-Good.is (simp c.if-list.false c.check_entry.ensures)
-
-pub value_field-returns-in_default : goal.value_field-returns-in_default
-unfolding value_field
-value_field-returns-in_default t c = stopped _ _ _ c.value_rule-rule.ensures _ c.in_default.is
+item_field-returns t c = passed _ _ _ c.bytes_rule.ensures c.in_ok-bytes_rule.was (simp c.if-list.false c.check_entry.ensures)
 
 pub value_field-returns-then-field-lt5 : goal.value_field-returns-then-field-lt5
 unfolding value_field
-value_field-returns-then-field-lt5 t c = passed _ _ _ c.value_rule-rule.ensures c.in-Good.is (simp (lt-ltb _ _ c.if-field-lt5.true))
+value_field-returns-then-field-lt5 t c = passed _ _ _ c.value_rule.ensures c.in_ok-value_rule.was (simp (lt-ltb _ _ c.if-field-lt5.true))
 
 pub value_field-returns-then-levels-eq0 : goal.value_field-returns-then-levels-eq0
 unfolding value_field
-value_field-returns-then-levels-eq0 t c = passed _ _ _ c.value_rule-rule.ensures c.in-Good.is (simp (le-ltb _ _ c.if-field-lt5.false) (c.fault_of.ensures ∙ inside_none _ _ _ c.if-levels-eq0.true))
+value_field-returns-then-levels-eq0 t c = passed _ _ _ c.value_rule.ensures c.in_ok-value_rule.was (simp (le-ltb _ _ c.if-field-lt5.false) (inside_none _ _ _ c.if-levels-eq0.true))
 
 pub value_field-returns : goal.value_field-returns
 unfolding value_field
-value_field-returns t c = passed _ _ _ c.value_rule-rule.ensures c.in-Good.is (simp (le-ltb _ _ c.if-field-lt5.false) (c.check_items.ensures ∙ inside_more _ _ _ c.if-levels-eq0.false))
+value_field-returns t c = passed _ _ _ c.value_rule.ensures c.in_ok-value_rule.was (simp (le-ltb _ _ c.if-field-lt5.false) (c.check_items.ensures ∙ inside_more _ _ _ c.if-levels-eq0.false))

@@ -10,7 +10,7 @@ use Rattle.params.proofs.+nesting.Given as goal
 abbrev pub invariant-check_entry-loop-at : goal.invariant-check_entry-loop-at
 invariant-check_entry-loop-at l =
     entry_check (inside l.levels l.s) l.s l.from l.tag l.start l.to
-    ≡ walk (entry_field (inside l.levels l.s) l.s l.from l.tag) entry_move (entry_done l.s l.from l.tag l.to) (fields_of l.s l.at l.to) (record { key = l.key; value = l.value })
+    ≡ walk (entry_field (inside l.levels l.s) l.s l.from l.tag) entry_move (entry_done l.s l.from l.tag l.to) (fields_of l.s l.at l.to) l.seen
 
 abbrev pub decreases-check_entry-loop-at : goal.decreases-check_entry-loop-at
 decreases-check_entry-loop-at l = l.to - l.at
