@@ -6,14 +6,6 @@ ghost use Rattle.std.specs.Float.{binary64};
 ghost use Rattle.double.specs.Double.{bits_at, bytes_of};
 ghost use Rattle.double.specs.Limit.{limit_of};
 
-#[derive(Clone, Copy)]
-pub enum Limit {
-    // A whole number from 1,000,000 to 50,000,000.
-    Whole(u32),
-    // Any other double.
-    Bad,
-}
-
 // The number that the eight bytes at place `at` say, the least significant first, or 0 where they do not all lie in s.
 pub fn bits_at(s: &[u8], at: usize) -> u64
     ensures { result ≡ bits_at s.now at }
@@ -50,25 +42,25 @@ pub fn bytes_of(number: u32) -> [u8; 8]
     backwards(bytes_be::bytes64(bits))
 }
 
-// The limit that a double says. It is compared as an integer, and equal bits show that nothing was lost.
-pub fn limit_of(double: f64) -> Limit
+// The limit that a double says, if it is a whole number from 1,000,000 to 50,000,000. It is compared as an integer, and equal bits show that nothing was lost.
+pub fn limit_of(double: f64) -> Option<u32>
     ensures { result ≡ limit_of double }
 {
     // Above -1 and below 2^64, so that 64 bits hold it without its fraction; a NaN is neither.
     let truncates = (double > -1.0) & (double < 18446744073709551616.0);
     if !truncates {
-        return Limit::Bad;
+        return None;
     }
     let truncated = std::num::truncating_f64_to_u64(double);
     if truncated < 1000000 {
-        return Limit::Bad;
+        return None;
     }
     if 50000000 < truncated {
-        return Limit::Bad;
+        return None;
     }
     let number = truncated as u32;
     if f64::to_bits(number as f64) == f64::to_bits(double) {
-        return Limit::Whole(number);
+        return Some(number);
     }
-    Limit::Bad
+    None
 }

@@ -1,7 +1,8 @@
 -- "Checks run in the order of the numbers", here 18 to 22: each stage hears the opening or refuses it, and the first refusal is the answer.
 use Rattle.std.specs.Prelude.{ℕ, ◌+◌, List, Bool, cond, not, ◌&&◌, ◌||◌, ltb, leb, eqb, Result, Ok, Err}
 use Rattle.bytes_be.specs.Part.{part_at, same}
-use Rattle.params.specs.Message.{Check, fault_number}
+use Rattle.wire.specs.Fields.{fault_number}
+use Rattle.params.specs.Message.{Check}
 use Rattle.terms.specs.Announced.{limit_in, announced_number}
 use Rattle.open.specs.declared.Parts.{Parts}
 use Rattle.open.specs.declared.Opening.{Opening}

@@ -4,13 +4,14 @@
 ghost use Rattle.std.specs.Prelude.{◌≡◌, ◌+◌, ◌≤◌, length};
 ghost use Rattle.bytes_be.specs.Part.{part_at, same};
 ghost use Rattle.open.specs.Frame.{oversized, frame_wire, is_there, frame_text, frame_rule, frame_field, place_if, socket_if, keep as Frame·keep};
+ghost use Rattle.open.specs.declared.Refusal.TheVariants.{Unreadable};
 ghost use Rattle.open.specs.Offer.{offer_of};
-ghost use Rattle.open.specs.Open.{opening_of, readable as Open·readable, refused_if, out_of_range, in_range, known_socket, offered_socket, offered_pipe, offered_format, open_of, heard_by, refusal_number, open_number};
+ghost use Rattle.open.specs.Open.{opening_of, readable as Open·readable, refused_if, out_of_range, in_range, known_socket, offered_socket, offered_pipe, offered_format, open_of, heard_by, refusal_number};
 
 use bytes_be::Place;
-use params::Check;
-use terms::Announced;
-use wire::{Fault, Field, Kind, Reading};
+use numbered::Numbered;
+use terms::BadLimit;
+use wire::{Fault, Field, Kind};
 
 // The parts of an OPEN frame, as its fields give them. An absent one is the empty place at 0, where no payload stands.
 #[derive(Clone, Copy)]
@@ -31,7 +32,8 @@ pub struct Opening {
     pub name: Place,
     pub format: Place,
     pub parameters: Place,
-    pub announced: Announced,
+    // The limit that the parameters announce, if they announce one.
+    pub announced: Result<Option<u32>, BadLimit>,
 }
 
 // Why an OPEN frame is refused.
@@ -49,31 +51,25 @@ pub enum Refusal {
     OtherFormat,
 }
 
-#[derive(Clone, Copy)]
-pub enum Open {
-    Heard(Opening),
-    Refused(Refusal),
-}
+impl From<Fault> for Refusal {
+    ghost from_gives = { λ why refusal. refusal ≡ Unreadable why };
 
-fn refusal_number(refusal: Refusal) -> u8
-    ensures { result ≡ refusal_number refusal }
-{
-    match refusal {
-        Refusal::Unreadable(why) => params::fault_number(why),
-        Refusal::OutOfRange => 19,
-        Refusal::UnknownSocket => 20,
-        Refusal::OtherPipe => 21,
-        Refusal::OtherFormat => 22,
+    fn from(why: Fault) -> Refusal {
+        Self::Unreadable(why)
     }
 }
 
-// The number of 01 for an OPEN frame: 0, or 18 to 22.
-pub fn open_number(said: Open) -> u8
-    ensures { result ≡ open_number said }
-{
-    match said {
-        Open::Heard(_) => 0,
-        Open::Refused(refusal) => refusal_number(refusal),
+impl Numbered for Refusal {
+    ghost number = { refusal_number };
+
+    fn number(&self) -> u8 {
+        match self {
+            Refusal::Unreadable(why) => why.number(),
+            Refusal::OutOfRange => 19,
+            Refusal::UnknownSocket => 20,
+            Refusal::OtherPipe => 21,
+            Refusal::OtherFormat => 22,
+        }
     }
 }
 
@@ -121,37 +117,30 @@ fn frame_text(s: &[u8], number: u64, at: usize, next: usize) -> bool
 }
 
 // What a field comes to before its inside is looked at, behind the parts that were there before it.
-fn frame_rule(s: &[u8], parts: Parts, field: Field) -> Check
+#[tactic(auto, unfolding(crate::specs::Frame::frame_rule))]
+fn frame_rule(s: &[u8], parts: Parts, field: Field) -> Result<(), Fault>
     requires { (field.at ≤ field.next) × (field.next ≤ length s.now) }
     ensures { result ≡ frame_rule s.now parts field }
 {
-    if is_oversized(field.number, field.value) {
-        return params::fault_of(Kind::BadVarint, field.tag);
-    }
-    if !frame_wire(field.number, field.wire) {
-        return params::fault_of(Kind::WireType, field.tag);
-    }
-    if is_there(parts, field.number) {
-        return params::fault_of(Kind::Repeated, field.tag);
-    }
-    if !frame_text(s, field.number, field.at, field.next) {
-        return params::fault_of(Kind::BadText, field.tag);
-    }
-    Check::Good
+    let number = field.number;
+    let oversized = is_oversized(number, field.value);
+    params::refuse_if(oversized, Kind::BadVarint, field.tag)?;
+    params::refuse_if(!frame_wire(number, field.wire), Kind::WireType, field.tag)?;
+    params::refuse_if(is_there(parts, number), Kind::Repeated, field.tag)?;
+    let text = frame_text(s, number, field.at, field.next);
+    params::refuse_if(!text, Kind::BadText, field.tag)
 }
 
-fn frame_field(s: &[u8], parts: Parts, field: Field) -> Check
+#[tactic(auto, unfolding(crate::specs::Frame::frame_field))]
+fn frame_field(s: &[u8], parts: Parts, field: Field) -> Result<(), Fault>
     requires { (field.at ≤ field.next) × (field.next ≤ length s.now) }
     ensures { result ≡ frame_field s.now parts field }
 {
-    let rule = frame_rule(s, parts, field);
-    let Check::Good = rule else {
-        return rule;
-    };
+    frame_rule(s, parts, field)?;
     if field.number == 4 {
         return params::check_struct(s, field.at, field.next);
     }
-    Check::Good
+    Ok(())
 }
 
 // Where the payload of a field stands, if it has this number.
@@ -212,7 +201,7 @@ fn opening_of(s: &[u8], parts: Parts) -> Opening
 }
 
 // 18: an unreadable frame. Each of its fields is read once.
-fn readable(s: &[u8], from: usize, to: usize) -> Open
+fn readable(s: &[u8], from: usize, to: usize) -> Result<Opening, Refusal>
     ensures { result ≡ Open·readable s.now from to }
 {
     let nowhere = Place { at: 0, length: 0 };
@@ -225,29 +214,18 @@ fn readable(s: &[u8], from: usize, to: usize) -> Open
     };
     let mut at = from;
     while at < to {
-        match wire::field_at(s, at, to) {
-            Reading::Refused(why) => {
-                return Open::Refused(Refusal::Unreadable(why));
-            }
-            Reading::Read(field) => match frame_field(s, parts, field) {
-                Check::Refused(why) => {
-                    return Open::Refused(Refusal::Unreadable(why));
-                }
-                Check::Good => {
-                    parts = keep(parts, field);
-                    at = field.next;
-                }
-            },
-        }
+        let field = wire::field_at(s, at, to)?;
+        frame_field(s, parts, field)?;
+        parts = keep(parts, field);
+        at = field.next;
     }
-    Open::Heard(opening_of(s, parts))
+    Ok(opening_of(s, parts))
 }
 
 fn out_of_range(opening: Opening) -> bool
     ensures { result ≡ out_of_range opening }
 {
-    let announced = opening.announced;
-    let bad_limit = terms::announced_number(announced) != 0;
+    let bad_limit = numbered::number_of(&opening.announced) != 0;
     (opening.name.length == 0)
         | (255 < opening.name.length)
         | (255 < opening.format.length)
@@ -256,39 +234,39 @@ fn out_of_range(opening: Opening) -> bool
 }
 
 // A stage refuses the opening, or hears it.
-fn refused_if(test: bool, refusal: Refusal, opening: Opening) -> Open
+fn refused_if(test: bool, refusal: Refusal, opening: Opening) -> Result<Opening, Refusal>
     ensures { result ≡ refused_if test refusal opening }
 {
     if test {
-        return Open::Refused(refusal);
+        return Err(refusal);
     }
-    Open::Heard(opening)
+    Ok(opening)
 }
 
 // 19: a name, a format, a socket or a limit out of range.
-fn in_range(opening: Opening) -> Open
+fn in_range(opening: Opening) -> Result<Opening, Refusal>
     ensures { result ≡ in_range opening }
 {
     refused_if(out_of_range(opening), Refusal::OutOfRange, opening)
 }
 
 // 20: a socket that there is not.
-fn known_socket(opening: Opening) -> Open
+fn known_socket(opening: Opening) -> Result<Opening, Refusal>
     ensures { result ≡ known_socket opening }
 {
     refused_if(3 <= opening.socket, Refusal::UnknownSocket, opening)
 }
 
 // What the frame from `from` to `to` says by itself.
-fn open_of(s: &[u8], from: usize, to: usize) -> Open
+fn open_of(s: &[u8], from: usize, to: usize) -> Result<Opening, Refusal>
     ensures { result ≡ open_of s.now from to }
 {
     let read = readable(s, from, to);
-    let Open::Heard(said) = read else {
+    let Ok(said) = read else {
         return read;
     };
     let ranged = in_range(said);
-    let Open::Heard(good) = ranged else {
+    let Ok(good) = ranged else {
         return ranged;
     };
     known_socket(good)
@@ -315,7 +293,7 @@ fn same_at(s: &[u8], place: Place, bytes: &[u8]) -> bool
 }
 
 // 21: another name or another socket than the offered one.
-fn offered_pipe(s: &[u8], flow: u8, name: &[u8], opening: Opening) -> Open
+fn offered_pipe(s: &[u8], flow: u8, name: &[u8], opening: Opening) -> Result<Opening, Refusal>
     requires { opening.name.at + opening.name.length ≤ length s.now }
     ensures { result ≡ offered_pipe s.now flow name.now opening }
 {
@@ -325,7 +303,7 @@ fn offered_pipe(s: &[u8], flow: u8, name: &[u8], opening: Opening) -> Open
 }
 
 // 22: a format that is not the offered one.
-fn offered_format(s: &[u8], format: &[u8], opening: Opening) -> Open
+fn offered_format(s: &[u8], format: &[u8], opening: Opening) -> Result<Opening, Refusal>
     requires { opening.format.at + opening.format.length ≤ length s.now }
     ensures { result ≡ offered_format s.now format.now opening }
 {
@@ -335,15 +313,22 @@ fn offered_format(s: &[u8], format: &[u8], opening: Opening) -> Open
 }
 
 // What the frame from `from` to `to` of a message says to a server of this flow that offers this name and this format.
-pub fn hear(s: &[u8], from: usize, to: usize, flow: u8, name: &[u8], format: &[u8]) -> Open
+pub fn hear(
+    s: &[u8],
+    from: usize,
+    to: usize,
+    flow: u8,
+    name: &[u8],
+    format: &[u8],
+) -> Result<Opening, Refusal>
     ensures { result ≡ heard_by s.now from to flow (offer_of name.now format.now) }
 {
     let said = open_of(s, from, to);
-    let Open::Heard(opening) = said else {
+    let Ok(opening) = said else {
         return said;
     };
     let pipe = offered_pipe(s, flow, name, opening);
-    let Open::Heard(_) = pipe else {
+    let Ok(_) = pipe else {
         return pipe;
     };
     offered_format(s, format, opening)

@@ -1,7 +1,7 @@
 -- The cases of a lookup in the client's parameters over the default Struct, and that a term lies in its layer. Assumes nothing.
 use Rattle.std.specs.Prelude.{Option, Some, None, Ok, Err}
 use Prim.Native.Nat.{ℕ, ◌+◌, ◌≤◌}
-use mathlib.Core.Path.{◌≡◌, refl, sym, ◌∙◌, subst}
+use mathlib.Core.Path.{◌≡◌, refl, sym, ap, ◌∙◌, subst}
 use mathlib.Core.List.{List, [], ◌∷◌}
 use mathlib.Core.Bool.{cond}
 use lib.ListN.{length}
@@ -15,63 +15,64 @@ use Rattle.params.specs.Keys.{find_in}
 use Rattle.params.specs.Rules.{struct_check}
 use Rattle.params.proofs.Finds.{find_lies}
 use Rattle.terms.specs.declared.Term.{Term}
-use Rattle.terms.specs.declared.Term.TheVariants.{In, Unreadable, Absent}
-use Rattle.terms.specs.Lookup.{if_readable, read_layers, find_layers, in_layer, look_up, PartOf}
+use Rattle.terms.specs.declared.Refusal.{Refusal}
+use Rattle.terms.specs.declared.Refusal.TheVariants.{Absent}
+use Rattle.terms.specs.Lookup.{Answer, term_in, if_readable, read_layers, find_layers, in_layer, look_up, PartOf}
 use Rattle.params.specs.Message.{good, Check}
 
 module _ (client defaults key : List ℕ) (first : Check) (read : first ≡ struct_check client 0 (length client)) where
-  pub client_unreadable : (why : Fault) → first ≡ Err why → (term : Term) → term ≡ if_readable 0 first Absent → term ≡ look_up (client ∷ defaults ∷ []) key
+  pub client_unreadable : (why : Fault) → first ≡ Err why → (term : Answer) → term ≡ if_readable 0 first (Err Absent) → term ≡ look_up (client ∷ defaults ∷ []) key
   unfolding look_up read_layers
   client_unreadable why e term is = rw e at is ∙ sym (rw (← read, e))
 
-  module _ (good : first ≡ good) (second : Check) (also : second ≡ struct_check defaults 0 (length defaults)) where
-    pub defaults_unreadable : (why : Fault) → second ≡ Err why → (term : Term) → term ≡ if_readable 1 second Absent → term ≡ look_up (client ∷ defaults ∷ []) key
+  module _ (passes : first ≡ good) (second : Check) (also : second ≡ struct_check defaults 0 (length defaults)) where
+    pub defaults_unreadable : (why : Fault) → second ≡ Err why → (term : Answer) → term ≡ if_readable 1 second (Err Absent) → term ≡ look_up (client ∷ defaults ∷ []) key
     unfolding look_up read_layers
-    defaults_unreadable why e term is = rw e at is ∙ sym (rw (← read, good, ← also, e))
+    defaults_unreadable why e term is = rw e at is ∙ sym (rw (← read, passes, ← also, e))
 
     module _ (both : second ≡ good) (found : Option Place) (looked : found ≡ find_in client 0 (length client) key) where
-      pub in_client : (term : Term) → term ≡ in_layer 0 found Absent → (place : Place) → found ≡ Some place → term ≡ look_up (client ∷ defaults ∷ []) key
+      pub in_client : (term : Answer) → term ≡ in_layer 0 found (Err Absent) → (place : Place) → found ≡ Some place → term ≡ look_up (client ∷ defaults ∷ []) key
       unfolding look_up read_layers find_layers
-      in_client term is place e = rw e at is ∙ sym (rw (← read, good, ← also, both, ← looked, e))
+      in_client term is place e = rw e at is ∙ sym (rw (← read, passes, ← also, both, ← looked, e))
 
-      pub in_defaults : found ≡ None → (other : Option Place) → other ≡ find_in defaults 0 (length defaults) key → (term : Term) → term ≡ in_layer 1 other Absent
+      pub in_defaults : found ≡ None → (other : Option Place) → other ≡ find_in defaults 0 (length defaults) key → (term : Answer) → term ≡ in_layer 1 other (Err Absent)
           → term ≡ look_up (client ∷ defaults ∷ []) key
       unfolding look_up read_layers find_layers
-      in_defaults e other is term q = q ∙ sym (rw (← read, good, ← also, both, ← looked, e, ← is))
+      in_defaults e other is term q = q ∙ sym (rw (← read, passes, ← also, both, ← looked, e, ← is))
 
 -- ---- a term lies in its layer
 
-unreadable_not_in : {A : Type 0} {layer other : ℕ} {why : Fault} {place : Place} → Unreadable layer why ≡ In other place → A
-unreadable_not_in e = clash cc
+refused_not_in : {A : Type 0} {refusal : Refusal} {layer : ℕ} {place : Place} → Err refusal ≡ term_in layer place → A
+refused_not_in e = clash cc
 
-absent_not_in : {A : Type 0} {layer : ℕ} {place : Place} → Absent ≡ In layer place → A
-absent_not_in e = clash cc
+same_term : {one other : Term} → ◌≡◌ {A = Answer} (Ok one) (Ok other) → one ≡ other
+same_term e = cc
 
-same_layer : {layer other : ℕ} {place there : Place} → In layer place ≡ In other there → (layer ≡ other) × (place ≡ there)
-same_layer e = (cc, cc)
+same_layer : {layer other : ℕ} {place there : Place} → term_in layer place ≡ term_in other there → (layer ≡ other) × (place ≡ there)
+same_layer e = let same = same_term e in (ap (λ (term : Term). term.layer) same, ap (λ (term : Term). term.place) same)
 
 -- what holds of every term that a readable Struct has holds of the term that a lookup finds in its layer
 pub of_its_layer : (P : List ℕ → Place → Type 0) (client defaults key : List ℕ)
     → ((s : List ℕ) (there : Place) → struct_check s 0 (length s) ≡ good → find_in s 0 (length s) key ≡ Some there → P s there)
-    → (layer : ℕ) (place : Place) → look_up (client ∷ defaults ∷ []) key ≡ In layer place → P (cond (eqb layer 0) client defaults) place
+    → (layer : ℕ) (place : Place) → look_up (client ∷ defaults ∷ []) key ≡ term_in layer place → P (cond (eqb layer 0) client defaults) place
 unfolding look_up read_layers find_layers
 of_its_layer P client defaults key each layer place e =
     go (struct_check client 0 (length client)) refl (struct_check defaults 0 (length defaults)) refl (find_in client 0 (length client) key) refl
     (find_in defaults 0 (length defaults) key) refl e
   where
-    moved : (other : ℕ) (there : Place) → In other there ≡ In layer place → P (cond (eqb other 0) client defaults) there → P (cond (eqb layer 0) client defaults) place
+    moved : (other : ℕ) (there : Place) → term_in other there ≡ term_in layer place → P (cond (eqb other 0) client defaults) there → P (cond (eqb layer 0) client defaults) place
     moved other there e h = let same = same_layer e in rw (← same.0, ← same.1) h
 
     go : (first : Check) → struct_check client 0 (length client) ≡ first → (second : Check) → struct_check defaults 0 (length defaults) ≡ second
         → (found : Option Place) → find_in client 0 (length client) key ≡ found → (other : Option Place) → find_in defaults 0 (length defaults) key ≡ other
-        → if_readable 0 first (if_readable 1 second (in_layer 0 found (in_layer 1 other Absent))) ≡ In layer place → P (cond (eqb layer 0) client defaults) place
-    go (Err why) a second b found p other q e = unreadable_not_in e
-    go (Ok passed) a (Err why) b found p other q e = unreadable_not_in e
-    go (Ok passed) a (Ok passed) b (Some there) p other q e = moved 0 there e (each client there a p)
-    go (Ok passed) a (Ok passed) b None p (Some there) q e = moved 1 there e (each defaults there b q)
-    go (Ok passed) a (Ok passed) b None p None q e = absent_not_in e
+        → if_readable 0 first (if_readable 1 second (in_layer 0 found (in_layer 1 other (Err Absent)))) ≡ term_in layer place → P (cond (eqb layer 0) client defaults) place
+    go (Err why) a second b found p other q e = refused_not_in e
+    go (Ok passed) a (Err why) b found p other q e = refused_not_in e
+    go (Ok passed) a (Ok here) b (Some there) p other q e = moved 0 there e (each client there a p)
+    go (Ok passed) a (Ok here) b None p (Some there) q e = moved 1 there e (each defaults there b q)
+    go (Ok passed) a (Ok here) b None p None q e = refused_not_in e
 
-pub term_lies : (client defaults key : List ℕ) (layer : ℕ) (place : Place) → look_up (client ∷ defaults ∷ []) key ≡ In layer place
+pub term_lies : (client defaults key : List ℕ) (layer : ℕ) (place : Place) → look_up (client ∷ defaults ∷ []) key ≡ term_in layer place
     → place.at + place.length ≤ length (cond (eqb layer 0) client defaults)
 term_lies client defaults key =
     of_its_layer (λ (s : List ℕ) (place : Place). place.at + place.length ≤ length s) client defaults key
@@ -79,8 +80,8 @@ term_lies client defaults key =
 
 -- ---- the part that a lookup gives
 
-module _ (client defaults : Bor (List ℕ)) (key : List ℕ) (term : Term) (is : term ≡ look_up (client.now ∷ defaults.now ∷ []) key) where
-  module _ (layer : ℕ) (place : Place) (e : term ≡ In layer place) where
+module _ (client defaults : Bor (List ℕ)) (key : List ℕ) (answer : Answer) (is : answer ≡ look_up (client.now ∷ defaults.now ∷ []) key) where
+  module _ (layer : ℕ) (place : Place) (e : answer ≡ term_in layer place) where
     in_its_layer : place.at + place.length ≤ length (cond (eqb layer 0) client.now defaults.now)
     in_its_layer = term_lies client.now defaults.now key layer place (sym is ∙ e)
 
@@ -90,7 +91,7 @@ module _ (client defaults : Bor (List ℕ)) (key : List ℕ) (term : Term) (is :
     pub lies_in_defaults : (layer ≡ 0 → ⊥) → place.at + place.length ≤ length defaults.now
     lies_in_defaults n = rw (ne_eqb layer 0 n) at in_its_layer
 
-  -- a part that is right for the term's case is right for the lookup
-  pub part_of : (case : Term) → term ≡ case → (r : Bor (List ℕ)) → PartOf client defaults r case
+  -- a part that is right for the answer's case is right for the lookup
+  pub part_of : (case : Answer) → answer ≡ case → (r : Bor (List ℕ)) → PartOf client defaults r case
       → PartOf client defaults r (look_up (client.now ∷ defaults.now ∷ []) key)
   part_of case e r h = subst (PartOf client defaults r) (sym e ∙ is) h

@@ -1,5 +1,5 @@
 -- What is announced is in the limits, or 19 refuses it. Assumes nothing.
-use Rattle.std.specs.Prelude.{Option, Some, None}
+use Rattle.std.specs.Prelude.{Option, Some, None, Result, Ok, Err}
 use mathlib.Core.Path.{◌≡◌, refl}
 use Prim.Native.Nat.{◌+◌, ℕ}
 use mathlib.Core.List.{List}
@@ -8,12 +8,12 @@ use native.Mathlib.Omega.{arith}
 use lib.Ieee.{Float}
 use Rattle.bytes_be.proofs.Tests.{both_true, clash, took_first}
 use Rattle.double.specs.Limit.{in_limits, integer_of, is_whole, limit_of}
+use Rattle.wire.specs.declared.Fault.{Fault}
 use Rattle.params.specs.Keys.{find_in}
-use Rattle.terms.specs.declared.Announced.{Announced}
 use Rattle.terms.specs.declared.Value.{Value}
-use Rattle.terms.specs.declared.Value.TheVariants.{Null, Number, Text, Boolean, Struct, List as Value-as-List, Unreadable}
+use Rattle.terms.specs.declared.Value.TheVariants.{Null, Number, Text, Boolean, Struct, List as Value-as-List}
 use Rattle.bytes_be.specs.declared.Place.{Place}
-use Rattle.terms.specs.Announced.{announced_limit, announced_number, from_double, from_found, from_value, limit_in, limit_key}
+use Rattle.terms.specs.Announced.{Announced, announced_limit, announced_number, from_double, from_held, from_found, from_value, limit_in, limit_key}
 use Rattle.terms.specs.Value.{value_at}
 
 bad_whole : {n : ℕ} → None ≡ Some n → ⊥
@@ -46,10 +46,13 @@ value_bounded (Text place) bad = absurd (omega arith)
 value_bounded (Boolean truth) bad = absurd (omega arith)
 value_bounded Struct bad = absurd (omega arith)
 value_bounded Value-as-List bad = absurd (omega arith)
-value_bounded (Unreadable why) bad = absurd (omega arith)
+
+held_bounded : (held : Result Value Fault) → Bounded (from_held held)
+held_bounded (Ok value) fine = value_bounded value fine
+held_bounded (Err why) bad = absurd (omega arith)
 
 found_bounded : (s : List ℕ) (found : Option Place) → Bounded (from_found s found)
-found_bounded s (Some place) fine = value_bounded (value_at s place.at (place.at + place.length)) fine
+found_bounded s (Some place) fine = held_bounded (value_at s place.at (place.at + place.length)) fine
 found_bounded s None fine = refl
 
 pub limit_bounded : (s : List ℕ) (from to : ℕ) → Bounded (limit_in s from to)

@@ -9,8 +9,8 @@ returns-in_default c = refused _ _ (refused _ _ c.readable-read.ensures in_range
 
 pub returns-in_default-ranged : goal.returns-in_default-ranged
 unfolding open_of
-returns-in_default-ranged c = refused _ _ (heard _ _ c.readable-read.ensures in_range _ c.in-Heard.is c.in_range-ranged.ensures) known_socket _ c.in_default-ranged.is
+returns-in_default-ranged c = refused _ _ (heard _ _ c.readable-read.ensures in_range _ c.in-Ok.is c.in_range-ranged.ensures) known_socket _ c.in_default-ranged.is
 
 pub returns : goal.returns
 unfolding open_of
-returns c = heard _ _ (heard _ _ c.readable-read.ensures in_range _ c.in-Heard.is c.in_range-ranged.ensures) known_socket _ c.in-Heard-ranged.is c.known_socket.ensures
+returns c = heard _ _ (heard _ _ c.readable-read.ensures in_range _ c.in-Ok.is c.in_range-ranged.ensures) known_socket _ c.in-Ok-ranged.is c.known_socket.ensures

@@ -4,4 +4,4 @@ use Rattle.open.proofs.out_of_range.Goals as goal
 
 pub returns : goal.returns
 unfolding out_of_range
-returns c = simp (← c.announced_number-bad_limit.ensures)
+returns c = simp (← c.number_of-bad_limit.ensures)
