@@ -1,5 +1,5 @@
 -- The limit parameter that was written is a readable Struct, and announces the limit, wherever it stands. Assumes nothing.
-use Rattle.std.specs.Prelude.{Ok}
+use Rattle.std.specs.Prelude.{Ok, Some}
 use Prim.Native.Nat.{ℕ, ◌+◌, ◌-◌, ◌≤◌, ◌<◌, ◌^◌}
 use mathlib.Core.Path.{◌≡◌, refl, sym, ap, ◌∙◌}
 use mathlib.Core.List.{List, [], ◌∷◌, ◌++◌, append_assoc}
@@ -23,7 +23,6 @@ use Rattle.double.proofs.Limits.{limit_back}
 use Rattle.params.specs.Message.{good, walk, first_of, place_in}
 use Rattle.params.specs.Keys.{key_of, value_place, find_in}
 use Rattle.params.specs.Rules.{value_wire, value_text, value_allowed, value_rule, value_field, value_check, bytes_rule, key_rule, seen_of, entry_field, entry_done, entry_check, item_field, items_check, struct_check}
-use Rattle.terms.specs.declared.Announced.TheVariants.{Limit}
 use Rattle.terms.specs.Value.{held_by, value_at}
 use Rattle.terms.specs.Announced.{limit_key, limit_in}
 use Rattle.open_write.specs.Frame.{limit_struct}
@@ -115,7 +114,7 @@ module _ (limit : ℕ) (s : List ℕ) (from : ℕ) (rest : List ℕ) (stands : d
       ap (part s number_field_at.at) (sym (length_bytes_of limit)) ∙ part_there s number_field_at.at (bytes_of limit) rest behind
 
   -- and what it announces
-  pub limit_announced : 1000000 ≤ limit → limit ≤ 50000000 → limit_in s from (from + length (limit_struct limit)) ≡ Limit limit
+  pub limit_announced : 1000000 ≤ limit → limit ≤ 50000000 → limit_in s from (from + length (limit_struct limit)) ≡ Ok (Some limit)
   unfolding limit_in find_in first_of key_of value_place place_in value_at held_by
   limit_announced low high =
       let inside : number_field_at.at + 8 ≤ length s = omega (arith, eight_ends value_field_at.at 2 (bytes_of limit) (length_bytes_of limit), the_value.ends, nine, value_inside) in

@@ -1,4 +1,5 @@
 -- What one store behind another leaves: a field, and the whole frame. Assumes nothing.
+use Rattle.std.specs.Prelude.{Ok}
 use Prim.Native.Nat.{ℕ, ◌+◌, ◌*◌, ◌≤◌}
 use mathlib.Core.Path.{◌≡◌, refl, sym, ap, ◌∙◌}
 use mathlib.Core.List.{List, ◌++◌}
@@ -16,8 +17,7 @@ use Rattle.double.specs.Double.{bytes_of}
 use Rattle.double.proofs.Order.{length_bytes_of}
 use Rattle.terms.specs.Announced.{limit_key}
 use Rattle.open.specs.Offer.{offer_of}
-use Rattle.open_write.specs.declared.Given.TheVariants.{Good, Bad}
-use Rattle.open_write.specs.Frame.{name_field, socket_field, format_field, parameters_field, frame_for, is_good, given_of, written}
+use Rattle.open_write.specs.Frame.{refused, name_field, socket_field, format_field, parameters_field, frame_for, is_good, given_of, written}
 use Rattle.open_write.proofs.Fields.{length_socket, struct_head, value_head, parameters_some, parameters_bytes, length_frame}
 
 module _ (out : List ℕ) (at : ℕ) where
@@ -81,20 +81,21 @@ module _ (flow : ℕ) (name format : List ℕ) (limit at : ℕ) (out : List ℕ)
       record { named = omega arith; asked = omega arith; formatted = omega arith; all = omega arith }
 
   -- a frame that is written, and one that is not
-  pub bad_given : given_of flow (offer_of name format) limit ≡ Bad → out ≡ written flow (offer_of name format) limit at out
+  pub bad_given : ((size : ℕ) → given_of flow (offer_of name format) limit ≡ Ok size → ⊥) → out ≡ written flow (offer_of name format) limit at out
   unfolding given_of written
   bad_given e = go (is_good (offer_of name format)) e
     where
-      go : (t : Bool) → cond t (Good (length (frame_for flow (offer_of name format) limit))) Bad ≡ Bad → out ≡ cond t (put_at out at (frame_for flow (offer_of name format) limit)) out
-      go true e = clash cc
+      go : (t : Bool) → ((size : ℕ) → cond t (Ok (length (frame_for flow (offer_of name format) limit))) refused ≡ Ok size → ⊥)
+          → out ≡ cond t (put_at out at (frame_for flow (offer_of name format) limit)) out
+      go true e = absurd (e (length (frame_for flow (offer_of name format) limit)) refl)
       go false e = refl
 
-  module _ (size : ℕ) (good : given_of flow (offer_of name format) limit ≡ Good size) where
+  module _ (size : ℕ) (good : given_of flow (offer_of name format) limit ≡ Ok size) where
     good_given : (is_good (offer_of name format) ≡ true) × (size ≡ length (frame_for flow (offer_of name format) limit))
     unfolding given_of
     good_given = go (is_good (offer_of name format)) good
       where
-        go : (t : Bool) → cond t (Good (length (frame_for flow (offer_of name format) limit))) Bad ≡ Good size → (t ≡ true) × (size ≡ length (frame_for flow (offer_of name format) limit))
+        go : (t : Bool) → cond t (Ok (length (frame_for flow (offer_of name format) limit))) refused ≡ Ok size → (t ≡ true) × (size ≡ length (frame_for flow (offer_of name format) limit))
         go true e = (refl, cc)
         go false e = clash cc
 

@@ -1,7 +1,7 @@
 -- "OPEN takes the pipe name (1..255 bytes of UTF-8) and a format (0..255 bytes of UTF-8). Its socket is 1 (INPUT) for a producer, 2 (OUTPUT)
 -- for a consumer. Its frame has fields in ascending number, shortest varints, empty format left out, and the limit as parameter
 -- `max_message_bytes` (a double made from the whole number) unless the limit is 50,000,000."
-use Rattle.std.specs.Prelude.{ℕ, List, [], ◌++◌, Bool, cond, ◌&&◌, length, leb, eqb}
+use Rattle.std.specs.Prelude.{ℕ, List, [], ◌++◌, Bool, cond, ◌&&◌, length, leb, eqb, Result, Ok, Err}
 use Rattle.bytes_be.specs.Part.{put_at}
 use Rattle.utf8.specs.Text.{well_formed}
 use Rattle.wire.specs.Written.{varint_field, eight_field, bytes_field}
@@ -9,8 +9,7 @@ use Rattle.double.specs.Double.{bytes_of}
 use Rattle.double.specs.Limit.{most_limit}
 use Rattle.terms.specs.Announced.{limit_key}
 use Rattle.open.specs.Offer.{Offer}
-use Rattle.open_write.specs.declared.Given.{Given}
-use Rattle.open_write.specs.declared.Given.TheVariants.{Good, Bad}
+use Rattle.open_write.specs.declared.BadOffer.{BadOffer}
 
 -- "the pipe name (1..255 bytes of UTF-8)"
 unfoldable pub good_name : List ℕ → Bool
@@ -52,13 +51,20 @@ parameters_field limit = cond (eqb limit most_limit) [] (bytes_field 4 (limit_st
 unfoldable pub frame_for : ℕ → Offer → ℕ → List ℕ
 frame_for flow offer limit = name_field offer.name ++ socket_field flow ++ format_field offer.format ++ parameters_field limit
 
--- "34 bad name, format, .."; how long the frame is, is known before a byte of it is written
-unfoldable pub given_of : ℕ → Offer → ℕ → Given
-given_of flow offer limit = cond (is_good offer) (Good (length (frame_for flow offer limit))) Bad
+-- "34 bad name, format, .."
+abbrev pub refused : Result ℕ BadOffer
+refused = Err record {}
 
-abbrev pub given_number : Given → ℕ
-given_number (Good size) = 0
-given_number Bad = 34
+-- how long the frame is, is known before a byte of it is written
+unfoldable pub given_of : ℕ → Offer → ℕ → Result ℕ BadOffer
+given_of flow offer limit = cond (is_good offer) (Ok (length (frame_for flow offer limit))) refused
+
+abbrev pub bad_number : BadOffer → ℕ
+bad_number why = 34
+
+abbrev pub given_number : Result ℕ BadOffer → ℕ
+given_number (Ok size) = 0
+given_number (Err why) = bad_number why
 
 -- the output with the frame of a good name and format from place `at` on, and nothing else changed; the output itself where it has no room
 unfoldable pub written : ℕ → Offer → ℕ → ℕ → List ℕ → List ℕ

@@ -6,24 +6,19 @@ ghost use Rattle.bytes_be.specs.Part.{put_at};
 ghost use Rattle.wire.specs.Varint.{varint_length};
 ghost use Rattle.wire.specs.Written.{bytes_field};
 ghost use Rattle.open.specs.Offer.{offer_of};
-ghost use Rattle.open_write.specs.Frame.{good_name, good_format, socket_of, socket_field, format_field, parameters_field, frame_for, given_of, given_number, written};
+ghost use Rattle.open_write.specs.Frame.{good_name, good_format, socket_of, socket_field, format_field, parameters_field, frame_for, given_of, bad_number, written};
 
-// What is given to an OPEN.
+use numbered::Numbered;
+
+// A name or a format that an OPEN cannot have.
 #[derive(Clone, Copy)]
-pub enum Given {
-    // A good name and a good format, whose frame has so many bytes.
-    Good(usize),
-    // 34.
-    Bad,
-}
+pub struct BadOffer;
 
-// The number of 01 for what is given: 0, or 34.
-pub fn given_number(given: Given) -> u8
-    ensures { result ≡ given_number given }
-{
-    match given {
-        Given::Good(_) => 0,
-        Given::Bad => 34,
+impl Numbered for BadOffer {
+    ghost number = { bad_number };
+
+    fn number(&self) -> u8 {
+        34
     }
 }
 
@@ -75,7 +70,8 @@ fn parameters_length(limit: u32) -> usize
     if limit == 50000000 {
         return 0;
     }
-    34
+    // The number's eight bytes stand behind the Struct's others.
+    26 + 8
 }
 
 // How many bytes the frame takes: a tag and a socket have one each, whatever the flow.
@@ -134,15 +130,15 @@ fn store_parameters(out: &mut [u8], at: usize, limit: u32)
     }
 }
 
-// Whether a name has 1 to 255 bytes and a format at most 255, all of UTF-8, and how long the frame of a client of this flow is then.
-pub fn given_of(flow: u8, name: &[u8], format: &[u8], limit: u32) -> Given
+// How many bytes the frame of a client of this flow has, where the name has 1 to 255 bytes and the format at most 255, all of UTF-8.
+pub fn given_of(flow: u8, name: &[u8], format: &[u8], limit: u32) -> Result<usize, BadOffer>
     ensures { result ≡ given_of flow (offer_of name.now format.now) limit }
 {
     let good = good_name(name) & good_format(format);
     if good {
-        return Given::Good(frame_length(flow, name, format, limit));
+        return Ok(frame_length(flow, name, format, limit));
     }
-    Given::Bad
+    Err(BadOffer)
 }
 
 // Writes the frame of a client of this flow from place `at` on. Where it has no room there, or 34 refuses name or format, `out` stays as it
@@ -150,7 +146,7 @@ pub fn given_of(flow: u8, name: &[u8], format: &[u8], limit: u32) -> Given
 pub fn write(out: &mut [u8], at: usize, flow: u8, name: &[u8], format: &[u8], limit: u32)
     ensures { out.new ≡ written flow (offer_of name.now format.now) limit at out.old }
 {
-    let Given::Good(length) = given_of(flow, name, format, limit) else {
+    let Ok(length) = given_of(flow, name, format, limit) else {
         return;
     };
     let fits = bytes_be::holds(out.len(), at, length);

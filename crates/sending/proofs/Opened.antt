@@ -1,4 +1,5 @@
 -- An own OPEN, tested by what is given to it. Assumes nothing.
+use Rattle.std.specs.Prelude.{Result, Ok}
 use mathlib.Core.Path.{◌≡◌, ap, refl, sym}
 use Prim.Native.Nat.{◌+◌, ◌≤◌, ℕ}
 use mathlib.Core.List.{List, [], ◌∷◌}
@@ -12,9 +13,8 @@ use Rattle.control.specs.declared.MessageType.TheVariants.{Open}
 use Rattle.control.specs.Frame.{bytes_of}
 use Rattle.control.proofs.Round.{length_control}
 use Rattle.open.specs.Offer.{Offer}
-use Rattle.open_write.specs.declared.Given.{Given}
-use Rattle.open_write.specs.declared.Given.TheVariants.{Good, Bad}
-use Rattle.open_write.specs.Frame.{is_good, frame_for, given_of, given_number, written}
+use Rattle.open_write.specs.declared.BadOffer.{BadOffer}
+use Rattle.open_write.specs.Frame.{refused, is_good, frame_for, given_of, given_number, written}
 use Rattle.open_write.proofs.Fields.{frame_short}
 use Rattle.endpoint.specs.declared.Endpoint.{Endpoint}
 use Rattle.sending.specs.declared.Outgoing.{Outgoing}
@@ -24,7 +24,7 @@ use Rattle.sending.specs.Sending.{sent_by, send_of}
 use Rattle.sending.proofs.Decided.{longer, framed_long, refused_any}
 
 -- what is tested, by what is given
-abbrev pub open_tested : Given → Outgoing
+abbrev pub open_tested : Result ℕ BadOffer → Outgoing
 open_tested given =
     record {
       message = Open;
@@ -35,7 +35,7 @@ open_tested given =
     }
 
 module _ (e : Endpoint) (pipe : Offer) where
-  abbrev pub open_given : Given
+  abbrev pub open_given : Result ℕ BadOffer
   open_given = given_of e.flow pipe e.limit
 
   abbrev pub open_frame : List ℕ
@@ -46,18 +46,18 @@ module _ (e : Endpoint) (pipe : Offer) where
   unfolding given_of number_if misgiven
   open_decided room = go (is_good pipe) refl
     where
-      go : (t : Bool) → is_good pipe ≡ t → sent_by e (open_tested (cond t (Good (length open_frame)) Bad)) room ≡ send_of e (OPEN pipe) room
+      go : (t : Bool) → is_good pipe ≡ t → sent_by e (open_tested (cond t (Ok (length open_frame)) refused)) room ≡ send_of e (OPEN pipe) room
       go true good =
           simp good
-          (ap (λ (size : ℕ). sent_by e (longer (open_tested (Good (length open_frame))) size) room) (sym (framed_long Open false 0 open_frame)))
-      go false bad = simp bad (refused_any e (open_tested Bad) room (length (bundle_with Open false 0 (open_frame ∷ []))) refl)
+          (ap (λ (size : ℕ). sent_by e (longer (open_tested (Ok (length open_frame))) size) room) (sym (framed_long Open false 0 open_frame)))
+      go false bad = simp bad (refused_any e (open_tested refused) room (length (bundle_with Open false 0 (open_frame ∷ []))) refl)
 
   -- its frame is short
   pub given_short : frame_size open_given ≤ 568
   unfolding given_of
   given_short = go (is_good pipe) refl
     where
-      go : (t : Bool) → is_good pipe ≡ t → frame_size (cond t (Good (length open_frame)) Bad) ≤ 568
+      go : (t : Bool) → is_good pipe ≡ t → frame_size (cond t (Ok (length open_frame)) refused) ≤ 568
       go true good = frame_short e.flow pipe e.limit good
       go false bad = omega arith
 

@@ -1,8 +1,7 @@
 -- What `send_plain` and `frame_size` promise: a message without data frames, and the size of the frame of an OPEN.
-use Rattle.std.specs.Prelude.{ℕ, [], Bool, length}
+use Rattle.std.specs.Prelude.{ℕ, [], Bool, length, Result, Ok, Err}
 use Rattle.control.specs.declared.MessageType.{MessageType}
-use Rattle.open_write.specs.declared.Given.{Given}
-use Rattle.open_write.specs.declared.Given.TheVariants.{Good, Bad}
+use Rattle.open_write.specs.declared.BadOffer.{BadOffer}
 use Rattle.sending.specs.declared.Outgoing.{Outgoing}
 use Rattle.sending.specs.Calls.{bundle_with}
 
@@ -18,6 +17,6 @@ plain message type-data ask own =
     }
 
 -- how many bytes the frame of an OPEN has; 0 where 34 refuses it
-abbrev pub frame_size : Given → ℕ
-frame_size (Good size) = size
-frame_size Bad = 0
+abbrev pub frame_size : Result ℕ BadOffer → ℕ
+frame_size (Ok size) = size
+frame_size (Err why) = 0
