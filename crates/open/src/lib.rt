@@ -5,13 +5,20 @@ ghost use Rattle.std.specs.Prelude.{◌≡◌, ◌+◌, ◌≤◌, length};
 ghost use Rattle.bytes_be.specs.Part.{part_at, same};
 ghost use Rattle.open.specs.Frame.{oversized, frame_wire, is_there, frame_text, frame_rule, frame_field, place_if, socket_if, keep as Frame·keep};
 ghost use Rattle.open.specs.declared.Refusal.TheVariants.{Unreadable};
-ghost use Rattle.open.specs.Offer.{offer_of};
+ghost use Rattle.open.specs.Offer.{offer_in};
 ghost use Rattle.open.specs.Open.{opening_of, readable as Open·readable, refused_if, out_of_range, in_range, known_socket, offered_socket, offered_pipe, offered_format, open_of, heard_by, refusal_number};
 
 use bytes_be::Place;
 use numbered::Numbered;
 use terms::BadLimit;
 use wire::{Fault, Field, Kind};
+
+// A pipe name and a format, of any bytes: what an OPEN asks for, and what a server offers.
+#[derive(Clone, Copy)]
+pub struct Offer<'a> {
+    pub name: &'a [u8],
+    pub format: &'a [u8],
+}
 
 // The parts of an OPEN frame, as its fields give them. An absent one is the empty place at 0, where no payload stands.
 #[derive(Clone, Copy)]
@@ -312,24 +319,17 @@ fn offered_format(s: &[u8], format: &[u8], opening: Opening) -> Result<Opening, 
     refused_if(other, Refusal::OtherFormat, opening)
 }
 
-// What the frame from `from` to `to` of a message says to a server of this flow that offers this name and this format.
-pub fn hear(
-    s: &[u8],
-    from: usize,
-    to: usize,
-    flow: u8,
-    name: &[u8],
-    format: &[u8],
-) -> Result<Opening, Refusal>
-    ensures { result ≡ heard_by s.now from to flow (offer_of name.now format.now) }
+// What the frame from `from` to `to` of a message says to a server of this flow with this offer.
+pub fn hear(s: &[u8], from: usize, to: usize, flow: u8, offer: Offer) -> Result<Opening, Refusal>
+    ensures { result ≡ heard_by s.now from to flow (offer_in offer.entry) }
 {
     let said = open_of(s, from, to);
     let Ok(opening) = said else {
         return said;
     };
-    let pipe = offered_pipe(s, flow, name, opening);
+    let pipe = offered_pipe(s, flow, offer.name, opening);
     let Ok(_) = pipe else {
         return pipe;
     };
-    offered_format(s, format, opening)
+    offered_format(s, offer.format, opening)
 }

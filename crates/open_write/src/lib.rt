@@ -5,10 +5,11 @@ ghost use Rattle.std.specs.Prelude.{◌≡◌, ◌+◌, ◌≤◌, length};
 ghost use Rattle.bytes_be.specs.Part.{put_at};
 ghost use Rattle.wire.specs.Varint.{varint_length};
 ghost use Rattle.wire.specs.Written.{bytes_field};
-ghost use Rattle.open.specs.Offer.{offer_of};
+ghost use Rattle.open.specs.Offer.{offer_in};
 ghost use Rattle.open_write.specs.Frame.{good_name, good_format, socket_of, socket_field, format_field, parameters_field, frame_for, given_of, bad_number, written};
 
 use numbered::Numbered;
+use open::Offer;
 
 // A name or a format that an OPEN cannot have.
 #[derive(Clone, Copy)]
@@ -75,11 +76,11 @@ fn parameters_length(limit: u32) -> usize
 }
 
 // How many bytes the frame takes: a tag and a socket have one each, whatever the flow.
-fn frame_length(flow: u8, name: &[u8], format: &[u8], limit: u32) -> usize
-    requires { (length name.now ≤ 255) × (length format.now ≤ 255) }
-    ensures { result ≡ length (frame_for flow (offer_of name.now format.now) limit) }
+fn frame_length(flow: u8, offer: Offer, limit: u32) -> usize
+    requires { (length offer.name.now ≤ 255) × (length offer.format.now ≤ 255) }
+    ensures { result ≡ length (frame_for flow (offer_in offer.entry) limit) }
 {
-    field_length(name) + 2 + format_length(format) + parameters_length(limit)
+    field_length(offer.name) + 2 + format_length(offer.format) + parameters_length(limit)
 }
 
 // Stores a field that holds bytes, and answers the place behind it.
@@ -131,29 +132,29 @@ fn store_parameters(out: &mut [u8], at: usize, limit: u32)
 }
 
 // How many bytes the frame of a client of this flow has, where the name has 1 to 255 bytes and the format at most 255, all of UTF-8.
-pub fn given_of(flow: u8, name: &[u8], format: &[u8], limit: u32) -> Result<usize, BadOffer>
-    ensures { result ≡ given_of flow (offer_of name.now format.now) limit }
+pub fn given_of(flow: u8, offer: Offer, limit: u32) -> Result<usize, BadOffer>
+    ensures { result ≡ given_of flow (offer_in offer.entry) limit }
 {
-    let good = good_name(name) & good_format(format);
+    let good = good_name(offer.name) & good_format(offer.format);
     if good {
-        return Ok(frame_length(flow, name, format, limit));
+        return Ok(frame_length(flow, offer, limit));
     }
     Err(BadOffer)
 }
 
 // Writes the frame of a client of this flow from place `at` on. Where it has no room there, or 34 refuses name or format, `out` stays as it
 // is.
-pub fn write(out: &mut [u8], at: usize, flow: u8, name: &[u8], format: &[u8], limit: u32)
-    ensures { out.new ≡ written flow (offer_of name.now format.now) limit at out.old }
+pub fn write(out: &mut [u8], at: usize, flow: u8, offer: Offer, limit: u32)
+    ensures { out.new ≡ written flow (offer_in offer.entry) limit at out.old }
 {
-    let Ok(length) = given_of(flow, name, format, limit) else {
+    let Ok(length) = given_of(flow, offer, limit) else {
         return;
     };
     let fits = bytes_be::holds(out.len(), at, length);
     if fits {
-        let socket = store_bytes(out, at, 1, name);
+        let socket = store_bytes(out, at, 1, offer.name);
         store_socket(out, socket, flow);
-        let parameters = store_format(out, socket + 2, format);
+        let parameters = store_format(out, socket + 2, offer.format);
         store_parameters(out, parameters, limit);
     }
 }

@@ -9,21 +9,21 @@ use Rattle.open_write.proofs.frame_length.Goals as goal
 pub overflow_add-result : goal.overflow_add-result
 overflow_add-result c =
     let a = c.args in
-    let f = c.field_length.ensures in let v = varint_at_most (length a.name.now) in let l = c.requires.0 in
+    let f = c.field_length.ensures in let v = varint_at_most (length a.offer.name.now) in let l = c.requires.0 in
     search rules
 
 pub overflow_add-result-2 : goal.overflow_add-result-2
 overflow_add-result-2 c =
     let a = c.args in
-    let f = c.field_length.ensures in let v = varint_at_most (length a.name.now) in let l = c.requires.0 in
-    let g = c.format_length.ensures in let w = format_short a.format.now c.requires.1 in
+    let f = c.field_length.ensures in let v = varint_at_most (length a.offer.name.now) in let l = c.requires.0 in
+    let g = c.format_length.ensures in let w = format_short a.offer.format.now c.requires.1 in
     search rules
 
 pub overflow_add-result-3 : goal.overflow_add-result-3
 overflow_add-result-3 c =
     let a = c.args in
-    let f = c.field_length.ensures in let v = varint_at_most (length a.name.now) in let l = c.requires.0 in
-    let g = c.format_length.ensures in let w = format_short a.format.now c.requires.1 in
+    let f = c.field_length.ensures in let v = varint_at_most (length a.offer.name.now) in let l = c.requires.0 in
+    let g = c.format_length.ensures in let w = format_short a.offer.format.now c.requires.1 in
     let p = c.parameters_length.ensures in let q = parameters_short a.limit in
     search rules
 
