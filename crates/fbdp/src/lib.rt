@@ -16,6 +16,7 @@ use endpoint::Made;
 use receiving::{Answer, Content, Heard, Reply};
 use sending::{Report, Sent};
 use terms::{Term, Value};
+use wire::Fault;
 
 // The number of the interface, which the name of the function has too.
 pub fn fbdp_interface_3() -> u32
@@ -47,26 +48,17 @@ pub fn fbdp_frame(bundle: &[u8], index: u32, slots: &mut [u64; 3]) -> u32
     bundle::frame_number(frame) as u32
 }
 
-fn value_slots(value: Value) -> [u64; 3]
+fn value_slots(value: Result<Value, Fault>) -> [u64; 3]
     ensures { result ≡ value_slots value }
 {
     match value {
-        Value::Null => [1, 0, 0],
-        Value::Number { double: _, bits } => [2, bits, 0],
-        Value::Text(place) => {
-            let at = place.at as u64;
-            let length = place.length as u64;
-            [3, at, length]
-        }
-        Value::Boolean(truth) => {
-            if truth {
-                return [4, 1, 0];
-            }
-            [4, 0, 0]
-        }
-        Value::Struct => [5, 0, 0],
-        Value::List => [6, 0, 0],
-        Value::Unreadable(_) => [0, 0, 0],
+        Ok(Value::Null) => [1, 0, 0],
+        Ok(Value::Number { double: _, bits }) => [2, bits, 0],
+        Ok(Value::Text(place)) => [3, place.at as u64, place.length as u64],
+        Ok(Value::Boolean(truth)) => [4, u64::from(truth), 0],
+        Ok(Value::Struct) => [5, 0, 0],
+        Ok(Value::List) => [6, 0, 0],
+        Err(_) => [0, 0, 0],
     }
 }
 
@@ -76,31 +68,25 @@ pub fn fbdp_value(bytes: &[u8], slots: &mut [u64; 3]) -> u32
 {
     let value = terms::value_of(bytes);
     *slots = value_slots(value);
-    terms::value_number(value) as u32
+    numbered::number_of(&value) as u32
 }
 
-fn term_slots(term: Term) -> [u64; 3]
-    ensures { result ≡ term_slots term }
+fn term_slots(answer: Result<Term, terms::Refusal>) -> [u64; 3]
+    ensures { result ≡ term_slots answer }
 {
-    match term {
-        Term::In { layer, place } => {
-            let slice = layer as u64 + 1;
-            let at = place.at as u64;
-            let length = place.length as u64;
-            [slice, at, length]
-        }
-        Term::Unreadable { layer: _, why: _ } => [1, 0, 0],
-        Term::Absent => [1, 0, 0],
-    }
+    let Ok(Term { layer, place }) = answer else {
+        return [1, 0, 0];
+    };
+    [layer as u64 + 1, place.at as u64, place.length as u64]
 }
 
 // Where the Value of a key stands in the client's parameters, and failing that in the default Struct.
 pub fn fbdp_lookup(client: &[u8], defaults: &[u8], key: &[u8], slots: &mut [u64; 3]) -> u32
     ensures { LookupAnswer client.now defaults.now key.now result slots.new }
 {
-    let term = terms::term_of(client, defaults, key);
-    *slots = term_slots(term);
-    terms::term_number(term) as u32
+    let answer = terms::term_of(client, defaults, key);
+    *slots = term_slots(answer);
+    numbered::number_of(&answer) as u32
 }
 
 // Keeps what was made in a block of 64 bytes.

@@ -1,5 +1,5 @@
 -- What the functions that are exported for the comparison answer and leave, where no definition below says it already.
-use Rattle.std.specs.Prelude.{ℕ, ◌-◌, ◌≡◌, List, [], ◌∷◌, Bool, true, false, cond, length, eqb, Result, Ok, Err}
+use Rattle.std.specs.Prelude.{ℕ, ◌-◌, ◌≡◌, List, [], ◌∷◌, Bool, true, false, cond, length, eqb, Some, None, Result, Ok, Err}
 use Rattle.bytes_be.specs.Part.{put_at}
 use Rattle.bundle.specs.Reading.{contents_of, contents_number, frame_number}
 use Rattle.bundle.specs.Writing.{Written}
@@ -19,16 +19,13 @@ use Rattle.wire.specs.Varint.{shortest_of, varint_length}
 use Rattle.wire.specs.Fields.{Reading, field_at}
 use Rattle.params.specs.Message.{Check, check_number}
 use Rattle.params.specs.Rules.{struct_check, alone_check}
-use Rattle.terms.specs.declared.Announced.{Announced}
-use Rattle.terms.specs.declared.Announced.TheVariants.{Nothing, Limit, Bad}
-use Rattle.terms.specs.Announced.{limit_in, announced_limit}
+use Rattle.terms.specs.Announced.{Announced, limit_in, announced_limit}
 use Rattle.open.specs.Offer.{Offer}
 use Rattle.open.specs.declared.Opening.{Opening}
 use Rattle.open.specs.declared.Refusal.{Refusal}
 use Rattle.open.specs.declared.Refusal.TheVariants.{Unreadable, OutOfRange, UnknownSocket, OtherPipe, OtherFormat}
 use Rattle.open.specs.Open.{open_number}
-use Rattle.open_write.specs.declared.Given.{Given}
-use Rattle.open_write.specs.declared.Given.TheVariants.{Good as Given-as-Good, Bad as Given-as-Bad}
+use Rattle.open_write.specs.declared.BadOffer.{BadOffer}
 use Rattle.open_write.specs.Frame.{given_of, given_number, written}
 
 -- frame count, the control frame's place and length, the message's size
@@ -115,9 +112,9 @@ pub record CheckAnswer (value : Bool) (bytes : List ℕ) (number : ℕ) (slots :
 
 -- none (0), a limit (1) or a bad one (2), and the limit
 abbrev pub announced_slots : Announced → List ℕ
-announced_slots Nothing = 0 ∷ 0 ∷ []
-announced_slots (Limit limit) = 1 ∷ limit ∷ []
-announced_slots Bad = 2 ∷ 0 ∷ []
+announced_slots (Ok None) = 0 ∷ 0 ∷ []
+announced_slots (Ok (Some limit)) = 1 ∷ limit ∷ []
+announced_slots (Err why) = 2 ∷ 0 ∷ []
 
 abbrev pub if_readable : Check → List ℕ → List ℕ
 if_readable (Ok passed) slots = slots
@@ -161,9 +158,9 @@ pub record OpenAnswer (said : Result Opening Refusal) (number : ℕ) (slots : Li
   pub told : slots ≡ open_slots said
 
 -- how long the frame is, also where it has no room
-abbrev pub given_length : Given → ℕ
-given_length (Given-as-Good frame-length) = frame-length
-given_length Given-as-Bad = 0
+abbrev pub given_length : Result ℕ BadOffer → ℕ
+given_length (Ok frame-length) = frame-length
+given_length (Err why) = 0
 
 pub record OpenFrameAnswer (flow : ℕ) (asked : Offer) (limit at : ℕ) (before : List ℕ) (number frame-length : ℕ)
     (after : List ℕ) : Type 0 where

@@ -15,11 +15,10 @@ ghost use Rattle.probe.specs.Entries.{contents_slots, ContentsAnswer, handed_slo
 
 use bundle::{Contents, Frame};
 use control::{Control, KnownType};
-use open::{Open, Opening, Refusal};
-use open_write::Given;
-use params::Check;
-use terms::Announced;
-use wire::{Fault, Field, Kind, Reading};
+use open::{Offer, Opening, Refusal};
+use open_write::BadOffer;
+use terms::BadLimit;
+use wire::{Fault, Field, Kind};
 
 #[unsafe(no_mangle)]
 pub extern "C" fn probe_read8(bytes: &[u8], at: usize) -> u8
@@ -205,15 +204,12 @@ fn kind_number(kind: Kind) -> u8
     }
 }
 
-fn reading_number(reading: Reading) -> u8
+fn reading_number(reading: Result<Field, Fault>) -> u8
     ensures { result ≡ reading_number reading }
 {
     match reading {
-        Reading::Read(_) => 0,
-        Reading::Refused(why) => {
-            let kind = why.kind;
-            kind_number(kind)
-        }
+        Ok(_) => 0,
+        Err(why) => kind_number(why.kind),
     }
 }
 
@@ -230,17 +226,19 @@ fn said_by(field: Field) -> u64
     (field.next - field.at) as u64
 }
 
-fn reading_slots(reading: Reading) -> [u64; 5]
+fn reading_slots(reading: Result<Field, Fault>) -> [u64; 5]
     ensures { result ≡ reading_slots reading }
 {
-    match reading {
-        Reading::Read(field) => {
-            let at = field.at as u64;
-            let next = field.next as u64;
-            [field.number, field.wire, said_by(field), at, next]
-        }
-        Reading::Refused(_) => [0, 0, 0, 0, 0],
-    }
+    let Ok(field) = reading else {
+        return [0, 0, 0, 0, 0];
+    };
+    [
+        field.number,
+        field.wire,
+        said_by(field),
+        field.at as u64,
+        field.next as u64,
+    ]
 }
 
 #[unsafe(no_mangle)]
@@ -260,20 +258,16 @@ pub extern "C" fn probe_varint(out: &mut [u8], at: usize, number: u64) -> u64
     wire::varint_length(number) as u64
 }
 
-fn check_slots(check: Check) -> [u64; 2]
+fn check_slots(check: Result<(), Fault>) -> [u64; 2]
     ensures { result ≡ check_slots check }
 {
-    match check {
-        Check::Good => [0, 0],
-        Check::Refused(why) => {
-            let kind = why.kind;
-            let at = why.at as u64;
-            [kind_number(kind) as u64, at]
-        }
-    }
+    let Err(why) = check else {
+        return [0, 0];
+    };
+    [kind_number(why.kind) as u64, why.at as u64]
 }
 
-fn check_of(bytes: &[u8], value: bool) -> Check
+fn check_of(bytes: &[u8], value: bool) -> Result<(), Fault>
     ensures { result ≡ check_of value bytes.now }
 {
     if value {
@@ -288,7 +282,7 @@ pub extern "C" fn probe_check(bytes: &[u8], value: bool, slots: &mut [u64; 2]) -
 {
     let check = check_of(bytes, value);
     *slots = check_slots(check);
-    params::check_number(check) as u32
+    numbered::number_of(&check) as u32
 }
 
 #[unsafe(no_mangle)]
@@ -298,23 +292,23 @@ pub extern "C" fn probe_limit_bytes(number: u32, bytes: &mut [u8; 8])
     *bytes = double::bytes_of(number);
 }
 
-fn announced_slots(announced: Announced) -> [u64; 2]
+fn announced_slots(announced: Result<Option<u32>, BadLimit>) -> [u64; 2]
     ensures { result ≡ announced_slots announced }
 {
     match announced {
-        Announced::Nothing => [0, 0],
-        Announced::Limit(limit) => [1, limit as u64],
-        Announced::Bad => [2, 0],
+        Ok(None) => [0, 0],
+        Ok(Some(limit)) => [1, limit as u64],
+        Err(_) => [2, 0],
     }
 }
 
-fn if_readable(check: Check, slots: [u64; 2]) -> [u64; 2]
+fn if_readable(check: Result<(), Fault>, slots: [u64; 2]) -> [u64; 2]
     ensures { result ≡ if_readable check slots }
 {
-    match check {
-        Check::Good => slots,
-        Check::Refused(_) => [0, 0],
-    }
+    let Ok(()) = check else {
+        return [0, 0];
+    };
+    slots
 }
 
 #[unsafe(no_mangle)]
@@ -324,7 +318,7 @@ pub extern "C" fn probe_limit(parameters: &[u8], slots: &mut [u64; 2]) -> u32
     let check = check_of(parameters, false);
     let announced = terms::limit_in(parameters, 0, parameters.len());
     *slots = if_readable(check, announced_slots(announced));
-    params::check_number(check) as u32
+    numbered::number_of(&check) as u32
 }
 
 fn flow_of(producer: bool) -> u8
@@ -385,12 +379,12 @@ fn refusal_slots(refusal: Refusal) -> [u64; 10]
     }
 }
 
-fn open_slots(said: Open) -> [u64; 10]
+fn open_slots(said: Result<Opening, Refusal>) -> [u64; 10]
     ensures { result ≡ open_slots said }
 {
     match said {
-        Open::Heard(opening) => opening_slots(opening),
-        Open::Refused(refusal) => refusal_slots(refusal),
+        Ok(opening) => opening_slots(opening),
+        Err(refusal) => refusal_slots(refusal),
     }
 }
 
@@ -406,17 +400,17 @@ pub extern "C" fn probe_open(
 ) -> u32
     ensures { OpenAnswer (heard_by message.now at end (flow_of producer) (offer_of name.now format.now)) result slots.new }
 {
-    let said = open::hear(message, at, end, flow_of(producer), name, format);
+    let said = open::hear(message, at, end, flow_of(producer), Offer { name, format });
     *slots = open_slots(said);
-    open::open_number(said) as u32
+    numbered::number_of(&said) as u32
 }
 
-fn given_length(given: Given) -> u64
+fn given_length(given: Result<usize, BadOffer>) -> u64
     ensures { result ≡ given_length given }
 {
     match given {
-        Given::Good(length) => length as u64,
-        Given::Bad => 0,
+        Ok(length) => length as u64,
+        Err(_) => 0,
     }
 }
 
@@ -433,8 +427,9 @@ pub extern "C" fn probe_open_frame(
     ensures { OpenFrameAnswer (flow_of producer) (offer_of name.now format.now) limit at out.old result frame_length.new out.new }
 {
     let flow = flow_of(producer);
-    let given = open_write::given_of(flow, name, format, limit);
+    let offer = Offer { name, format };
+    let given = open_write::given_of(flow, offer, limit);
     *frame_length = given_length(given);
-    open_write::write(out, at, flow, name, format, limit);
-    open_write::given_number(given) as u32
+    open_write::write(out, at, flow, offer, limit);
+    numbered::number_of(&given) as u32
 }
