@@ -1,5 +1,5 @@
 -- What a frame holds, from any of its fields on; its parts lie in the bytes. Assumes nothing.
-use Rattle.std.specs.Prelude.{Ok, Err}
+use Rattle.std.specs.Prelude.{Option, Some, Ok, Err}
 use Prim.Native.Nat.{ℕ, zero, suc, ◌+◌, ◌-◌, ◌≤◌, ◌<◌}
 use mathlib.Core.Path.{◌≡◌, refl, sym, ◌∙◌}
 use mathlib.Core.List.{List, []}
@@ -13,6 +13,7 @@ use Rattle.wire.specs.Fields.{Reading, field_at, and_behind, fields_within, fiel
 use Rattle.wire.proofs.Readings.{Within, field_within, no_fields, first_field}
 use Rattle.params.specs.Message.{place_of}
 use Rattle.open.specs.declared.Parts.{Parts}
+use Rattle.open.specs.Open.{or_nowhere}
 use Rattle.open.specs.Frame.{nothing, place_if, keep, kept, parts_of}
 
 -- `whole` is what the frame holds, and is known to be what it holds from `at` on
@@ -31,16 +32,17 @@ abbrev Lies : List ℕ → Place → Type 0
 Lies s place = place.at + place.length ≤ length s
 
 pub record Placed (s : List ℕ) (parts : Parts) : Type 0 where
-  pub name : Lies s parts.name
-  pub format : Lies s parts.format
-  pub parameters : Lies s parts.parameters
+  pub name : Lies s (or_nowhere parts.name)
+  pub format : Lies s (or_nowhere parts.format)
+  pub parameters : Lies s (or_nowhere parts.parameters)
 
 module _ (s : List ℕ) (to : ℕ) where
-  place_if_lies : (number at : ℕ) (field : Field) (otherwise : Place) → Within s at to field → Lies s otherwise → Lies s (place_if number field otherwise)
+  place_if_lies : (number at : ℕ) (field : Field) (otherwise : Option Place) → Within s at to field → Lies s (or_nowhere otherwise)
+      → Lies s (or_nowhere (place_if number field otherwise))
   unfolding place_if
   place_if_lies number at field otherwise w h = pick (eqb field.number number) (let e = w.ends in let i = w.inside in let l = w.there in omega arith) h
     where
-      pick : (t : Bool) → Lies s (place_of field) → Lies s otherwise → Lies s (cond t (place_of field) otherwise)
+      pick : (t : Bool) → Lies s (place_of field) → Lies s (or_nowhere otherwise) → Lies s (or_nowhere (cond t (Some (place_of field)) otherwise))
       pick true f g = f
       pick false f g = g
 

@@ -13,7 +13,7 @@ use Rattle.open.specs.declared.Opening.{Opening}
 use Rattle.open.specs.declared.Refusal.TheVariants.{OutOfRange, UnknownSocket, OtherPipe, OtherFormat}
 use Rattle.open.specs.Frame.{frame_check, parts_of}
 use Rattle.open.specs.Offer.{Offer}
-use Rattle.open.specs.Open.{opening_of, if_good, readable, out_of_range, in_range, known_socket, offered_socket, offered_pipe, offered_format, ◌then◌, open_of, offered, heard_by}
+use Rattle.open.specs.Open.{or_nowhere, opening_of, if_good, readable, out_of_range, in_range, known_socket, offered_socket, offered_pipe, offered_format, ◌then◌, open_of, offered, heard_by}
 use Rattle.params.specs.Message.{Check}
 use Rattle.open.proofs.Stages.{OfOpening, stage_holds, then_holds}
 
@@ -29,7 +29,7 @@ unfolding readable opening_of
 readable_bounded s from to = go (frame_check s from to)
   where
     go : (check : Check) → OfOpening SaidBounded (if_good check (opening_of s (parts_of s from to)))
-    go (Ok passed) = limit_bounded s (parts_of s from to).parameters.at ((parts_of s from to).parameters.at + (parts_of s from to).parameters.length)
+    go (Ok passed) = let place = or_nowhere (parts_of s from to).parameters in limit_bounded s place.at (place.at + place.length)
     go (Err why) = tt
 
 range_bounded : (opening : Opening) → SaidBounded opening → OfOpening HeardBounded (in_range opening)

@@ -1,14 +1,14 @@
 -- "Fields: 1 data_pipe (string), 2 pipe_socket (uint32), 3 data_format (string), 4 parameters (Struct). Each at most once, with its own
 -- wire type. Fields 5 and up are skipped for wire types 0, 1, 2, 5." Behind tag and payload the tests at a field run: an oversized socket,
 -- wire type, repetition, UTF-8; only then inside.
-use Rattle.std.specs.Prelude.{ℕ, List, [], ◌∷◌, Bool, true, false, cond, not, ◌&&◌, ◌||◌, ltb, eqb, Ok, Err}
+use Rattle.std.specs.Prelude.{ℕ, List, [], ◌∷◌, Bool, true, false, cond, not, ◌&&◌, ◌||◌, ltb, eqb, Option, Some, None, is_some, Ok, Err}
 use Rattle.bytes_be.specs.Part.{between}
 use Rattle.bytes_be.specs.declared.Place.{Place}
 use Rattle.utf8.specs.Text.{well_formed}
 use Rattle.wire.specs.declared.Kind.TheVariants.{BadVarint, WireType, Repeated, BadText}
 use Rattle.wire.specs.declared.Field.{Field}
 use Rattle.wire.specs.Fields.{Reading, fields_of}
-use Rattle.params.specs.Message.{Check, good, refuse_if, and_then, walk, place_of, nowhere}
+use Rattle.params.specs.Message.{Check, good, refuse_if, and_then, walk, place_of}
 use Rattle.params.specs.Rules.{struct_check}
 use Rattle.open.specs.declared.Parts.{Parts}
 
@@ -30,15 +30,10 @@ oversized number value = eqb number 2 && ltb 0xFFFF_FFFF value
 unfoldable pub frame_wire : ℕ → ℕ → Bool
 frame_wire number wire = by_field number (eqb wire 2) (eqb wire 0) (eqb wire 2) (eqb wire 2) true
 
--- "Each at most once": whether there was one before; a payload stands behind its tag, and so never at 0
+-- "Each at most once": whether there was one before
 unfoldable pub is_there : Parts → ℕ → Bool
 is_there parts number =
-    by_field number
-    (not (eqb parts.name.at 0))
-    (not (eqb parts.asked.at 0))
-    (not (eqb parts.format.at 0))
-    (not (eqb parts.parameters.at 0))
-    false
+    by_field number (is_some parts.name) (is_some parts.socket) (is_some parts.format) (is_some parts.parameters) false
 
 -- "bad UTF-8 in any string"
 unfoldable pub frame_text : List ℕ → ℕ → ℕ → ℕ → Bool
@@ -58,26 +53,25 @@ unfoldable pub frame_field : List ℕ → Parts → Field → Check
 frame_field s parts field =
     and_then (frame_rule s parts field) (cond (eqb field.number 4) (struct_check s field.at field.next) good)
 
--- the parts before the first field: "an absent one as the empty place at 0", and an absent socket says 0
+-- the parts before the first field
 abbrev pub nothing : Parts
-nothing = record { name = nowhere; asked = nowhere; format = nowhere; parameters = nowhere; socket = 0 }
+nothing = record { name = None; socket = None; format = None; parameters = None }
 
 -- where the payload of a field stands, if it has this number, and what its varint says, if it is the socket
-unfoldable pub place_if : ℕ → Field → Place → Place
-place_if number field otherwise = cond (eqb field.number number) (place_of field) otherwise
+unfoldable pub place_if : ℕ → Field → Option Place → Option Place
+place_if number field otherwise = cond (eqb field.number number) (Some (place_of field)) otherwise
 
-unfoldable pub socket_if : Field → ℕ → ℕ
-socket_if field otherwise = cond (eqb field.number 2) field.value otherwise
+unfoldable pub socket_if : Field → Option ℕ → Option ℕ
+socket_if field otherwise = cond (eqb field.number 2) (Some field.value) otherwise
 
 -- the parts after one field more, of two the later
 unfoldable pub keep : Parts → Field → Parts
 keep parts field =
     record {
       name = place_if 1 field parts.name;
-      asked = place_if 2 field parts.asked;
+      socket = socket_if field parts.socket;
       format = place_if 3 field parts.format;
       parameters = place_if 4 field parts.parameters;
-      socket = socket_if field parts.socket;
     }
 
 -- the parts after the last field

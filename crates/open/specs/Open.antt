@@ -1,8 +1,9 @@
 -- "Checks run in the order of the numbers", here 18 to 22: each stage hears the opening or refuses it, and the first refusal is the answer.
-use Rattle.std.specs.Prelude.{ℕ, ◌+◌, List, Bool, cond, not, ◌&&◌, ◌||◌, ltb, leb, eqb, Result, Ok, Err}
+use Rattle.std.specs.Prelude.{ℕ, ◌+◌, List, Bool, cond, not, ◌&&◌, ◌||◌, ltb, leb, eqb, Option, unwrap_or, Result, Ok, Err}
+use Rattle.bytes_be.specs.declared.Place.{Place}
 use Rattle.bytes_be.specs.Part.{part_at, same}
 use Rattle.wire.specs.Fields.{fault_number}
-use Rattle.params.specs.Message.{Check}
+use Rattle.params.specs.Message.{Check, nowhere}
 use Rattle.terms.specs.Announced.{limit_in, announced_number}
 use Rattle.open.specs.declared.Parts.{Parts}
 use Rattle.open.specs.declared.Opening.{Opening}
@@ -11,15 +12,19 @@ use Rattle.open.specs.declared.Refusal.TheVariants.{Unreadable, OutOfRange, Unkn
 use Rattle.open.specs.Frame.{frame_check, parts_of}
 use Rattle.open.specs.Offer.{Offer}
 
--- "Heard too are its socket and the places of name, format and parameters", and the limit that the parameters announce
+-- "an absent one as the empty place at 0"
+abbrev pub or_nowhere : Option Place → Place
+or_nowhere place = unwrap_or place nowhere
+
+-- "Heard too are its socket and the places of name, format and parameters", and the limit that the parameters announce; an absent socket is 0
 unfoldable pub opening_of : List ℕ → Parts → Opening
 opening_of s parts =
     record {
-      socket = parts.socket;
-      name = parts.name;
-      format = parts.format;
-      parameters = parts.parameters;
-      announced = limit_in s parts.parameters.at (parts.parameters.at + parts.parameters.length);
+      socket = unwrap_or parts.socket 0;
+      name = or_nowhere parts.name;
+      format = or_nowhere parts.format;
+      parameters = or_nowhere parts.parameters;
+      announced = limit_in s (or_nowhere parts.parameters).at ((or_nowhere parts.parameters).at + (or_nowhere parts.parameters).length);
     }
 
 abbrev pub if_good : Check → Opening → Result Opening Refusal

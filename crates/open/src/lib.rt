@@ -3,10 +3,10 @@
 
 ghost use Rattle.std.specs.Prelude.{◌≡◌, ◌+◌, ◌≤◌, length};
 ghost use Rattle.bytes_be.specs.Part.{part_at, same};
-ghost use Rattle.open.specs.Frame.{oversized, frame_wire, is_there, frame_text, frame_rule, frame_field, place_if, socket_if, keep as Frame·keep};
+ghost use Rattle.open.specs.Frame.{oversized, frame_wire, is_there, frame_text, frame_rule, frame_field, keep as Frame·keep};
 ghost use Rattle.open.specs.declared.Refusal.TheVariants.{Unreadable};
 ghost use Rattle.open.specs.Offer.{offer_in};
-ghost use Rattle.open.specs.Open.{opening_of, readable as Open·readable, refused_if, out_of_range, in_range, known_socket, offered_socket, offered_pipe, offered_format, open_of, heard_by, refusal_number};
+ghost use Rattle.open.specs.Open.{or_nowhere, opening_of, readable as Open·readable, refused_if, out_of_range, in_range, known_socket, offered_socket, offered_pipe, offered_format, open_of, heard_by, refusal_number};
 
 use bytes_be::Place;
 use numbered::Numbered;
@@ -20,16 +20,14 @@ pub struct Offer<'a> {
     pub format: &'a [u8],
 }
 
-// The parts of an OPEN frame, as its fields give them. An absent one is the empty place at 0, where no payload stands.
+// The parts of an OPEN frame, as its fields give them.
 #[derive(Clone, Copy)]
 pub struct Parts {
-    pub name: Place,
-    // Where the socket stands.
-    pub asked: Place,
-    pub format: Place,
-    pub parameters: Place,
-    // What its varint says; 0 where it is absent.
-    pub socket: u64,
+    pub name: Option<Place>,
+    // What its varint says.
+    pub socket: Option<u64>,
+    pub format: Option<Place>,
+    pub parameters: Option<Place>,
 }
 
 // What an OPEN frame says. An absent part is the empty place at 0.
@@ -100,14 +98,15 @@ fn frame_wire(number: u64, wire: u64) -> bool
 }
 
 // Whether there was a field of this number before.
+#[tactic(auto, unfolding(crate::specs::Frame::is_there))]
 fn is_there(parts: Parts, number: u64) -> bool
     ensures { result ≡ is_there parts number }
 {
     match number {
-        1 => parts.name.at != 0,
-        2 => parts.asked.at != 0,
-        3 => parts.format.at != 0,
-        4 => parts.parameters.at != 0,
+        1 => parts.name.is_some(),
+        2 => parts.socket.is_some(),
+        3 => parts.format.is_some(),
+        4 => parts.parameters.is_some(),
         _ => false,
     }
 }
@@ -150,59 +149,45 @@ fn frame_field(s: &[u8], parts: Parts, field: Field) -> Result<(), Fault>
     Ok(())
 }
 
-// Where the payload of a field stands, if it has this number.
-fn place_if(number: u64, field: Field, otherwise: Place) -> Place
-    requires { field.at ≤ field.next }
-    ensures { result ≡ place_if number field otherwise }
-{
-    if field.number == number {
-        return Place {
-            at: field.at,
-            length: field.next - field.at,
-        };
-    }
-    otherwise
-}
-
-fn socket_if(field: Field, otherwise: u64) -> u64
-    ensures { result ≡ socket_if field otherwise }
-{
-    if field.number == 2 {
-        return field.value;
-    }
-    otherwise
-}
-
 // The parts after one field more.
+#[tactic(auto, unfolding(crate::specs::Frame::keep, crate::specs::Frame::place_if, crate::specs::Frame::socket_if))]
 fn keep(parts: Parts, field: Field) -> Parts
     requires { field.at ≤ field.next }
     ensures { result ≡ Frame·keep parts field }
 {
-    let name = parts.name;
-    let asked = parts.asked;
-    let format = parts.format;
-    let parameters = parts.parameters;
-    Parts {
-        name: place_if(1, field, name),
-        asked: place_if(2, field, asked),
-        format: place_if(3, field, format),
-        parameters: place_if(4, field, parameters),
-        socket: socket_if(field, parts.socket),
+    let place = Place {
+        at: field.at,
+        length: field.next - field.at,
+    };
+    let mut next = parts;
+    match field.number {
+        1 => next.name = Some(place),
+        2 => next.socket = Some(field.value),
+        3 => next.format = Some(place),
+        4 => next.parameters = Some(place),
+        _ => {}
     }
+    next
 }
 
+// The place of a part; an absent one is the empty place at 0.
+fn or_nowhere(place: Option<Place>) -> Place
+    ensures { result ≡ or_nowhere place }
+{
+    place.unwrap_or(Place { at: 0, length: 0 })
+}
+
+#[tactic(auto, unfolding(crate::specs::Open::opening_of))]
 fn opening_of(s: &[u8], parts: Parts) -> Opening
-    requires { parts.parameters.at + parts.parameters.length ≤ length s.now }
+    requires { (or_nowhere parts.parameters).at + (or_nowhere parts.parameters).length ≤ length s.now }
     ensures { result ≡ opening_of s.now parts }
 {
-    let name = parts.name;
-    let format = parts.format;
-    let parameters = parts.parameters;
+    let parameters = or_nowhere(parts.parameters);
     Opening {
-        socket: parts.socket,
-        name: name,
-        format: format,
-        parameters: parameters,
+        socket: parts.socket.unwrap_or(0),
+        name: or_nowhere(parts.name),
+        format: or_nowhere(parts.format),
+        parameters,
         announced: terms::limit_in(s, parameters.at, parameters.at + parameters.length),
     }
 }
@@ -211,13 +196,11 @@ fn opening_of(s: &[u8], parts: Parts) -> Opening
 fn readable(s: &[u8], from: usize, to: usize) -> Result<Opening, Refusal>
     ensures { result ≡ Open·readable s.now from to }
 {
-    let nowhere = Place { at: 0, length: 0 };
     let mut parts = Parts {
-        name: nowhere,
-        asked: nowhere,
-        format: nowhere,
-        parameters: nowhere,
-        socket: 0,
+        name: None,
+        socket: None,
+        format: None,
+        parameters: None,
     };
     let mut at = from;
     while at < to {

@@ -1,6 +1,6 @@
 -- Reading undoes writing: of a frame that was written, wherever it stands, the same socket, name, format and limit are heard. Assumes
 -- nothing.
-use Rattle.std.specs.Prelude.{Result, Ok}
+use Rattle.std.specs.Prelude.{Option, Some, None, Result, Ok}
 use Prim.Native.Nat.{ℕ, ◌+◌, ◌-◌, ◌≤◌}
 use mathlib.Core.Path.{◌≡◌, refl, sym, ap, ◌∙◌}
 use mathlib.Core.List.{List, [], ◌∷◌, ◌++◌, append_assoc}
@@ -20,7 +20,7 @@ use Rattle.wire.specs.Written.{bytes_field}
 use Rattle.wire.proofs.Readings.{no_fields}
 use Rattle.wire.proofs.Written.{bytes_field_at, varint_field_at, varint_first, bytes_stand, length_bytes_field}
 use Rattle.double.specs.Limit.{least_limit, most_limit}
-use Rattle.params.specs.Message.{good, walk, first_of, place_of, nowhere}
+use Rattle.params.specs.Message.{good, walk, first_of, place_of}
 use Rattle.params.specs.Keys.{find_in}
 use Rattle.params.specs.Rules.{struct_check}
 use Rattle.terms.specs.Announced.{limit_in, announced_number, announced_limit}
@@ -30,14 +30,14 @@ use Rattle.open.specs.declared.Opening.{Opening}
 use Rattle.open.specs.declared.Refusal.TheVariants.{OtherPipe}
 use Rattle.open.specs.declared.Refusal.{Refusal}
 use Rattle.open.specs.Offer.{Offer, offer_of}
-use Rattle.open.specs.Open.{opening_of, readable, refused_if, out_of_range, in_range, known_socket, offered_socket, offered_pipe, offered_format, ◌then◌, open_of, offered, heard_by}
+use Rattle.open.specs.Open.{or_nowhere, opening_of, readable, refused_if, out_of_range, in_range, known_socket, offered_socket, offered_pipe, offered_format, ◌then◌, open_of, offered, heard_by}
 use Rattle.open_write.specs.Frame.{good_name, good_format, is_good, socket_of, name_field, socket_field, format_field, limit_struct, parameters_field, frame_for, written}
 use Rattle.open_write.specs.Round.{answer_to, ReadBack, ReadsBack, WrittenReadsBack}
 use Rattle.open_write.proofs.Fields.{name_says, format_says, known-socket, length_socket, length_frame, format_none, format_some, parameters_none, parameters_some, length_struct}
 use Rattle.open_write.proofs.Announced.{limit_readable, limit_announced}
 
-abbrev holding : Place → Place → Place → Place → ℕ → Parts
-holding name asked format parameters socket = record { name = name; asked = asked; format = format; parameters = parameters; socket = socket }
+abbrev holding : Option Place → Option ℕ → Option Place → Option Place → Parts
+holding name socket format parameters = record { name = name; socket = socket; format = format; parameters = parameters }
 
 no_bytes : (xs : List ℕ) → length xs ≡ 0 → [] ≡ xs
 no_bytes [] e = refl
@@ -45,26 +45,26 @@ no_bytes (x ∷ xs) e = absurd (omega arith)
 
 module _ (s : List ℕ) (to : ℕ) (there : to ≤ length s) (limit : ℕ) (low : 1000000 ≤ limit) (high : limit ≤ 50000000) where
   -- what the last field leaves, behind the others
-  record ParametersBack (at : ℕ) (name socket format : Place) (number : ℕ) : Type 0 where
-    place : Place
-    bytes : part_at s place ≡ cond (eqb limit most_limit) [] (limit_struct limit)
-    good : walk (frame_field s) keep frame_done (fields_of s at to) (holding name socket format nowhere number) ≡ good
-    held : kept (fields_of s at to) (holding name socket format nowhere number) ≡ holding name socket format place number
-    fine : announced_number (limit_in s place.at (place.at + place.length)) ≡ 0
-    said : announced_limit (limit_in s place.at (place.at + place.length)) ≡ limit
+  record ParametersBack (at : ℕ) (name : Option Place) (socket : Option ℕ) (format : Option Place) : Type 0 where
+    place : Option Place
+    bytes : part_at s (or_nowhere place) ≡ cond (eqb limit most_limit) [] (limit_struct limit)
+    good : walk (frame_field s) keep frame_done (fields_of s at to) (holding name socket format None) ≡ good
+    held : kept (fields_of s at to) (holding name socket format None) ≡ holding name socket format place
+    fine : announced_number (limit_in s (or_nowhere place).at ((or_nowhere place).at + (or_nowhere place).length)) ≡ 0
+    said : announced_limit (limit_in s (or_nowhere place).at ((or_nowhere place).at + (or_nowhere place).length)) ≡ limit
 
   no_parameters : (at : ℕ) → limit ≡ 50000000 → at + length (parameters_field limit) ≡ to
-      → (name socket format : Place) (number : ℕ) → ParametersBack at name socket format number
+      → (name : Option Place) (socket : Option ℕ) (format : Option Place) → ParametersBack at name socket format
   unfolding walk kept limit_in find_in first_of
-  no_parameters at most ends name socket format number =
+  no_parameters at most ends name socket format =
       let none = no_fields s at to (omega (arith, ap length (parameters_none limit most))) in
       let nothing = no_fields s 0 0 (omega arith) in
-      record { place = nowhere; bytes = simp (eq-eqb limit 50000000 most); good = simp none; held = simp none; fine = simp nothing; said = simp nothing (sym most) }
+      record { place = None; bytes = simp (eq-eqb limit 50000000 most); good = simp none; held = simp none; fine = simp nothing; said = simp nothing (sym most) }
 
   some_parameters : (at : ℕ) (rest : List ℕ) → (limit ≡ 50000000 → ⊥) → drop at s ≡ bytes_field 4 (limit_struct limit) ++ rest → at + length (bytes_field 4 (limit_struct limit)) ≡ to
-      → (name socket format : Place) (number : ℕ) → ParametersBack at name socket format number
+      → (name : Option Place) (socket : Option ℕ) (format : Option Place) → ParametersBack at name socket format
   unfolding walk kept keep place_if socket_if frame_field frame_rule frame_wire oversized is_there frame_text
-  some_parameters at rest other stands ends name socket format number =
+  some_parameters at rest other stands ends name socket format =
       let field : Field = bytes_field_at at 4 (limit_struct limit) in
       let found = bytes_stand s at to there 4 (limit_struct limit) rest (omega arith, omega arith) (omega (arith, length_struct limit)) stands (omega arith) in
       let only : fields_of s at to ≡ Ok field ∷ [] = found.first ∙ ap (λ (l : List Reading). Ok field ∷ l) (no_fields s field.next to (omega arith)) in
@@ -73,13 +73,13 @@ module _ (s : List ℕ) (to : ℕ) (there : to ≤ length s) (limit : ℕ) (low 
       let long : field.next - field.at ≡ length (limit_struct limit) = omega arith in
       let readable : struct_check s field.at field.next ≡ good = rw inside at (limit_readable limit s field.at rest found.payload room) in
       let announced = limit_announced limit s field.at rest found.payload room low high in
-      record { place = place_of field; bytes = simp (ne_eqb limit 50000000 other) found.whole; good = simp (only, readable); held = simp only; fine = simp (long, announced); said = simp (long, announced) }
+      record { place = Some (place_of field); bytes = simp (ne_eqb limit 50000000 other) found.whole; good = simp (only, readable); held = simp only; fine = simp (long, announced); said = simp (long, announced) }
 
   parameters_back : (at : ℕ) (rest : List ℕ) → drop at s ≡ parameters_field limit ++ rest → at + length (parameters_field limit) ≡ to
-      → (name socket format : Place) (number : ℕ) → ParametersBack at name socket format number
+      → (name : Option Place) (socket : Option ℕ) (format : Option Place) → ParametersBack at name socket format
   parameters_back at rest stands ends = go (eqb limit 50000000) refl
     where
-      go : (t : Bool) → eqb limit 50000000 ≡ t → (name socket format : Place) (number : ℕ) → ParametersBack at name socket format number
+      go : (t : Bool) → eqb limit 50000000 ≡ t → (name : Option Place) (socket : Option ℕ) (format : Option Place) → ParametersBack at name socket format
       go true e = no_parameters at (eqb-true limit 50000000 e) ends
       go false e =
           let other = eqb-false limit 50000000 e in
@@ -87,23 +87,23 @@ module _ (s : List ℕ) (to : ℕ) (there : to ≤ length s) (limit : ℕ) (low 
           some_parameters at rest other (rw some at stands) (rw some at ends)
 
   -- what the last two fields leave, behind the others
-  record FormatBack (format : List ℕ) (at : ℕ) (name socket : Place) (number : ℕ) : Type 0 where
-    place : Place
-    long : place.length ≡ length format
-    bytes : part_at s place ≡ format
-    parameters : Place
-    held_bytes : part_at s parameters ≡ cond (eqb limit most_limit) [] (limit_struct limit)
-    good : walk (frame_field s) keep frame_done (fields_of s at to) (holding name socket nowhere nowhere number) ≡ good
-    held : kept (fields_of s at to) (holding name socket nowhere nowhere number) ≡ holding name socket place parameters number
-    fine : announced_number (limit_in s parameters.at (parameters.at + parameters.length)) ≡ 0
-    said : announced_limit (limit_in s parameters.at (parameters.at + parameters.length)) ≡ limit
+  record FormatBack (format : List ℕ) (at : ℕ) (name : Option Place) (socket : Option ℕ) : Type 0 where
+    place : Option Place
+    long : (or_nowhere place).length ≡ length format
+    bytes : part_at s (or_nowhere place) ≡ format
+    parameters : Option Place
+    held_bytes : part_at s (or_nowhere parameters) ≡ cond (eqb limit most_limit) [] (limit_struct limit)
+    good : walk (frame_field s) keep frame_done (fields_of s at to) (holding name socket None None) ≡ good
+    held : kept (fields_of s at to) (holding name socket None None) ≡ holding name socket place parameters
+    fine : announced_number (limit_in s (or_nowhere parameters).at ((or_nowhere parameters).at + (or_nowhere parameters).length)) ≡ 0
+    said : announced_limit (limit_in s (or_nowhere parameters).at ((or_nowhere parameters).at + (or_nowhere parameters).length)) ≡ limit
 
   no_format : (format : List ℕ) (at : ℕ) (rest : List ℕ) → length format ≡ 0 → drop at s ≡ parameters_field limit ++ rest → at + length (parameters_field limit) ≡ to
-      → (name socket : Place) (number : ℕ) → FormatBack format at name socket number
-  no_format format at rest none stands ends name socket number =
-      let behind = parameters_back at rest stands ends name socket nowhere number in
+      → (name : Option Place) (socket : Option ℕ) → FormatBack format at name socket
+  no_format format at rest none stands ends name socket =
+      let behind = parameters_back at rest stands ends name socket None in
       record {
-        place = nowhere;
+        place = None;
         long = sym none;
         bytes = no_bytes format none;
         parameters = behind.place;
@@ -115,16 +115,16 @@ module _ (s : List ℕ) (to : ℕ) (there : to ≤ length s) (limit : ℕ) (low 
       }
 
   some_format : (format : List ℕ) (at : ℕ) (rest : List ℕ) → length format ≤ 255 → well_formed format ≡ true → drop at s ≡ bytes_field 3 format ++ (parameters_field limit ++ rest)
-      → at + length (bytes_field 3 format) + length (parameters_field limit) ≡ to → (name socket : Place) (number : ℕ) → FormatBack format at name socket number
+      → at + length (bytes_field 3 format) + length (parameters_field limit) ≡ to → (name : Option Place) (socket : Option ℕ) → FormatBack format at name socket
   unfolding walk kept keep place_if socket_if frame_field frame_rule frame_wire oversized is_there frame_text
-  some_format format at rest short text stands ends name socket number =
+  some_format format at rest short text stands ends name socket =
       let field : Field = bytes_field_at at 3 format in
       let found = bytes_stand s at to there 3 format (parameters_field limit ++ rest) (omega arith, omega arith) (omega arith) stands (omega arith) in
       let first = found.first in
       let inside = found.ends in
-      let behind = parameters_back field.next rest (drop_past s at (bytes_field 3 format) (parameters_field limit ++ rest) stands) ends name socket (place_of field) number in
+      let behind = parameters_back field.next rest (drop_past s at (bytes_field 3 format) (parameters_field limit ++ rest) stands) ends name socket (Some (place_of field)) in
       record {
-        place = place_of field;
+        place = Some (place_of field);
         long = omega arith;
         bytes = found.whole;
         parameters = behind.place;
@@ -136,10 +136,10 @@ module _ (s : List ℕ) (to : ℕ) (there : to ≤ length s) (limit : ℕ) (low 
       }
 
   format_back : (format : List ℕ) (at : ℕ) (rest : List ℕ) → length format ≤ 255 → well_formed format ≡ true → drop at s ≡ format_field format ++ (parameters_field limit ++ rest)
-      → at + length (format_field format) + length (parameters_field limit) ≡ to → (name socket : Place) (number : ℕ) → FormatBack format at name socket number
+      → at + length (format_field format) + length (parameters_field limit) ≡ to → (name : Option Place) (socket : Option ℕ) → FormatBack format at name socket
   format_back format at rest short text stands ends = go (eqb (length format) 0) refl
     where
-      go : (t : Bool) → eqb (length format) 0 ≡ t → (name socket : Place) (number : ℕ) → FormatBack format at name socket number
+      go : (t : Bool) → eqb (length format) 0 ≡ t → (name : Option Place) (socket : Option ℕ) → FormatBack format at name socket
       go true e =
           let none = eqb-true (length format) 0 e in
           no_format format at rest none (rw (format_none format none) at stands) (omega (arith, ap length (format_none format none), ends))
@@ -152,10 +152,9 @@ module _ (s : List ℕ) (to : ℕ) (there : to ≤ length s) (limit : ℕ) (low 
     place : Place
     long : place.length ≡ length name
     bytes : part_at s place ≡ name
-    socket : Place
-    behind : FormatBack format (from + length (name_field name) + length (socket_field flow)) place socket (socket_of flow)
+    behind : FormatBack format (from + length (name_field name) + length (socket_field flow)) (Some place) (Some (socket_of flow))
     good : frame_check s from to ≡ good
-    held : parts_of s from to ≡ holding place socket behind.place behind.parameters (socket_of flow)
+    held : parts_of s from to ≡ holding (Some place) (Some (socket_of flow)) behind.place behind.parameters
 
   frame_back : (flow : ℕ) (name format : List ℕ) (from : ℕ) (rest : List ℕ) → length name ≤ 255 → well_formed name ≡ true
       → length format ≤ 255 → well_formed format ≡ true → drop from s ≡ frame_for flow (offer_of name format) limit ++ rest → from + length (frame_for flow (offer_of name format) limit) ≡ to → FrameBack flow name format from
@@ -180,12 +179,11 @@ module _ (s : List ℕ) (to : ℕ) (there : to ≤ length s) (limit : ℕ) (low 
       let behind =
       format_back format asked.next rest short-format format-text
       (drop_past s field.next (socket_field flow) (format_field format ++ (parameters ++ rest)) past) (omega arith)
-      (place_of field) (place_of asked) (socket_of flow) in
+      (Some (place_of field)) (Some (socket_of flow)) in
       record {
         place = place_of field;
         long = omega arith;
         bytes = found.whole;
-        socket = place_of asked;
         behind = behind;
         good = simp (found.first, next, found.whole, text, le-ltb 0xFFFF_FFFF (socket_of flow) (omega arith)) behind.good;
         held = simp (found.first, next) behind.held;
@@ -218,9 +216,9 @@ module _ (flow : ℕ) (name format : List ℕ) (limit : ℕ) (good : is_good (of
       record {
         socket = socket_of flow;
         name = frame.place;
-        format = frame.behind.place;
-        parameters = frame.behind.parameters;
-        announced = limit_in s frame.behind.parameters.at (frame.behind.parameters.at + frame.behind.parameters.length);
+        format = or_nowhere frame.behind.place;
+        parameters = or_nowhere frame.behind.parameters;
+        announced = limit_in s (or_nowhere frame.behind.parameters).at ((or_nowhere frame.behind.parameters).at + (or_nowhere frame.behind.parameters).length);
       }
 
   -- 18, 19 and 20 do not refuse it
