@@ -7,6 +7,7 @@ ghost use Rattle.double.specs.Double.{bits_at, bytes_of};
 ghost use Rattle.double.specs.Limit.{limit_of};
 
 // The number that the eight bytes at place `at` say, the least significant first, or 0 where they do not all lie in s.
+#[tactic(auto, unfolding(crate::specs::Double::bits_at))]
 pub fn bits_at(s: &[u8], at: usize) -> u64
     ensures { result ≡ bits_at s.now at }
 {

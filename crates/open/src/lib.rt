@@ -78,6 +78,7 @@ impl Numbered for Refusal {
     }
 }
 
+#[tactic(auto, unfolding(crate::specs::Frame::oversized))]
 fn is_oversized(number: u64, value: u64) -> bool
     ensures { result ≡ oversized number value }
 {
@@ -85,6 +86,7 @@ fn is_oversized(number: u64, value: u64) -> bool
 }
 
 // Whether a field of the frame has its own wire type, or is one that is skipped.
+#[tactic(auto, unfolding(crate::specs::Frame::frame_wire))]
 fn frame_wire(number: u64, wire: u64) -> bool
     ensures { result ≡ frame_wire number wire }
 {
@@ -112,6 +114,7 @@ fn is_there(parts: Parts, number: u64) -> bool
 }
 
 // Whether a field of the frame is text where it is a string.
+#[tactic(auto, unfolding(crate::specs::Frame::frame_text))]
 fn frame_text(s: &[u8], number: u64, at: usize, next: usize) -> bool
     requires { (at ≤ next) × (next ≤ length s.now) }
     ensures { result ≡ frame_text s.now number at next }
@@ -212,6 +215,7 @@ fn readable(s: &[u8], from: usize, to: usize) -> Result<Opening, Refusal>
     Ok(opening_of(s, parts))
 }
 
+#[tactic(auto, unfolding(crate::specs::Open::out_of_range))]
 fn out_of_range(opening: Opening) -> bool
     ensures { result ≡ out_of_range opening }
 {
@@ -234,6 +238,7 @@ fn refused_if(test: bool, refusal: Refusal, opening: Opening) -> Result<Opening,
 }
 
 // 19: a name, a format, a socket or a limit out of range.
+#[tactic(auto, unfolding(crate::specs::Open::in_range))]
 fn in_range(opening: Opening) -> Result<Opening, Refusal>
     ensures { result ≡ in_range opening }
 {
@@ -241,6 +246,7 @@ fn in_range(opening: Opening) -> Result<Opening, Refusal>
 }
 
 // 20: a socket that there is not.
+#[tactic(auto, unfolding(crate::specs::Open::known_socket))]
 fn known_socket(opening: Opening) -> Result<Opening, Refusal>
     ensures { result ≡ known_socket opening }
 {
@@ -248,6 +254,7 @@ fn known_socket(opening: Opening) -> Result<Opening, Refusal>
 }
 
 // What the frame from `from` to `to` says by itself.
+#[tactic(auto, unfolding(crate::specs::Open::open_of))]
 fn open_of(s: &[u8], from: usize, to: usize) -> Result<Opening, Refusal>
     ensures { result ≡ open_of s.now from to }
 {
@@ -283,6 +290,7 @@ fn same_at(s: &[u8], place: Place, bytes: &[u8]) -> bool
 }
 
 // 21: another name or another socket than the offered one.
+#[tactic(auto, unfolding(crate::specs::Open::offered_pipe))]
 fn offered_pipe(s: &[u8], flow: u8, name: &[u8], opening: Opening) -> Result<Opening, Refusal>
     requires { opening.name.at + opening.name.length ≤ length s.now }
     ensures { result ≡ offered_pipe s.now flow name.now opening }
@@ -293,6 +301,7 @@ fn offered_pipe(s: &[u8], flow: u8, name: &[u8], opening: Opening) -> Result<Ope
 }
 
 // 22: a format that is not the offered one.
+#[tactic(auto, unfolding(crate::specs::Open::offered_format))]
 fn offered_format(s: &[u8], format: &[u8], opening: Opening) -> Result<Opening, Refusal>
     requires { opening.format.at + opening.format.length ≤ length s.now }
     ensures { result ≡ offered_format s.now format.now opening }

@@ -23,6 +23,7 @@ impl Numbered for BadOffer {
     }
 }
 
+#[tactic(auto, unfolding(crate::specs::Frame::good_name))]
 fn good_name(name: &[u8]) -> bool
     ensures { result ≡ good_name name.now }
 {
@@ -30,6 +31,7 @@ fn good_name(name: &[u8]) -> bool
     (1 <= length) & (length <= 255) & utf8::well_formed(name)
 }
 
+#[tactic(auto, unfolding(crate::specs::Frame::good_format))]
 fn good_format(format: &[u8]) -> bool
     ensures { result ≡ good_format format.now }
 {

@@ -76,6 +76,7 @@ pub fn find(s: &[u8], from: usize, to: usize, key: &[u8]) -> Option<Place>
 }
 
 // Whether a field of a Value has its own wire type, or a number that has no place there.
+#[tactic(auto, unfolding(crate::specs::Rules::value_wire))]
 fn value_wire(number: u64, wire: u64) -> bool
     ensures { result ≡ value_wire number wire }
 {
@@ -91,6 +92,7 @@ fn value_wire(number: u64, wire: u64) -> bool
 }
 
 // Whether a field of a Value is text where it is a string.
+#[tactic(auto, unfolding(crate::specs::Rules::value_text))]
 fn value_text(s: &[u8], number: u64, at: usize, next: usize) -> bool
     requires { (at ≤ next) × (next ≤ length s.now) }
     ensures { result ≡ value_text s.now number at next }
@@ -102,6 +104,7 @@ fn value_text(s: &[u8], number: u64, at: usize, next: usize) -> bool
 }
 
 // Whether a Value may hold what its field says, where it holds nothing yet.
+#[tactic(auto, unfolding(crate::specs::Rules::value_allowed))]
 fn value_allowed(number: u64, value: u64) -> bool
     ensures { result ≡ value_allowed number value }
 {

@@ -1,9 +1,0 @@
--- `open_write::socket_of` meets its contract, by the flow. Assumes nothing.
-use borrow.Author.Tests.{eq-eqb, ne_eqb}
-use Rattle.open_write.proofs.socket_of.Goals as goal
-
-pub returns-then-flow-eq1 : goal.returns-then-flow-eq1
-returns-then-flow-eq1 c = simp (eq-eqb _ _ c.if-flow-eq1.true)
-
-pub returns : goal.returns
-returns c = simp (ne_eqb _ _ c.if-flow-eq1.false)
