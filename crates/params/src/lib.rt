@@ -306,6 +306,7 @@ fn check_items(s: &[u8], from: usize, to: usize, levels: u8, list: bool) -> Resu
 }
 
 // The Struct from `from` to `to`, which is level 1.
+#[tactic(auto, unfolding(crate::specs::Rules::struct_check))]
 pub fn check_struct(s: &[u8], from: usize, to: usize) -> Result<(), Fault>
     ensures { result ≡ struct_check s.now from to }
 {
@@ -313,6 +314,7 @@ pub fn check_struct(s: &[u8], from: usize, to: usize) -> Result<(), Fault>
 }
 
 // A Value that is read alone: its own Struct or list is level 1.
+#[tactic(auto, unfolding(crate::specs::Rules::alone_check))]
 pub fn check_alone(s: &[u8]) -> Result<(), Fault>
     ensures { result ≡ alone_check s.now }
 {
