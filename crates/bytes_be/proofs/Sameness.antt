@@ -1,13 +1,14 @@
 -- Lists that are the same: what the test says, and how lists that are so up to a place go on. Assumes nothing.
 use Prim.Native.Nat.{ℕ, ◌+◌, ◌≤◌, ◌<◌}
-use mathlib.Core.Path.{◌≡◌, refl, sym, ap₂, ◌∙◌}
+use mathlib.Core.Path.{◌≡◌, refl, sym, ap, ap₂, ◌∙◌}
 use mathlib.Core.List.{List, [], ◌∷◌, ◌++◌}
-use mathlib.Core.Bool.{Bool, true, false}
+use mathlib.Core.Bool.{Bool, true, false, ◌&&◌}
 use native.Mathlib.Nat.{zero-add}
 use native.Mathlib.Omega.{arith}
 use lib.ListN.{length, get_or}
 use lib.Seq.{take_all}
 use lib.Dec.{eqb}
+use lib.Pointwise.{pointwise}
 use borrow.Author.Tests.{eq-eqb, eqb-true}
 use Rattle.bytes_be.specs.Part.{part, same}
 use Rattle.bytes_be.proofs.Tests.{both_true, clash}
@@ -38,6 +39,14 @@ not_same xs ys other = go (same xs ys) (same_equal xs ys)
     go : (t : Bool) → (t ≡ true → xs ≡ ys) → false ≡ t
     go false f = refl
     go true f = absurd (other (f refl))
+
+-- byte by byte the test is the standard library's
+pub pointwise_same : (xs ys : List ℕ) → pointwise eqb xs ys ≡ same xs ys
+unfolding same
+pointwise_same [] [] = refl
+pointwise_same [] (y ∷ ys) = refl
+pointwise_same (x ∷ xs) [] = refl
+pointwise_same (x ∷ xs) (y ∷ ys) = ap (λ (t : Bool). eqb x y && t) (pointwise_same xs ys)
 
 -- two lists are the same up to a place
 module _ (xs ys : List ℕ) (at : ℕ) (front : part xs 0 at ≡ part ys 0 at) where
