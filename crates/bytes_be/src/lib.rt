@@ -1,7 +1,7 @@
 // Numbers at a place of a slice, and the copy that everything written to an output uses.
 #![tactic(auto)]
 
-ghost use Rattle.std.specs.Prelude.{ℕ, ◌≡◌, reverse, cond, ◌+◌, ◌≤◌, ◌<◌, ◌^◌, length};
+ghost use Rattle.std.specs.Prelude.{ℕ, ◌%◌, ◌≡◌, reverse, cond, ◌+◌, ◌≤◌, ◌<◌, ◌^◌, length};
 ghost use Rattle.std.proofs.Common.{rules};
 ghost use Rattle.bytes_be.specs.Part.{part, part_at, put_at};
 ghost use Rattle.bytes_be.specs.Part.{holds as Part·holds, same as Part·same};
@@ -85,10 +85,9 @@ pub trait Number: Copy {
 
     ghost value: { Self → ℕ };
 
-    // The number n as one of the type.
+    // The number that the last of n's bytes say, as many as the type has.
     fn of(n: u64) -> Self
-        requires { n < 256 ^ WIDTH }
-        ensures { value result ≡ n };
+        ensures { value result ≡ n % 256 ^ WIDTH };
 
     // The number's bytes.
     fn bytes(self) -> Self::Bytes
@@ -109,11 +108,11 @@ impl Number for u8 {
     ghost narrow = { Prim.search rules };
 
     fn of(n: u64) -> u8 {
-        n as u8
+        (n % 0x100) as u8
     }
 
     fn bytes(self) -> [u8; 1] {
-        self.to_be_bytes()
+        u8::to_be_bytes(self)
     }
 }
 
@@ -129,11 +128,11 @@ impl Number for u16 {
     ghost narrow = { Prim.search rules };
 
     fn of(n: u64) -> u16 {
-        n as u16
+        (n % 0x1_0000) as u16
     }
 
     fn bytes(self) -> [u8; 2] {
-        self.to_be_bytes()
+        u16::to_be_bytes(self)
     }
 }
 
@@ -149,11 +148,11 @@ impl Number for u32 {
     ghost narrow = { Prim.search rules };
 
     fn of(n: u64) -> u32 {
-        n as u32
+        (n % 0x1_0000_0000) as u32
     }
 
     fn bytes(self) -> [u8; 4] {
-        self.to_be_bytes()
+        u32::to_be_bytes(self)
     }
 }
 
@@ -173,7 +172,7 @@ impl Number for u64 {
     }
 
     fn bytes(self) -> [u8; 8] {
-        self.to_be_bytes()
+        u64::to_be_bytes(self)
     }
 }
 

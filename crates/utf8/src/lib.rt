@@ -71,7 +71,9 @@ fn behind_sequence(s: &[u8], i: usize) -> Option<usize>
     requires { i < length s.now }
     ensures { MatchOption result (well_formed (drop i s.now) ≡ false) (λ next. (i < next) × (next ≤ length s.now) × (well_formed (drop i s.now) ≡ well_formed (drop next s.now))) }
 {
-    let due = due_behind(s[i])?;
+    let Some(due) = due_behind(s[i]) else {
+        return None;
+    };
     if follow(s, i + 1, due) {
         return Some(i + 1 + usize::from(due.count));
     }

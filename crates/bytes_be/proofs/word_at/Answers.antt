@@ -15,7 +15,7 @@ pub returns : goal.returns
 returns c =
     let s = c.args.s.now in
     let at = c.args.at in
-    let room : at + 8 ≤ length s = leb-true _ _ (sym c.holds-fits.ensures ∙ c.if-not-fits.false) in
+    let room : at + 8 ≤ length s = omega (arith, leb-true _ _ (sym c.holds-fits.ensures ∙ c.if-not-fits.false)) in
     let eight : at + 8 - at ≡ 8 = omega arith in
     let bytes : c.in-Ok.bytes ≡ part s at 8 = c.in-Ok.ensures.1.same ∙ ap (λ (size : ℕ). part s at size) eight in
     let size : length c.in-Ok.bytes ≡ 8 = ap length bytes ∙ length_part s at 8 room in

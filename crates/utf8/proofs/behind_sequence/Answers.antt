@@ -4,12 +4,12 @@ use mathlib.Core.Path.{sym, ◌∙◌}
 use Rattle.utf8.proofs.Sequences.{no_row, not_whole, whole}
 use Rattle.utf8.proofs.behind_sequence.Goals as goal
 
-pub returns-in_err-due : goal.returns-in_err-due
-returns-in_err-due c = rw c.from_residual.ensures (no_row c.args.s.now c.args.i c.requires _ c.due_behind.ensures c.in_err-due.was)
+pub returns-in_default : goal.returns-in_default
+returns-in_default c = no_row c.args.s.now c.args.i c.requires _ c.due_behind.ensures c.in_default.is
 
 pub returns-then-follow : goal.returns-then-follow
 returns-then-follow c =
-    rw c.from.ensures (whole c.args.s.now c.args.i c.requires _ c.due_behind.ensures c.in_ok-due.was (sym c.follow.ensures ∙ c.if-follow.true))
+    rw c.from.ensures (whole c.args.s.now c.args.i c.requires _ c.due_behind.ensures c.in-Some.is (sym c.follow.ensures ∙ c.if-follow.true))
 
 pub returns : goal.returns
-returns c = not_whole c.args.s.now c.args.i c.requires _ c.due_behind.ensures c.in_ok-due.was (sym c.follow.ensures ∙ c.if-follow.false)
+returns c = not_whole c.args.s.now c.args.i c.requires _ c.due_behind.ensures c.in-Some.is (sym c.follow.ensures ∙ c.if-follow.false)
