@@ -6,6 +6,8 @@ ghost use Rattle.std.specs.Float.{binary64};
 ghost use Rattle.double.specs.Double.{bits_at, bytes_of};
 ghost use Rattle.double.specs.Limit.{limit_of};
 
+use bytes_be::Number;
+
 #[derive(Clone, Copy)]
 pub enum Limit {
     // A whole number from 1,000,000 to 50,000,000.
@@ -47,7 +49,7 @@ pub fn bytes_of(number: u32) -> [u8; 8]
     ensures { result ≡ bytes_of number }
 {
     let bits = f64::to_bits(number as f64);
-    backwards(bytes_be::bytes64(bits))
+    backwards(bits.bytes())
 }
 
 // The limit that a double says. It is compared as an integer, and equal bits show that nothing was lost.
