@@ -128,18 +128,20 @@ fn behind_eights(s: &[u8], from: usize) -> usize
     i
 }
 
-// The place behind all bytes below 128 that stand there, which are passed over one by one. With the library's `position` in place of the
-// loop, text of two-byte characters took twice as long.
+// The place behind all bytes below 128 that stand there, which are passed over one by one. With a `for` over the places text of two- or
+// three-byte characters took half as long again, and with the library's `position` up to twice as long.
 fn behind_bytes(s: &[u8], from: usize) -> usize
     requires { from ≤ length s.now }
     ensures { ((from ≤ result) × (result ≤ length s.now) × ((i : ℕ) → from ≤ i → i < result → get_or s.now i 0 < 128)) × (result < length s.now → 128 ≤ get_or s.now result 0) }
 {
-    for i in from..s.len() {
+    let mut i = from;
+    while i < s.len() {
         if 128 <= s[i] {
             return i;
         }
+        i += 1;
     }
-    s.len()
+    i
 }
 
 // The same place, many at a time.

@@ -1,7 +1,6 @@
--- `utf8::behind_bytes` meets its contract. The invariant of its loop: there is a run up to the place that it has reached. Assumes nothing.
-use mathlib.Core.Path.{◌≡◌}
+-- `utf8::behind_bytes` meets its contract. The invariant of its loop: there is a run up to the place that it has reached. The measure is the
+-- number of bytes from there to the end. Assumes nothing.
 use native.Mathlib.Omega.{arith}
-use lib.ListN.{length}
 use borrow.Author.Rules.{rules}
 use Rattle.utf8.proofs.Runs.{no_run, run_one}
 use Rattle.utf8.proofs.behind_bytes.Goals as goal
@@ -16,6 +15,4 @@ pub loop-i-preserved : goal.loop-i-preserved
 loop-i-preserved c = run_one c.args.s.now c.args.from c.loop-i.i (search rules) (search rules) c.loop-i.invariant
 
 pub returns : goal.returns
-returns c =
-    let end : c.loop-i.i ≡ length c.args.s.now = omega (arith, c.loop-i-test.false, c.loop-i.invariant.1) in
-    (rw end at c.loop-i.invariant, λ less. absurd (omega arith))
+returns c = (c.loop-i.invariant, λ less. absurd (omega arith))
