@@ -34,7 +34,7 @@ pub enum Frame {
 fn count_of(s: &[u8]) -> u16
     ensures { result ≡ count_of s.now }
 {
-    bytes_be::read16(s, 0)
+    bytes_be::read(s, 0)
 }
 
 // The length of frame k.
@@ -42,7 +42,7 @@ fn length_of(s: &[u8], k: usize) -> u32
     requires { k ≤ 16 }
     ensures { result ≡ length_of s.now k }
 {
-    bytes_be::read32(s, 2 + 4 * k)
+    bytes_be::read(s, 2 + 4 * k)
 }
 
 // The sum of the lengths before that of frame k.
@@ -149,7 +149,7 @@ pub fn write_head(out: &mut [u8], first: [u8; 8], size: u32)
     let room = 18 <= out.len();
     if room {
         bytes_be::copy_at(out, 0, &[0, 2, 0, 0, 0, 8]);
-        bytes_be::store32(out, 6, size);
+        bytes_be::store(out, 6, size);
         bytes_be::copy_at(out, 10, &first);
     }
 }

@@ -1,15 +1,17 @@
 -- Laws of big-endian numbers, at any width: each of the two readings undoes the other. Assumes nothing.
-use mathlib.Core.Path.{◌≡◌, refl, sym, ap, ◌∙◌}
+use mathlib.Core.Path.{◌≡◌, refl, sym, ap, ap₂, ◌∙◌}
 use mathlib.Core.List.{List, [], ◌∷◌, ◌++◌, append_assoc, append-nil}
-use Prim.Native.Nat.{ℕ, zero, suc, ◌+◌, ◌*◌, ◌/◌, ◌%◌, ◌^◌, ◌≤◌, ◌<◌, ◌-◌}
+use Prim.Native.Nat.{ℕ, zero, suc, ◌+◌, ◌*◌, ◌/◌, ◌%◌, ◌^◌, ◌≤◌, ◌<◌}
 use native.Mathlib.Nat.{add-zero, zero-add, add-suc, suc-add, one-le-pow, pow-le-pow_right, lt_of_lt_of_le}
 use native.Mathlib.Numerals.{add-one}
 use native.Mathlib.Omega.{arith}
 use lib.Dec.{lit<, ltb}
-use lib.ListN.{length, get_or, drop, length-append, length-take, get_or-eq_default, take, drop_of_length-le}
-use lib.Seq.{get_or-take, get_or-drop, drop-append-le, take_all}
+use lib.ListN.{length, get_or, drop, length-append, length-take, get_or-eq_default, take}
+use lib.Seq.{get_or-take, get_or-drop}
 use mathlib.Core.Bool.{Bool, true, false, cond}
 use borrow.Author.Tests.{le-leb, lt-leb, leb-true, ltb-true, ltb-false}
+use Rattle.std.specs.Int.{bytes_high_first}
+use Rattle.std.proofs.Math.Nat.{div-div-eq-div-mul}
 use Rattle.bytes_be.specs.Part.{holds, part, put_at}
 use Rattle.bytes_be.specs.Number.{from_bytes_behind, from_bytes, to_bytes, number_at}
 use Rattle.bytes_be.proofs.Parts.{length_part, length_put, part_put, part_more}
@@ -24,22 +26,19 @@ length_to_bytes zero n = refl
 length_to_bytes (suc width) n =
     length-append (to_bytes width (n / 256)) (n % 256 ∷ []) ∙ omega (arith, length_to_bytes width (n / 256))
 
--- the last bytes of a number's bytes are its bytes at the lesser width
+-- the standard library's bytes of a number are those
 
-drop_to_bytes : (more width n : ℕ) → drop more (to_bytes (more + width) n) ≡ to_bytes width n
+high_first_more : (width n : ℕ) → bytes_high_first (suc width) n ≡ bytes_high_first width (n / 256) ++ (n % 256 ∷ [])
+high_first_more zero n = refl
+high_first_more (suc zero) n = refl
+high_first_more (suc (suc width)) n =
+    let deeper : n / 256 ^ suc (suc width) ≡ n / 256 / 256 ^ suc width = ap (λ (k : ℕ). n / k) (omega arith) ∙ sym (div-div-eq-div-mul n 256 (256 ^ suc width)) in
+    ap₂ (λ (b : ℕ) (l : List ℕ). b % 256 ∷ l) deeper (high_first_more (suc width) n)
+
+pub high_first : (width n : ℕ) → bytes_high_first width n ≡ to_bytes width n
 unfolding to_bytes
-drop_to_bytes more zero n = drop_of_length-le (to_bytes (more + 0) n) {i = more} (simp (length_to_bytes, add-zero) (omega arith))
-drop_to_bytes more (suc width) n =
-    let long : more ≤ length (to_bytes (more + width) (n / 256)) = omega (arith, length_to_bytes (more + width) (n / 256)) in
-    ap (λ (k : ℕ). drop more (to_bytes k n)) (add-suc more width)
-    ∙ drop-append-le more (to_bytes (more + width) (n / 256)) (n % 256 ∷ []) long
-    ∙ ap (λ (l : List ℕ). l ++ (n % 256 ∷ [])) (drop_to_bytes more width (n / 256))
-
-pub last_bytes : (width n : ℕ) → width ≤ 8 → part (to_bytes 8 n) (8 - width) (8 - (8 - width)) ≡ to_bytes width n
-last_bytes width n h =
-    let all : 8 - width + width ≡ 8 = omega arith in
-    let last : drop (8 - width) (to_bytes 8 n) ≡ to_bytes width n = rw all at (drop_to_bytes (8 - width) width n) in
-    ap (take (8 - (8 - width))) last ∙ take_all (8 - (8 - width)) (to_bytes width n) (omega (arith, length_to_bytes width n))
+high_first zero n = refl
+high_first (suc width) n = high_first_more width n ∙ ap (λ (l : List ℕ). l ++ (n % 256 ∷ [])) (high_first width (n / 256))
 
 behind_append : (n : ℕ) (xs ys : List ℕ) → from_bytes_behind n (xs ++ ys) ≡ from_bytes_behind (from_bytes_behind n xs) ys
 unfolding from_bytes_behind

@@ -1,17 +1,13 @@
--- Lists that are the same: what the test says, and how lists that are so up to a place go on. Assumes nothing.
-use Prim.Native.Nat.{ℕ, ◌+◌, ◌≤◌, ◌<◌}
-use mathlib.Core.Path.{◌≡◌, refl, sym, ap₂, ◌∙◌}
-use mathlib.Core.List.{List, [], ◌∷◌, ◌++◌}
-use mathlib.Core.Bool.{Bool, true, false}
-use native.Mathlib.Nat.{zero-add}
-use native.Mathlib.Omega.{arith}
-use lib.ListN.{length, get_or}
-use lib.Seq.{take_all}
+-- Lists that are the same: what the test says, and that it is the standard library's. Assumes nothing.
+use Prim.Native.Nat.{ℕ}
+use mathlib.Core.Path.{◌≡◌, refl, ap, ap₂}
+use mathlib.Core.List.{List, [], ◌∷◌}
+use mathlib.Core.Bool.{Bool, true, false, ◌&&◌}
 use lib.Dec.{eqb}
+use lib.Pointwise.{pointwise}
 use borrow.Author.Tests.{eq-eqb, eqb-true}
-use Rattle.bytes_be.specs.Part.{part, same}
+use Rattle.bytes_be.specs.Part.{same}
 use Rattle.bytes_be.proofs.Tests.{both_true, clash}
-use Rattle.bytes_be.proofs.Parts.{part_more}
 
 false_not_true : {A : Type 0} → false ≡ true → A
 false_not_true e = clash cc
@@ -39,16 +35,10 @@ not_same xs ys other = go (same xs ys) (same_equal xs ys)
     go false f = refl
     go true f = absurd (other (f refl))
 
--- two lists are the same up to a place
-module _ (xs ys : List ℕ) (at : ℕ) (front : part xs 0 at ≡ part ys 0 at) where
-  -- they are so behind the next element too, if it is the same
-  pub same_one : at < length xs → at < length ys → get_or xs at 0 ≡ get_or ys at 0 → part xs 0 (at + 1) ≡ part ys 0 (at + 1)
-  same_one lx ly e =
-      let next : get_or xs (0 + at) 0 ≡ get_or ys (0 + at) 0 = rw zero-add e in
-      part_more xs 0 at 0 (omega arith) ∙ ap₂ (λ (l : List ℕ) (b : ℕ). l ++ (b ∷ [])) front next ∙ sym (part_more ys 0 at 0 (omega arith))
-
-  -- and so are the whole lists, if nothing is behind it
-  pub same_whole : length xs ≤ at → length ys ≤ at → true ≡ same xs ys
-  same_whole h k =
-      let equal : xs ≡ ys = sym (take_all at xs h) ∙ front ∙ take_all at ys k in
-      sym (rw equal (equal_same ys))
+-- byte by byte the test is the standard library's
+pub pointwise_same : (xs ys : List ℕ) → pointwise eqb xs ys ≡ same xs ys
+unfolding same
+pointwise_same [] [] = refl
+pointwise_same [] (y ∷ ys) = refl
+pointwise_same (x ∷ xs) [] = refl
+pointwise_same (x ∷ xs) (y ∷ ys) = ap (λ (t : Bool). eqb x y && t) (pointwise_same xs ys)

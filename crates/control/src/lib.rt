@@ -4,6 +4,8 @@
 ghost use Rattle.std.specs.Prelude.{◌≡◌};
 ghost use Rattle.control.specs.Frame.{type_of, signed_of, version_of, known_type_of, control_of, number_of, bytes_of};
 
+use bytes_be::Number;
+
 // The five types of message.
 #[derive(Clone, Copy)]
 pub enum MessageType {
@@ -71,12 +73,12 @@ pub fn type_of(message: MessageType) -> u8
 pub fn signed_of(s: &[u8]) -> Signed
     ensures { result ≡ signed_of s.now }
 {
-    let signed = (s.len() == 8) & (bytes_be::read32(s, 0) == 0x4642_4450);
+    let signed = (s.len() == 8) & (bytes_be::read::<u32>(s, 0) == 0x4642_4450);
     if signed {
         return Signed::Frame {
-            control_byte: bytes_be::read8(s, 4),
-            flags: bytes_be::read8(s, 5),
-            type_data: bytes_be::read16(s, 6),
+            control_byte: bytes_be::read(s, 4),
+            flags: bytes_be::read(s, 5),
+            type_data: bytes_be::read(s, 6),
         };
     }
     Signed::Unsigned
@@ -149,7 +151,7 @@ pub fn number_of(control: Control) -> u8
 pub fn bytes_of(message: MessageType, flags: u8, type_data: u16) -> [u8; 8]
     ensures { result ≡ bytes_of message flags type_data }
 {
-    let last = bytes_be::bytes16(type_data);
+    let last = type_data.bytes();
     [
         0x46,
         0x42,

@@ -6,6 +6,8 @@ ghost use Rattle.std.specs.Float.{binary64};
 ghost use Rattle.double.specs.Double.{bits_at, bytes_of};
 ghost use Rattle.double.specs.Limit.{limit_of};
 
+use bytes_be::Number;
+
 // The number that the eight bytes at place `at` say, the least significant first, or 0 where they do not all lie in s.
 #[tactic(auto, unfolding(crate::specs::Double::bits_at))]
 pub fn bits_at(s: &[u8], at: usize) -> u64
@@ -40,10 +42,11 @@ pub fn bytes_of(number: u32) -> [u8; 8]
     ensures { result ≡ bytes_of number }
 {
     let bits = f64::to_bits(number as f64);
-    backwards(bytes_be::bytes64(bits))
+    backwards(bits.bytes())
 }
 
-// The limit that a double says, if it is a whole number from 1,000,000 to 50,000,000. It is compared as an integer, and equal bits show that nothing was lost.
+// The limit that a double says, if it is a whole number from 1,000,000 to 50,000,000. It is compared as an integer, and equal bits show that
+// nothing was lost.
 pub fn limit_of(double: f64) -> Option<u32>
     ensures { result ≡ limit_of double }
 {

@@ -7,6 +7,8 @@ ghost use Rattle.double.specs.Limit.{in_limits};
 ghost use Rattle.endpoint.specs.Record.{entry_bytes, entry_at, no_entries, in_ranges, count_fits, wait_fits, is_none, awaitable, fits, every, all_fit, unconfirmed_with, unconfirmed_without, good as Record·good, given_of, given_number, fresh_of, fresh_client, fresh_server, no_endpoint, made_of, closed as Record·closed, at_phase, asked as Record·asked, entry_of, without_entry, without as Record·without, confirmed as Record·confirmed, limited as Record·limited, oldest as Record·oldest};
 ghost use Rattle.endpoint.specs.Block.{head_bytes, bytes_of, record_in, spare_is_zero, load_of};
 
+use bytes_be::Number;
+
 // A confirmation that is awaited.
 #[derive(Clone, Copy)]
 pub struct Entry {
@@ -283,7 +285,7 @@ pub fn at_phase(e: Endpoint, phase: u8, n: u16) -> Endpoint
 fn entry_bytes(entry: Entry) -> [u8; 3]
     ensures { result ≡ entry_bytes entry }
 {
-    let last = bytes_be::bytes16(entry.type_data);
+    let last = entry.type_data.bytes();
     [entry.message, last[0], last[1]]
 }
 
@@ -437,13 +439,13 @@ fn record_in(block: &[u8]) -> Endpoint
     ensures { result ≡ record_in block.now }
 {
     Endpoint {
-        role: bytes_be::read8(block, 0),
-        flow: bytes_be::read8(block, 1),
-        phase: bytes_be::read8(block, 2),
-        w: bytes_be::read8(block, 3),
-        n: bytes_be::read16(block, 4),
-        unconfirmed: bytes_be::read8(block, 6),
-        limit: bytes_be::read32(block, 8),
+        role: bytes_be::read(block, 0),
+        flow: bytes_be::read(block, 1),
+        phase: bytes_be::read(block, 2),
+        w: bytes_be::read(block, 3),
+        n: bytes_be::read(block, 4),
+        unconfirmed: bytes_be::read(block, 6),
+        limit: bytes_be::read(block, 8),
         entries: entries_in(block),
     }
 }
@@ -453,7 +455,7 @@ fn spare_is_zero(block: &[u8]) -> bool
     ensures { result ≡ spare_is_zero block.now }
 {
     if block[7] == 0 {
-        return bytes_be::read32(block, 12) == 0;
+        return bytes_be::read::<u32>(block, 12) == 0;
     }
     false
 }
@@ -479,11 +481,11 @@ fn store_head(e: Endpoint, block: &mut [u8])
 {
     let room = 64 <= block.len();
     if room {
-        let n = bytes_be::bytes16(e.n);
+        let n = e.n.bytes();
         bytes_be::copy_at(block, 0, &[e.role, e.flow, e.phase, e.w]);
         bytes_be::copy_at(block, 4, &[n[0], n[1], e.unconfirmed, 0]);
-        bytes_be::store32(block, 8, e.limit);
-        bytes_be::store32(block, 12, 0);
+        bytes_be::store(block, 8, e.limit);
+        bytes_be::store::<u32>(block, 12, 0);
     }
 }
 

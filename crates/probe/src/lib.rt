@@ -24,49 +24,49 @@ use wire::{Fault, Field, Kind};
 pub extern "C" fn probe_read8(bytes: &[u8], at: usize) -> u8
     ensures { result ≡ number_at 1 bytes.now at }
 {
-    bytes_be::read8(bytes, at)
+    bytes_be::read(bytes, at)
 }
 
 #[unsafe(no_mangle)]
 pub extern "C" fn probe_read16(bytes: &[u8], at: usize) -> u16
     ensures { result ≡ number_at 2 bytes.now at }
 {
-    bytes_be::read16(bytes, at)
+    bytes_be::read(bytes, at)
 }
 
 #[unsafe(no_mangle)]
 pub extern "C" fn probe_read32(bytes: &[u8], at: usize) -> u32
     ensures { result ≡ number_at 4 bytes.now at }
 {
-    bytes_be::read32(bytes, at)
+    bytes_be::read(bytes, at)
 }
 
 #[unsafe(no_mangle)]
 pub extern "C" fn probe_read64(bytes: &[u8], at: usize) -> u64
     ensures { result ≡ number_at 8 bytes.now at }
 {
-    bytes_be::read64(bytes, at)
+    bytes_be::read(bytes, at)
 }
 
 #[unsafe(no_mangle)]
 pub extern "C" fn probe_store16(out: &mut [u8], at: usize, number: u16)
     ensures { out.new ≡ put_at out.old at (to_bytes 2 number) }
 {
-    bytes_be::store16(out, at, number)
+    bytes_be::store(out, at, number)
 }
 
 #[unsafe(no_mangle)]
 pub extern "C" fn probe_store32(out: &mut [u8], at: usize, number: u32)
     ensures { out.new ≡ put_at out.old at (to_bytes 4 number) }
 {
-    bytes_be::store32(out, at, number)
+    bytes_be::store(out, at, number)
 }
 
 #[unsafe(no_mangle)]
 pub extern "C" fn probe_store64(out: &mut [u8], at: usize, number: u64)
     ensures { out.new ≡ put_at out.old at (to_bytes 8 number) }
 {
-    bytes_be::store64(out, at, number)
+    bytes_be::store(out, at, number)
 }
 
 #[unsafe(no_mangle)]

@@ -1,31 +1,17 @@
 -- Laws of whether a range has a byte, and of the ranges that a count stands for. Assumes nothing.
-use Prim.Native.Nat.{ℕ, zero, suc, ◌-◌, ◌≤◌, ◌<◌}
+use Prim.Native.Nat.{ℕ, zero, suc, ◌-◌, ◌≤◌}
 use mathlib.Core.Path.{◌≡◌, refl}
 use mathlib.Core.List.{◌∷◌}
-use mathlib.Core.Bool.{Bool, true, false, and-eq-true_iff}
+use mathlib.Core.Bool.{true}
 use native.Mathlib.Omega.{arith}
-use lib.Dec.{leb, leb-zero}
-use borrow.Author.Tests.{le-leb, lt-leb, leb-true}
+use lib.Dec.{leb-zero}
+use borrow.Author.Tests.{le-leb}
 use Rattle.utf8.specs.Text.{◌‥◌, within}
 use Rattle.utf8.specs.Held.{ranges}
 
--- a range from 0 on has each byte up to its end, and none above
-
+-- a range from 0 on has each byte up to its end
 pub within_low : {b to : ℕ} → b ≤ to → within (0 ‥ to) b ≡ true
 within_low {b} {to} h = simp (leb-zero b) (le-leb b to h)
-
-pub not_within_low : {b to : ℕ} → to < b → within (0 ‥ to) b ≡ false
-not_within_low {b} {to} h = simp (leb-zero b) (lt-leb b to h)
-
--- a range of one byte has no other
-pub not_within_one : {b one : ℕ} → (b ≡ one → ⊥) → within (one ‥ one) b ≡ false
-not_within_one {b} {one} other = go (within (one ‥ one) b) refl
-  where
-    go : (t : Bool) → within (one ‥ one) b ≡ t → t ≡ false
-    go true e =
-        let both = (and-eq-true_iff (leb one b) (leb b one)).0 e in
-        absurd (other (omega (arith, leb-true one b both.0, leb-true b one both.1)))
-    go false e = refl
 
 -- where bytes are due, the first range is the one that is held
 pub ranges_some : {count : ℕ} → (count ≡ 0 → ⊥) → (from to : ℕ) → ranges count from to ≡ from ‥ to ∷ ranges (count - 1) 0x80 0xBF

@@ -8,11 +8,12 @@ use native.Mathlib.Omega.{arith}
 use lib.Dec.{ltb}
 use lib.ListN.{length, get_or, take, drop, length-take, length-drop}
 use lib.Seq.{drop-cons, drop-drop}
-use borrow.Author.Tests.{ltb-true, ltb-false, lt-ltb}
+use borrow.Author.Tests.{ltb-true, ltb-false}
 use Rattle.bytes_be.specs.Part.{part}
 use Rattle.bytes_be.proofs.Tests.{clash}
+use Rattle.std.specs.Prelude.{Some, None}
+use Rattle.std.specs.Prelude.{Option as Prelude·Option}
 use Rattle.utf8.specs.declared.Due.{Due}
-use Rattle.utf8.specs.declared.Due.TheVariants.{Bytes, Never}
 use Rattle.utf8.specs.Text.{◌‥◌, within, table, due_behind, if_some, rest, well_formed}
 use Rattle.utf8.specs.Held.{ranges, ranges_of}
 use Rattle.utf8.proofs.Rows.{ranges_some}
@@ -65,33 +66,31 @@ module _ (w : Bool) (s : List ℕ) (left lowest highest i : ℕ) (known : w ≡ 
     one_fails e = sym (known ∙ due_step s left lowest highest i some inside ∙ rw e refl)
 
 -- i is the place of a first byte, and `next` what is due behind it
-module _ (s : List ℕ) (i : ℕ) (here : i < length s) (next : Due) (behind : ranges_of next ≡ due_behind table (get_or s i 0)) where
+module _ (s : List ℕ) (i : ℕ) (here : i < length s) (next : Prelude·Option Due) (behind : ranges_of next ≡ due_behind table (get_or s i 0)) where
   begun : well_formed (drop i s) ≡ if_some (ranges_of next) (λ due. rest due (drop (i + 1) s))
   unfolding well_formed rest
   begun = rw (drop-cons s i 0 here, behind, add-one)
 
   -- no row of the table has the byte
-  pub no_row : next ≡ Never → well_formed (drop i s) ≡ false
+  pub no_row : next ≡ None → well_formed (drop i s) ≡ false
   unfolding ranges_of
   no_row e = begun ∙ rw e
 
-  module _ {count from to : ℕ} (row : next ≡ Bytes count from to) where
-    apart : well_formed (drop i s) ≡ rest (ranges count from to) (part s (i + 1) count) && well_formed (drop (i + (1 + count)) s)
+  module _ {due : Due} (row : next ≡ Some due) where
+    apart : well_formed (drop i s) ≡ rest (ranges due.count due.from due.to) (part s (i + 1) due.count) && well_formed (drop (i + 1 + due.count) s)
     unfolding ranges_of
-    apart =
-        let far : i + 1 + count ≡ i + (1 + count) = omega arith in
-        begun ∙ rw row (due_first count from to (drop (i + 1) s) ∙ rw (drop-drop, far) refl)
+    apart = begun ∙ rw row (due_first due.count due.from due.to (drop (i + 1) s) ∙ rw drop-drop refl)
 
     -- the bytes that are due do not stand there
-    pub not_whole : rest (ranges count from to) (part s (i + 1) count) ≡ false → well_formed (drop i s) ≡ false
+    pub not_whole : rest (ranges due.count due.from due.to) (part s (i + 1) due.count) ≡ false → well_formed (drop i s) ≡ false
     not_whole e = apart ∙ rw e
 
     -- they do
-    pub whole : rest (ranges count from to) (part s (i + 1) count) ≡ true → (i + (1 + count) ≤ length s) × (well_formed (drop i s) ≡ ltb 0 (1 + count) && well_formed (drop (i + (1 + count)) s))
-    whole e = (go (ltb (length s - (i + 1)) count) refl, apart ∙ rw (e, lt-ltb 0 (1 + count) (omega arith)) refl)
+    pub whole : rest (ranges due.count due.from due.to) (part s (i + 1) due.count) ≡ true → (i < i + 1 + due.count) × (i + 1 + due.count ≤ length s) × (well_formed (drop i s) ≡ well_formed (drop (i + 1 + due.count) s))
+    whole e = (omega arith, go (ltb (length s - (i + 1)) due.count) refl, apart ∙ rw e refl)
       where
-        go : (t : Bool) → ltb (length s - (i + 1)) count ≡ t → i + (1 + count) ≤ length s
+        go : (t : Bool) → ltb (length s - (i + 1)) due.count ≡ t → i + 1 + due.count ≤ length s
         go true few =
-            let no = few_left s (i + 1) count from to (ltb-true (length s - (i + 1)) count few) in
+            let no = few_left s (i + 1) due.count due.from due.to (ltb-true (length s - (i + 1)) due.count few) in
             clash cc
-        go false enough = omega (arith, ltb-false (length s - (i + 1)) count enough)
+        go false enough = omega (arith, ltb-false (length s - (i + 1)) due.count enough)

@@ -1,12 +1,9 @@
 -- The steps of one pass over a text, which stands at the start of a sequence after each. Assumes nothing.
-use Prim.Native.Nat.{ℕ, ◌+◌, ◌≤◌}
+use Prim.Native.Nat.{ℕ, ◌≤◌}
 use mathlib.Core.Path.{◌≡◌, refl, sym, ◌∙◌}
 use mathlib.Core.List.{List}
-use mathlib.Core.Bool.{Bool, true, false, ◌&&◌}
-use native.Mathlib.Omega.{arith}
-use lib.Dec.{ltb}
+use mathlib.Core.Bool.{Bool, true, false}
 use lib.ListN.{length, drop, drop_of_length-le}
-use borrow.Author.Tests.{lt-ltb}
 use Rattle.utf8.specs.Text.{rest, well_formed}
 use Rattle.utf8.proofs.Runs.{Run, run_passed}
 
@@ -16,10 +13,10 @@ module _ (w : Bool) (s : List ℕ) (i : ℕ) (known : w ≡ well_formed (drop i 
   unfolding well_formed rest
   at_end h = sym (known ∙ rw (drop_of_length-le s {i = i} h) refl)
 
-  -- the sequence there has so many bytes, or is none
-  module _ (size : ℕ) (told : well_formed (drop i s) ≡ ltb 0 size && well_formed (drop (i + size) s)) where
-    pub at_none : size ≡ 0 → false ≡ w
-    at_none none = sym (known ∙ told ∙ rw none refl)
+  -- none of the table is there
+  pub at_none : well_formed (drop i s) ≡ false → false ≡ w
+  at_none e = sym (known ∙ e)
 
-    pub at_sequence : (size ≡ 0 → ⊥) → (to : ℕ) → Run s (i + size) to → w ≡ well_formed (drop to s)
-    at_sequence some to run = known ∙ told ∙ rw (lt-ltb 0 size (omega arith)) (run_passed s (i + size) to run)
+  -- a sequence is there, and a run behind it
+  pub at_sequence : (next : ℕ) → well_formed (drop i s) ≡ well_formed (drop next s) → (to : ℕ) → Run s next to → w ≡ well_formed (drop to s)
+  at_sequence next told to run = known ∙ told ∙ run_passed s next to run

@@ -1,109 +1,83 @@
 // Whether bytes are well-formed UTF-8.
 #![tactic(auto)]
 
-ghost use Rattle.std.specs.Prelude.{◌≡◌, true, ◌&&◌, ◌↔◌, ℕ, ◌+◌, ◌≤◌, ◌<◌, length, get_or, drop, ltb};
+ghost use Rattle.std.specs.Prelude.{◌≡◌, true, false, ◌↔◌, ℕ, ◌+◌, ◌≤◌, ◌<◌, length, get_or, drop, MatchOption};
+ghost use Rattle.std.proofs.Math.Option.{some};
 ghost use Rattle.bytes_be.specs.Part.{part};
 ghost use Rattle.utf8.specs.Text.{table, due_behind, rest, well_formed};
 ghost use Rattle.utf8.specs.Held.{ranges, ranges_of};
-ghost use Rattle.utf8.specs.declared.Due.TheVariants.{Bytes};
 
-// What must follow for the bytes so far to be the start of a well-formed text.
+// What must follow for the bytes so far to be the start of a well-formed text: so many bytes of the sequence that was begun, the next
+// of them in this range.
 #[derive(Clone, Copy)]
-enum Due {
-    // So many bytes of the sequence that was begun, the next of them in this range.
-    Bytes { count: u8, from: u8, to: u8 },
-    // Nothing that follows makes the text well-formed.
-    Never,
+struct Due {
+    count: u8,
+    from: u8,
+    to: u8,
 }
 
-fn due_bytes(count: u8, from: u8, to: u8) -> Due
-    ensures { result ≡ Bytes count from to }
+#[tactic(auto, unfolding(crate::specs::Held::ranges_of))]
+fn due_bytes(count: u8, from: u8, to: u8) -> Option<Due>
+    ensures { ranges_of result ≡ some (ranges count from to) }
 {
-    Due::Bytes {
-        count: count,
-        from: from,
-        to: to,
-    }
+    Some(Due { count, from, to })
 }
 
-// What is due behind a first byte, row by row of the table.
-fn due_behind(byte: u8) -> Due
+// What is due behind a first byte, row by row of the table; behind a byte that no row has, nothing makes the text well-formed.
+#[tactic(auto, unfolding(crate::specs::Held::ranges_of, crate::specs::Held::ranges, crate::specs::Text::due_behind, crate::specs::Text::table))]
+fn due_behind(byte: u8) -> Option<Due>
     ensures { ranges_of result ≡ due_behind table byte }
 {
-    if byte <= 0x7F {
-        return due_bytes(0, 0x80, 0xBF);
+    match byte {
+        0x00..=0x7F => due_bytes(0, 0x80, 0xBF),
+        0xC2..=0xDF => due_bytes(1, 0x80, 0xBF),
+        0xE0 => due_bytes(2, 0xA0, 0xBF),
+        0xE1..=0xEC => due_bytes(2, 0x80, 0xBF),
+        0xED => due_bytes(2, 0x80, 0x9F),
+        0xEE..=0xEF => due_bytes(2, 0x80, 0xBF),
+        0xF0 => due_bytes(3, 0x90, 0xBF),
+        0xF1..=0xF3 => due_bytes(3, 0x80, 0xBF),
+        0xF4 => due_bytes(3, 0x80, 0x8F),
+        _ => None,
     }
-    if (0xC2 <= byte) & (byte <= 0xDF) {
-        return due_bytes(1, 0x80, 0xBF);
-    }
-    if byte == 0xE0 {
-        return due_bytes(2, 0xA0, 0xBF);
-    }
-    if (0xE1 <= byte) & (byte <= 0xEC) {
-        return due_bytes(2, 0x80, 0xBF);
-    }
-    if byte == 0xED {
-        return due_bytes(2, 0x80, 0x9F);
-    }
-    if (0xEE <= byte) & (byte <= 0xEF) {
-        return due_bytes(2, 0x80, 0xBF);
-    }
-    if byte == 0xF0 {
-        return due_bytes(3, 0x90, 0xBF);
-    }
-    if (0xF1 <= byte) & (byte <= 0xF3) {
-        return due_bytes(3, 0x80, 0xBF);
-    }
-    if byte == 0xF4 {
-        return due_bytes(3, 0x80, 0x8F);
-    }
-    Due::Never
 }
 
-// Whether the bytes that are due stand at place `at`: `count` of them, the first in this range.
-fn follow(s: &[u8], at: usize, count: u8, from: u8, to: u8) -> bool
+// Whether the bytes that are due stand at place `at`.
+fn follow(s: &[u8], at: usize, due: Due) -> bool
     requires { at ≤ length s.now }
-    ensures { result ≡ rest (ranges count from to) (part s.now at count) }
+    ensures { result ≡ rest (ranges due.count due.from due.to) (part s.now at due.count) }
 {
-    if s.len() - at < count as usize {
+    let count = usize::from(due.count);
+    if s.len() - at < count {
         return false;
     }
-    let mut left = count;
-    let mut lowest = from;
-    let mut highest = to;
-    let mut i = at;
-    while left != 0 {
-        let inside = (lowest <= s[i]) & (s[i] <= highest);
+    let behind = at + count;
+    let mut from = due.from;
+    let mut to = due.to;
+    for byte in &s[at..behind] {
+        let inside = (from <= *byte) & (*byte <= to);
         if !inside {
             return false;
         }
-        left -= 1;
-        lowest = 0x80;
-        highest = 0xBF;
-        i += 1;
+        from = 0x80;
+        to = 0xBF;
     }
     true
 }
 
-// How many bytes the sequence at place i has, or 0 where none of the table is there: then the text is not well-formed from there on,
-// and else it is so exactly if it is behind the sequence.
-fn sequence_at(s: &[u8], i: usize) -> usize
+// The place behind the sequence at place i. Where none of the table is there, the text is not well-formed from there on; else it is so
+// exactly if it is behind the sequence.
+fn behind_sequence(s: &[u8], i: usize) -> Option<usize>
     requires { i < length s.now }
-    ensures { (i + result ≤ length s.now) × (well_formed (drop i s.now) ≡ ltb 0 result && well_formed (drop (i + result) s.now)) }
+    ensures { MatchOption result (well_formed (drop i s.now) ≡ false) (λ next. (i < next) × (next ≤ length s.now) × (well_formed (drop i s.now) ≡ well_formed (drop next s.now))) }
 {
-    match due_behind(s[i]) {
-        Due::Bytes {
-            count: count,
-            from: from,
-            to: to,
-        } => {
-            if follow(s, i + 1, count, from, to) {
-                return 1 + count as usize;
-            }
-            0
-        }
-        Due::Never => 0,
+    let Some(due) = due_behind(s[i]) else {
+        return None;
+    };
+    if follow(s, i + 1, due) {
+        return Some(i + 1 + usize::from(due.count));
     }
+    None
 }
 
 // Whether the eight bytes at place `at` are below 128: none of them has its highest bit.
@@ -114,7 +88,8 @@ fn plain_at(s: &[u8], at: usize) -> bool
     bytes_be::word_at(s, at) & 0x8080_8080_8080_8080 == 0
 }
 
-// A place behind bytes below 128, which are passed over thirty-two at a time, as long as there are so many.
+// A place behind bytes below 128, which are passed over thirty-two at a time, as long as there are so many. Steps of chunks would have to
+// count their places beside them, which is no plainer.
 fn behind_blocks(s: &[u8], from: usize) -> usize
     requires { from ≤ length s.now }
     ensures { (from ≤ result) × (result ≤ length s.now) × ((i : ℕ) → from ≤ i → i < result → get_or s.now i 0 < 128) }
@@ -153,7 +128,8 @@ fn behind_eights(s: &[u8], from: usize) -> usize
     i
 }
 
-// The place behind all bytes below 128 that stand there, which are passed over one by one.
+// The place behind all bytes below 128 that stand there, which are passed over one by one. With a `for` over the places text of two- or
+// three-byte characters took half as long again, and with the library's `position` up to twice as long.
 fn behind_bytes(s: &[u8], from: usize) -> usize
     requires { from ≤ length s.now }
     ensures { ((from ≤ result) × (result ≤ length s.now) × ((i : ℕ) → from ≤ i → i < result → get_or s.now i 0 < 128)) × (result < length s.now → 128 ≤ get_or s.now result 0) }
@@ -198,11 +174,10 @@ pub fn well_formed(s: &[u8]) -> bool
 {
     let mut i = behind_run(s, 0);
     while i < s.len() {
-        let size = sequence_at(s, i);
-        if size == 0 {
+        let Some(next) = behind_sequence(s, i) else {
             return false;
-        }
-        i = behind_short_run(s, i + size);
+        };
+        i = behind_short_run(s, next);
     }
     true
 }

@@ -5,4 +5,4 @@ use Rattle.bundle.proofs.count_of.Goals as goal
 
 pub returns : goal.returns
 unfolding count_of
-returns c = c.read16.ensures
+returns c = c.read.ensures

@@ -5,4 +5,4 @@ use Rattle.bundle.proofs.length_of.Goals as goal
 
 pub returns : goal.returns
 unfolding length_of
-returns c = c.read32.ensures
+returns c = c.read.ensures

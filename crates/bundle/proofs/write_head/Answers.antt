@@ -12,7 +12,7 @@ use Rattle.bundle.proofs.write_head.Goals as goal
 pub returns-then-room : goal.returns-then-room
 returns-then-room c =
     let a = c.args in
-    rw (c.copy_at-then-room.ensures, c.store32.ensures, c.copy_at.ensures)
+    rw (c.copy_at-then-room.ensures, c.store.ensures, c.copy_at.ensures)
     (put_head a.first (omega (arith, c.well_formed)) a.out.now a.size c.if-room.true)
 
 pub returns-else-room : goal.returns-else-room

@@ -1,20 +1,24 @@
 -- `bytes_be::word_at` meets its contract: past the test for room, the eight bytes lie in the slice. Assumes nothing.
-use mathlib.Core.Path.{sym, ◌∙◌}
-use Prim.Native.Nat.{◌+◌, ◌≤◌}
+use mathlib.Core.Path.{◌≡◌, sym, ap, ◌∙◌}
+use Prim.Native.Nat.{ℕ, ◌+◌, ◌≤◌, ◌-◌}
 use native.Mathlib.Omega.{arith}
 use lib.ListN.{length}
+use mathlib.Core.List.{List, reverse}
 use borrow.Author.Tests.{le-leb, leb-true}
+use Rattle.bytes_be.specs.Part.{part}
+use Rattle.bytes_be.specs.Number.{from_bytes}
+use Rattle.bytes_be.proofs.Parts.{length_part}
+use Rattle.bytes_be.proofs.Words.{eight_say}
 use Rattle.bytes_be.proofs.word_at.Goals as goal
-
-pub returns-then-not-fits : goal.returns-then-not-fits
-returns-then-not-fits c = simp (sym c.holds-fits.ensures, c.if-not-fits.true)
-
-pub word-requires : goal.word-requires
-word-requires c =
-    let inside : c.args.at + 8 ≤ length c.args.s.now = leb-true _ _ (sym c.holds-fits.ensures ∙ c.if-not-fits.false) in
-    omega (arith, inside)
 
 pub returns : goal.returns
 returns c =
-    let inside : c.args.at + 8 ≤ length c.args.s.now = leb-true _ _ (sym c.holds-fits.ensures ∙ c.if-not-fits.false) in
-    c.word.ensures ∙ simp (le-leb _ _ inside)
+    let s = c.args.s.now in
+    let at = c.args.at in
+    let room : at + 8 ≤ length s = omega (arith, leb-true _ _ (sym c.holds-fits.ensures ∙ c.if-not-fits.false)) in
+    let eight : at + 8 - at ≡ 8 = omega arith in
+    let bytes : c.in-Ok.bytes ≡ part s at 8 = c.in-Ok.ensures.1.same ∙ ap (λ (size : ℕ). part s at size) eight in
+    let size : length c.in-Ok.bytes ≡ 8 = ap length bytes ∙ length_part s at 8 room in
+    let says = eight_say c.in-Ok.bytes size ∙ ap (λ (l : List ℕ). from_bytes (reverse l)) bytes in
+    let read : c.from_le_bytes.result ≡ from_bytes (reverse (part s at 8)) = omega (arith, says, c.from_le_bytes.ensures) in
+    read ∙ simp (le-leb _ _ room)

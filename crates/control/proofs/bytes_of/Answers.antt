@@ -14,4 +14,4 @@ overflow_add-result c = omega (arith, c.type_of.ensures, type_few c.args.message
 
 pub returns : goal.returns
 unfolding bytes_of to_bytes
-returns c = simp (c.type_of.ensures, c.bytes16-last.ensures)
+returns c = simp (c.type_of.ensures, c.bytes-last.ensures)

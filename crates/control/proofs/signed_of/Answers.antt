@@ -6,8 +6,8 @@ use Rattle.control.proofs.signed_of.Goals as goal
 
 pub returns-then-signed : goal.returns-then-signed
 unfolding signed_of from_bytes from_bytes_behind
-returns-then-signed c = simp (← c.read32.ensures, c.if-signed.true, ← c.read8.ensures, ← c.read8-then-signed.ensures, ← c.read16.ensures)
+returns-then-signed c = simp (← c.read.ensures, c.if-signed.true, ← c.read-then-signed.ensures, ← c.read-then-signed-2.ensures, ← c.read-then-signed-3.ensures)
 
 pub returns : goal.returns
 unfolding signed_of from_bytes from_bytes_behind
-returns c = simp (← c.read32.ensures, c.if-signed.false)
+returns c = simp (← c.read.ensures, c.if-signed.false)

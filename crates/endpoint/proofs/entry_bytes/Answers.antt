@@ -7,4 +7,4 @@ use Rattle.endpoint.proofs.entry_bytes.Goals as goal
 
 pub returns : goal.returns
 unfolding entry_bytes to_bytes
-returns c = rw c.bytes16-last.ensures refl
+returns c = rw c.bytes-last.ensures refl

@@ -14,7 +14,7 @@ unfolding spare_is_zero
 returns-then-block-eq0 c =
     let block = c.args.block.now in
     let full : length block ≡ 64 = search rules in
-    simp (byte_there block 7 (omega arith), eq-eqb _ _ c.if-block-eq0.true, c.read32.ensures)
+    simp (byte_there block 7 (omega arith), eq-eqb _ _ c.if-block-eq0.true, c.read.ensures)
 
 pub returns : goal.returns
 unfolding spare_is_zero

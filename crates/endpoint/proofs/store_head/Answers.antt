@@ -14,11 +14,11 @@ pub returns-then-room : goal.returns-then-room
 returns-then-room c =
     let room = c.if-room.true in
     let a = c.args in
-    let told = c.bytes16-n.ensures in
-    c.store32-then-room.ensures
-    ∙ ap with_last c.store32.ensures
+    let told = c.bytes-n.ensures in
+    c.store-then-room.ensures
+    ∙ ap with_last c.store.ensures
     ∙ ap (λ (l : List ℕ). with_last (with_limit a.e l)) c.copy_at-then-room.ensures
-    ∙ ap (λ (l : List ℕ). with_last (with_limit a.e (with_counts c.bytes16-n.result a.e l))) c.copy_at.ensures
+    ∙ ap (λ (l : List ℕ). with_last (with_limit a.e (with_counts c.bytes-n.result a.e l))) c.copy_at.ensures
     ∙ stored_head a.block.now a.e _ room told
     ∙ sym (ap (λ (t : Bool). cond t (put_at a.block.now 0 (head_bytes a.e)) a.block.now) (le-leb _ _ room))
 

@@ -1,0 +1,7 @@
+-- `bytes` of `bytes_be::Number` at u32 meets its contract: the standard library's bytes are those of `to_bytes`. Assumes nothing.
+use mathlib.Core.Path.{◌∙◌}
+use Rattle.bytes_be.proofs.Numbers.{high_first}
+use Rattle.bytes_be.proofs.U32Number.bytes.Goals as goal
+
+pub returns : goal.returns
+returns c = c.to_be_bytes.ensures ∙ high_first 4 c.args.self
