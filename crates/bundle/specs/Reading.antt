@@ -53,11 +53,6 @@ frame_of s k = cond (good s) (cond (ltb k (count_of s)) (Ok (Some (place_of s k)
 unfoldable pub frames_of : List ℕ → List (List ℕ)
 frames_of s = tabulate 0 (count_of s) (λ k. part_at s (place_of s k))
 
--- what follows the contents of a good bundle, or the refusal of a bad one
-abbrev pub if_frames : {A : Type 0} → Result Contents BadBundle → A → (ℕ → Place → ℕ → A) → A
-if_frames (Ok contents) refused next = next contents.count contents.control contents.size
-if_frames (Err bad) refused next = refused
-
 -- "For a bad bundle it answers 10"
 abbrev pub bad_number : BadBundle → ℕ
 bad_number bad = 10
