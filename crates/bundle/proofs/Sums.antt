@@ -107,9 +107,19 @@ contents_told s contents e =
       within = omega (arith, before_suc s 0, rw all at (before_grows s 1 (count_of s - 1)));
     })
 
--- a good bundle has few frames, so that no place in its contents wraps
+-- each of these alone, for those who read a bundle
+
+pub contents_some : (s : List ℕ) (contents : Contents) → contents_of s ≡ Ok contents → 1 ≤ contents.count
+contents_some s contents e = (contents_told s contents e).whole.some
+
 pub contents_few : (s : List ℕ) (contents : Contents) → contents_of s ≡ Ok contents → contents.count ≤ 16
 contents_few s contents e = (contents_told s contents e).whole.few
+
+pub control_inside : (s : List ℕ) (contents : Contents) → contents_of s ≡ Ok contents → contents.control.at + contents.control.length ≤ length s
+control_inside s contents e = (contents_told s contents e).inside
+
+pub control_within : (s : List ℕ) (contents : Contents) → contents_of s ≡ Ok contents → contents.control.length ≤ contents.size
+control_within s contents e = (contents_told s contents e).within
 
 pub contents_none : (s : List ℕ) {bad : BadBundle} → contents_of s ≡ Err bad → good s ≡ false
 unfolding contents_of
