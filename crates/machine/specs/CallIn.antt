@@ -1,5 +1,5 @@
 -- The call that a message is of, read off its bytes.
-use Rattle.std.specs.Prelude.{ℕ, ◌+◌, ◌≡◌, List, cond, eqb}
+use Rattle.std.specs.Prelude.{ℕ, ◌+◌, ◌≡◌, List, cond, eqb, Result, Ok, Err}
 use Rattle.bytes_be.specs.Part.{part_at}
 use Rattle.control.specs.declared.MessageType.{MessageType}
 use Rattle.control.specs.declared.MessageType.TheVariants.{Open, Ready, Noop, Data, Close}
@@ -9,8 +9,7 @@ use Rattle.open.specs.declared.Open.{Open as OpenFrame}
 use Rattle.open.specs.declared.Open.TheVariants.{Heard, Refused}
 use Rattle.open.specs.Open.{open_of}
 use Rattle.message.specs.declared.Message.{Message}
-use Rattle.message.specs.declared.Reading.{Reading}
-use Rattle.message.specs.declared.Reading.TheVariants.{Read, Refused as Reading-as-Refused}
+use Rattle.message.specs.declared.Refusal.{Refusal as Refusal-of-message}
 use Rattle.message.specs.Reading.{body_place, reading_of}
 use Rattle.endpoint.specs.declared.Endpoint.{Endpoint}
 use Rattle.receiving.specs.Hearing.{confirms}
@@ -38,9 +37,9 @@ call_of Data s m =
 call_of Close s m = TheCall (CLOSE m.type_data)
 
 -- a confirmation is of no call
-abbrev pub call_read : List ℕ → Reading → CallRead
-call_read s (Read m) = cond (confirms m.message m.flags) NoCall (call_of m.message s m)
-call_read s (Reading-as-Refused refusal) = NoCall
+abbrev pub call_read : List ℕ → Result Message Refusal-of-message → CallRead
+call_read s (Ok m) = cond (confirms m.message m.flags) NoCall (call_of m.message s m)
+call_read s (Err refusal) = NoCall
 
 abbrev pub call_in : List ℕ → CallRead
 call_in s = call_read s (reading_of s)

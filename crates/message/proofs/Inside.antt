@@ -55,6 +55,10 @@ module _ (s : List ℕ) where
   pub read_inside : Inside (reading_of s)
   read_inside = by_stages (λ (m : Message). BodyInside m.body) s (λ contents signed message counted is_signed framed. body_there message signed.flags)
 
+-- of a message that is read
+pub read_within : (s : List ℕ) (m : Message) → reading_of s ≡ Ok m → (body_place m.body).at + (body_place m.body).length ≤ length s
+read_within s m is = subst (Inside s) is (read_inside s)
+
 unsigned_frame : {why : Refusal-of-control} {signed : Signed} → Err why ≡ Ok signed → ⊥
 unsigned_frame e = clash cc
 
