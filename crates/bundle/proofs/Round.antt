@@ -15,7 +15,7 @@ use Rattle.bytes_be.proofs.Tests.{both_true}
 use Rattle.bytes_be.proofs.Parts.{length_tabulate, get_d_tabulate, length_part, part_then, part_put, part_behind, part_inside, part_front}
 use Rattle.bytes_be.proofs.Numbers.{Bytes, length_to_bytes, number_is, bytes_there}
 use Rattle.bundle.specs.Reading.{count_of, counted, length_of, lengths_before, start_of, place_of, good, size_of, frame_of, frames_of}
-use Rattle.bundle.specs.declared.Frame.TheVariants.{At, Behind}
+use Rattle.std.specs.Prelude.{Some, None, Ok}
 use Rattle.bundle.proofs.Sums.{before_suc, before_grows, good_told, contents_inside, body_inside, frame_there, frame_behind}
 use Rattle.bundle.proofs.Outputs.{length_lengths, contents, length_contents, length_bundle}
 use Rattle.bundle.specs.Writing.{length_bytes, bundle_of, lengths_fit, writable, Written}
@@ -113,10 +113,10 @@ module _ (frames : List (List ℕ)) where
 
     -- the reader hands out each frame that was written, and none behind the last
 
-    pub handed_back : 1 ≤ length frames → (k : ℕ) → k < length frames → frame_of (bundle_of frames) k ≡ At (place_of (bundle_of frames) k)
+    pub handed_back : 1 ≤ length frames → (k : ℕ) → k < length frames → frame_of (bundle_of frames) k ≡ Ok (Some (place_of (bundle_of frames) k))
     handed_back some k h = frame_there (bundle_of frames) (good_back some) k (omega (arith, count_back))
 
-    pub none_behind : 1 ≤ length frames → (k : ℕ) → length frames ≤ k → frame_of (bundle_of frames) k ≡ Behind
+    pub none_behind : 1 ≤ length frames → (k : ℕ) → length frames ≤ k → frame_of (bundle_of frames) k ≡ Ok None
     none_behind some k h = frame_behind (bundle_of frames) (good_back some) k (omega (arith, count_back))
 
     -- its frames are those that were written

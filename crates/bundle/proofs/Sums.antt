@@ -2,6 +2,8 @@
 use mathlib.Core.Path.{◌≡◌, ◌∙◌, refl, sym, ap}
 use mathlib.Core.List.{List}
 use mathlib.Core.Bool.{true, false}
+use Rattle.std.specs.Prelude.{Option, Some, None, Result, Ok, Err}
+use Rattle.std.proofs.lemmas.Result.{IfOk-at_ok}
 use Prim.Native.Nat.{ℕ, zero, suc, ◌+◌, ◌*◌, ◌-◌, ◌≤◌, ◌<◌}
 use native.Mathlib.Nat.{add-zero, add-suc}
 use native.Mathlib.Numerals.{add-one}
@@ -12,8 +14,8 @@ use borrow.Author.Tests.{lt-ltb, le-ltb, ltb-true, leb-true, eqb-true}
 use Rattle.bytes_be.proofs.Tests.{both_true, clash, took_first, took_second}
 use Rattle.bytes_be.specs.declared.Place.{Place}
 use Rattle.bundle.specs.Reading.{count_of, counted, length_of, lengths_before, start_of, place_of, good, size_of, contents_of, frame_of}
-use Rattle.bundle.specs.declared.Contents.TheVariants.{Frames, BadBundle as Contents-as-BadBundle}
-use Rattle.bundle.specs.declared.Frame.TheVariants.{At, Behind, BadBundle}
+use Rattle.bundle.specs.declared.Contents.{Contents}
+use Rattle.bundle.specs.declared.BadBundle.{BadBundle}
 
 pub before_suc : (s : List ℕ) (k : ℕ) → lengths_before s (suc k) ≡ lengths_before s k + length_of s k
 unfolding lengths_before
@@ -55,23 +57,23 @@ body_inside s g k h =
 
 -- a good bundle hands out each of its frames, and none behind the last
 
-pub frame_there : (s : List ℕ) → good s ≡ true → (k : ℕ) → k < count_of s → frame_of s k ≡ At (place_of s k)
+pub frame_there : (s : List ℕ) → good s ≡ true → (k : ℕ) → k < count_of s → frame_of s k ≡ Ok (Some (place_of s k))
 unfolding frame_of
 frame_there s g k h = simp (g, lt-ltb k (count_of s) h)
 
-pub frame_behind : (s : List ℕ) → good s ≡ true → (k : ℕ) → count_of s ≤ k → frame_of s k ≡ Behind
+pub frame_behind : (s : List ℕ) → good s ≡ true → (k : ℕ) → count_of s ≤ k → frame_of s k ≡ Ok None
 unfolding frame_of
 frame_behind s g k h = simp (g, le-ltb k (count_of s) h)
 
 -- and what is handed out is a frame of a good bundle
 
-bad_at : {place : Place} → BadBundle ≡ At place → ⊥
+bad_at : {bad : BadBundle} {place : Place} → Err bad ≡ Ok (Some place) → ⊥
 bad_at e = clash cc
 
-behind_at : {place : Place} → Behind ≡ At place → ⊥
+behind_at : {place : Place} → ◌≡◌ {A = Result (Option Place) BadBundle} (Ok None) (Ok (Some place)) → ⊥
 behind_at e = clash cc
 
-pub frame_told : (s : List ℕ) (k : ℕ) {place : Place} → frame_of s k ≡ At place → (good s ≡ true) × (k < count_of s)
+pub frame_told : (s : List ℕ) (k : ℕ) {place : Place} → frame_of s k ≡ Ok (Some place) → (good s ≡ true) × (k < count_of s)
 unfolding frame_of
 frame_told s k e =
     let taken = took_first (good s) bad_at e in
@@ -79,50 +81,60 @@ frame_told s k e =
 
 -- contents are those of a good bundle alone
 
-bad_frames : {count size : ℕ} {control : Place} → Contents-as-BadBundle ≡ Frames count control size → ⊥
-bad_frames e = clash cc
+bad_contents : {bad : BadBundle} {contents : Contents} → Err bad ≡ Ok contents → ⊥
+bad_contents e = clash cc
 
 -- what is known where there are contents
-pub record Told (s : List ℕ) (count : ℕ) (control : Place) (size : ℕ) : Type 0 where
-  pub whole : Good s count
-  pub first : place_of s 0 ≡ control
-  pub sized : size_of s ≡ size
-  pub inside : control.at + control.length ≤ length s
-  pub within : control.length ≤ size
+pub record Told (s : List ℕ) (contents : Contents) : Type 0 where
+  pub whole : Good s contents.count
+  pub first : place_of s 0 ≡ contents.control
+  pub sized : size_of s ≡ contents.size
+  pub inside : contents.control.at + contents.control.length ≤ length s
+  pub within : contents.control.length ≤ contents.size
 
-pub contents_told : (s : List ℕ) (count size : ℕ) (control : Place) → contents_of s ≡ Frames count control size → Told s count control size
+pub contents_told : (s : List ℕ) (contents : Contents) → contents_of s ≡ Ok contents → Told s contents
 unfolding contents_of size_of
-contents_told s count size control e =
-    let taken = took_first (good s) bad_frames e in
-    let same : Frames (count_of s) (place_of s 0) (size_of s) ≡ Frames count control size = taken.1 in
-    let counts : count_of s ≡ count = cc in
-    let first : place_of s 0 ≡ control = cc in
-    let sized : size_of s ≡ size = cc in
-    let starts : start_of s 0 ≡ control.at = ap (λ (place : Place). place.at) first in
-    let long : length_of s 0 ≡ control.length = ap (λ (place : Place). place.length) first in
+contents_told s contents e =
+    let taken = took_first (good s) bad_contents e in
     let good = good_told s taken.0 in
     let all : 1 + (count_of s - 1) ≡ count_of s = omega (arith, good.some) in
-    record {
-      whole = rw counts at good;
-      first = first;
-      sized = sized;
-      inside = omega (arith, body_inside s taken.0 0 good.some);
+    IfOk-at_ok (Told s) taken.1
+    (record {
+      whole = good;
+      first = refl;
+      sized = refl;
+      inside = body_inside s taken.0 0 good.some;
       within = omega (arith, before_suc s 0, rw all at (before_grows s 1 (count_of s - 1)));
-    }
+    })
 
-pub contents_none : (s : List ℕ) → contents_of s ≡ Contents-as-BadBundle → good s ≡ false
+-- each of these alone, for those who read a bundle
+
+pub contents_some : (s : List ℕ) (contents : Contents) → contents_of s ≡ Ok contents → 1 ≤ contents.count
+contents_some s contents e = (contents_told s contents e).whole.some
+
+pub contents_few : (s : List ℕ) (contents : Contents) → contents_of s ≡ Ok contents → contents.count ≤ 16
+contents_few s contents e = (contents_told s contents e).whole.few
+
+pub control_inside : (s : List ℕ) (contents : Contents) → contents_of s ≡ Ok contents → contents.control.at + contents.control.length ≤ length s
+control_inside s contents e = (contents_told s contents e).inside
+
+pub control_within : (s : List ℕ) (contents : Contents) → contents_of s ≡ Ok contents → contents.control.length ≤ contents.size
+control_within s contents e = (contents_told s contents e).within
+
+pub contents_none : (s : List ℕ) {bad : BadBundle} → contents_of s ≡ Err bad → good s ≡ false
 unfolding contents_of
-contents_none s e = (took_second (good s) (λ same. bad_frames (sym same)) e).0
+contents_none s e = (took_second (good s) (λ same. bad_contents (sym same)) e).0
 
 -- the second of two frames is all that stands behind the first
-pub second_of_two : (s : List ℕ) (size : ℕ) (control : Place) → contents_of s ≡ Frames 2 control size →
-    frame_of s 1 ≡ At (record { at = control.at + control.length; length = size - control.length })
+pub second_of_two : (s : List ℕ) (contents : Contents) → contents_of s ≡ Ok contents → contents.count ≡ 2 →
+    frame_of s 1 ≡ Ok (Some (record { at = contents.control.at + contents.control.length; length = contents.size - contents.control.length }))
 unfolding start_of size_of lengths_before
-second_of_two s size control e =
-    let told = contents_told s 2 size control e in
-    let starts : start_of s 0 ≡ control.at = ap (λ (place : Place). place.at) told.first in
-    let long : length_of s 0 ≡ control.length = ap (λ (place : Place). place.length) told.first in
-    let sum : lengths_before s 2 ≡ size = rw told.whole.counts at told.sized in
-    let at : start_of s 1 ≡ control.at + control.length = omega arith in
-    let length : length_of s 1 ≡ size - control.length = omega arith in
-    frame_there s told.whole.is-good 1 (omega (arith, told.whole.counts)) ∙ simp (at, length)
+second_of_two s contents e two =
+    let told = contents_told s contents e in
+    let starts : start_of s 0 ≡ contents.control.at = ap (λ (place : Place). place.at) told.first in
+    let long : length_of s 0 ≡ contents.control.length = ap (λ (place : Place). place.length) told.first in
+    let counts : count_of s ≡ 2 = told.whole.counts ∙ two in
+    let sum : lengths_before s 2 ≡ contents.size = rw counts at told.sized in
+    let at : start_of s 1 ≡ contents.control.at + contents.control.length = omega arith in
+    let length : length_of s 1 ≡ contents.size - contents.control.length = omega arith in
+    frame_there s told.whole.is-good 1 (omega (arith, counts)) ∙ simp (at, length)

@@ -1,13 +1,12 @@
 -- "A transport message of several frames travels as one bundle: a 2-byte big-endian frame count F (1 to 16), then F 4-byte big-endian
 -- lengths, then the bodies in order without gaps, ending exactly at the end of the bytes."
-use Rattle.std.specs.Prelude.{ℕ, zero, suc, ◌+◌, ◌*◌, List, Bool, ◌&&◌, cond, length, leb, ltb, eqb}
+use Rattle.std.specs.Prelude.{ℕ, zero, suc, ◌+◌, ◌*◌, List, Bool, ◌&&◌, cond, length, leb, ltb, eqb, Option, Some, None, Result, Ok, Err}
 use Rattle.bytes_be.specs.Part.{tabulate, part_at}
 use Rattle.bytes_be.specs.Number.{number_at}
 use Rattle.bytes_be.specs.declared.Place.{Place}
 use Rattle.bundle.specs.declared.Contents.{Contents}
-use Rattle.bundle.specs.declared.Contents.TheVariants.{Frames, BadBundle as Contents-as-BadBundle}
-use Rattle.bundle.specs.declared.Frame.{Frame}
-use Rattle.bundle.specs.declared.Frame.TheVariants.{At, Behind, BadBundle}
+use Rattle.bundle.specs.declared.BadBundle.{BadBundle}
+use Rattle.numbered.specs.Numbered.{number_of}
 
 -- "a 2-byte big-endian frame count F"
 unfoldable pub count_of : List ℕ → ℕ
@@ -43,28 +42,24 @@ unfoldable pub size_of : List ℕ → ℕ
 size_of s = lengths_before s (count_of s)
 
 -- how many frames a good bundle has, where its control frame stands, and the size of its message
-unfoldable pub contents_of : List ℕ → Contents
-contents_of s = cond (good s) (Frames (count_of s) (place_of s 0) (size_of s)) Contents-as-BadBundle
+unfoldable pub contents_of : List ℕ → Result Contents BadBundle
+contents_of s = cond (good s) (Ok (record { count = count_of s; control = place_of s 0; size = size_of s })) (Err (record {}))
 
 -- by its index: "For a bad bundle it answers 10 and hands out none; behind the last frame it answers that there is none."
-unfoldable pub frame_of : List ℕ → ℕ → Frame
-frame_of s k = cond (good s) (cond (ltb k (count_of s)) (At (place_of s k)) Behind) BadBundle
+unfoldable pub frame_of : List ℕ → ℕ → Result (Option Place) BadBundle
+frame_of s k = cond (good s) (cond (ltb k (count_of s)) (Ok (Some (place_of s k))) (Ok None)) (Err (record {}))
 
 -- the frames of a bundle, in order
 unfoldable pub frames_of : List ℕ → List (List ℕ)
 frames_of s = tabulate 0 (count_of s) (λ k. part_at s (place_of s k))
 
--- what follows the contents of a good bundle, or the refusal of a bad one
-abbrev pub if_frames : {A : Type 0} → Contents → A → (ℕ → Place → ℕ → A) → A
-if_frames (Frames count control size) refused next = next count control size
-if_frames Contents-as-BadBundle refused next = refused
+-- "For a bad bundle it answers 10"
+abbrev pub bad_number : BadBundle → ℕ
+bad_number bad = 10
 
 -- the number of each answer
-abbrev pub contents_number : Contents → ℕ
-contents_number (Frames count control size) = 0
-contents_number Contents-as-BadBundle = 10
+abbrev pub contents_number : Result Contents BadBundle → ℕ
+contents_number = number_of bad_number
 
-abbrev pub frame_number : Frame → ℕ
-frame_number (At place) = 0
-frame_number Behind = 0
-frame_number BadBundle = 10
+abbrev pub frame_number : Result (Option Place) BadBundle → ℕ
+frame_number = number_of bad_number

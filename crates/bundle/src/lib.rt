@@ -3,34 +3,34 @@
 
 ghost use Rattle.std.specs.Prelude.{◌≡◌, [], ◌∷◌, ◌*◌, ◌≤◌};
 ghost use Rattle.bytes_be.specs.Part.{put_at};
-ghost use Rattle.bundle.specs.Reading.{count_of, length_of, lengths_before, contents_of, contents_number, frame_of, frame_number};
+ghost use Rattle.bundle.specs.Reading.{count_of, length_of, lengths_before, contents_of, frame_of, bad_number};
 ghost use Rattle.bundle.specs.Writing.{head_of, Written};
 
 use bytes_be::Place;
+use numbered::Numbered;
 
+// What a good bundle's contents say: how many frames there are, where the control frame stands, and the sum of all lengths.
 #[derive(Clone, Copy)]
-pub enum Contents {
-    // How many frames a good bundle has, where its control frame stands, and the sum of all lengths.
-    Frames {
-        count: usize,
-        control: Place,
-        size: u64,
-    },
-    // 10.
-    BadBundle,
+pub struct Contents {
+    pub count: usize,
+    pub control: Place,
+    pub size: u64,
 }
 
-#[derive(Clone, Copy)]
-pub enum Frame {
-    // Where the frame stands in the bundle.
-    At(Place),
-    // There is no such frame: the index is behind the last one.
-    Behind,
-    // 10, and no frame is handed out.
-    BadBundle,
+// The bundle is not good, and no frame of it is handed out.
+#[derive(Clone, Copy, Debug, PartialEq, Eq)]
+pub struct BadBundle;
+
+impl Numbered for BadBundle {
+    ghost number = { bad_number };
+
+    fn number(&self) -> u8 {
+        10
+    }
 }
 
 // The frame count that the bundle says, be it good or not.
+#[tactic(auto, unfolding(crate::specs::Reading::count_of))]
 fn count_of(s: &[u8]) -> u16
     ensures { result ≡ count_of s.now }
 {
@@ -38,6 +38,7 @@ fn count_of(s: &[u8]) -> u16
 }
 
 // The length of frame k.
+#[tactic(auto, unfolding(crate::specs::Reading::length_of))]
 fn length_of(s: &[u8], k: usize) -> u32
     requires { k ≤ 16 }
     ensures { result ≡ length_of s.now k }
@@ -46,21 +47,21 @@ fn length_of(s: &[u8], k: usize) -> u32
 }
 
 // The sum of the lengths before that of frame k.
+#[tactic(auto, using(crate::proofs::Sums::before_more), unfolding(crate::specs::Reading::lengths_before))]
 fn lengths_before(s: &[u8], k: usize) -> u64
     requires { k ≤ 16 }
     ensures { (result ≡ lengths_before s.now k) × (result ≤ k * 4294967295) }
 {
     let mut sum: u64 = 0;
-    let mut i = 0;
-    while i < k {
+    for i in 0..k {
         sum += length_of(s, i) as u64;
-        i += 1;
     }
     sum
 }
 
 // What the contents of the bundle say.
-pub fn contents_of(s: &[u8]) -> Contents
+#[tactic(auto, unfolding(crate::specs::Reading::contents_of, crate::specs::Reading::good, crate::specs::Reading::start_of, crate::specs::Reading::size_of, crate::specs::Reading::lengths_before))]
+pub fn contents_of(s: &[u8]) -> Result<Contents, BadBundle>
     ensures { result ≡ contents_of s.now }
 {
     let count = count_of(s) as usize;
@@ -73,60 +74,32 @@ pub fn contents_of(s: &[u8]) -> Contents
                 at: 2 + 4 * count,
                 length: length_of(s, 0) as usize,
             };
-            return Contents::Frames {
+            return Ok(Contents {
                 count: count,
                 control: control,
                 size: size,
-            };
+            });
         }
     }
-    Contents::BadBundle
+    Err(BadBundle)
 }
 
-// The number of 01 for what the contents say: 0, or 10.
-pub fn contents_number(contents: Contents) -> u8
-    ensures { result ≡ contents_number contents }
-{
-    match contents {
-        Contents::Frames {
-            count: _,
-            control: _,
-            size: _,
-        } => 0,
-        Contents::BadBundle => 10,
-    }
-}
-
-// The place of the frame at `index`, counted from 0.
-pub fn frame_at(s: &[u8], index: usize) -> Frame
+// The place of the frame at `index`, counted from 0; none where the index is behind the last frame.
+#[tactic(auto, using(crate::proofs::Sums::contents_few))]
+pub fn frame_at(s: &[u8], index: usize) -> Result<Option<Place>, BadBundle>
     ensures { result ≡ frame_of s.now index }
 {
-    let Contents::Frames {
-        count,
-        control: _,
-        size: _,
-    } = contents_of(s)
-    else {
-        return Frame::BadBundle;
+    let Ok(contents) = contents_of(s) else {
+        return Err(BadBundle);
     };
+    let count = contents.count;
     if count <= index {
-        return Frame::Behind;
+        return Ok(None);
     }
-    Frame::At(Place {
+    Ok(Some(Place {
         at: 2 + 4 * count + lengths_before(s, index) as usize,
         length: length_of(s, index) as usize,
-    })
-}
-
-// The number of 01 for a frame that was asked for: 0, or 10.
-pub fn frame_number(frame: Frame) -> u8
-    ensures { result ≡ frame_number frame }
-{
-    match frame {
-        Frame::At(_) => 0,
-        Frame::Behind => 0,
-        Frame::BadBundle => 10,
-    }
+    }))
 }
 
 // Writes the bundle of one frame of 8 bytes, and answers its length, or 0 where there is no room for it.

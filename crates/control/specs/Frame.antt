@@ -1,16 +1,13 @@
 -- "Frame 1 is the control frame, exactly 8 bytes: 46 42 44 50; control byte = 8 x type + version; flags; type-data (2 bytes)."
-use Rattle.std.specs.Prelude.{ℕ, ◌+◌, ◌*◌, ◌/◌, ◌%◌, List, [], ◌∷◌, ◌++◌, ◌&&◌, cond, length, eqb}
+use Rattle.std.specs.Prelude.{ℕ, ◌+◌, ◌*◌, ◌/◌, ◌%◌, List, [], ◌∷◌, ◌++◌, ◌&&◌, cond, length, eqb, Result, Ok, Err}
 use Rattle.bytes_be.specs.Number.{from_bytes, number_at, to_bytes}
 use Rattle.control.specs.declared.MessageType.{MessageType}
 use Rattle.control.specs.declared.MessageType.TheVariants.{Open, Ready, Noop, Data, Close}
 use Rattle.control.specs.declared.Signed.{Signed}
-use Rattle.control.specs.declared.Signed.TheVariants.{Frame, Unsigned}
-use Rattle.control.specs.declared.Version.{Version}
-use Rattle.control.specs.declared.Version.TheVariants.{One, Other}
-use Rattle.control.specs.declared.KnownType.{KnownType}
-use Rattle.control.specs.declared.KnownType.TheVariants.{Known, Unknown}
 use Rattle.control.specs.declared.Control.{Control}
-use Rattle.control.specs.declared.Control.TheVariants.{Read, BadSignature, OtherVersion, UnknownType}
+use Rattle.control.specs.declared.Refusal.{Refusal}
+use Rattle.control.specs.declared.Refusal.TheVariants.{BadSignature, OtherVersion, UnknownType}
+use Rattle.numbered.specs.Numbered.{if_passed, number_of as number_by}
 
 -- "46 42 44 50"
 abbrev pub signature : List ℕ
@@ -46,68 +43,43 @@ abbrev pub version_in : ℕ → ℕ
 version_in byte = byte % 8
 
 -- 11: "control frame not 8 bytes, or wrong signature"
-unfoldable pub signed_of : List ℕ → Signed
+unfoldable pub signed_of : List ℕ → Result Signed Refusal
 signed_of s =
     cond (eqb (length s) 8 && eqb (number_at 4 s 0) (from_bytes signature))
-    (Frame (number_at 1 s 4) (number_at 1 s 5) (number_at 2 s 6))
-    Unsigned
+    (Ok (record { control_byte = number_at 1 s 4; flags = number_at 1 s 5; type_data = number_at 2 s 6 }))
+    (Err BadSignature)
 
 -- 12: "version not 1"
-unfoldable pub version_of : ℕ → Version
-version_of byte = cond (eqb (version_in byte) version) (One (type_in byte)) Other
+unfoldable pub version_of : ℕ → Result ℕ Refusal
+version_of byte = cond (eqb (version_in byte) version) (Ok (type_in byte)) (Err OtherVersion)
 
 -- 13: "type 0 or 6..31"
-unfoldable pub known_type_of : ℕ → KnownType
+unfoldable pub known_type_of : ℕ → Result MessageType Refusal
 known_type_of type =
-    cond (eqb type 1) (Known Open)
-    (cond (eqb type 2) (Known Ready)
-    (cond (eqb type 3) (Known Noop)
-    (cond (eqb type 4) (Known Data)
-    (cond (eqb type 5) (Known Close)
-    Unknown))))
-
--- the number of each stage's answer
-
-abbrev pub signed_number : Signed → ℕ
-signed_number (Frame byte flags type-data) = 0
-signed_number Unsigned = 11
-
-abbrev pub version_number : Version → ℕ
-version_number (One type) = 0
-version_number Other = 12
-
-abbrev pub known_type_number : KnownType → ℕ
-known_type_number (Known message) = 0
-known_type_number Unknown = 13
-
--- what follows a stage that is passed, or the refusal of one that is not
-
-abbrev pub if_signed : {A : Type 0} → Signed → A → (ℕ → ℕ → ℕ → A) → A
-if_signed (Frame byte flags type-data) refused next = next byte flags type-data
-if_signed Unsigned refused next = refused
-
-abbrev pub if_version_one : {A : Type 0} → Version → A → (ℕ → A) → A
-if_version_one (One type) refused next = next type
-if_version_one Other refused next = refused
-
-abbrev pub if_known : {A : Type 0} → KnownType → A → (MessageType → A) → A
-if_known (Known message) refused next = next message
-if_known Unknown refused next = refused
+    cond (eqb type 1) (Ok Open)
+    (cond (eqb type 2) (Ok Ready)
+    (cond (eqb type 3) (Ok Noop)
+    (cond (eqb type 4) (Ok Data)
+    (cond (eqb type 5) (Ok Close)
+    (Err UnknownType)))))
 
 -- a control frame as it is read: the first of the three refusals that applies, else its type, flags and type-data
-unfoldable pub control_of : List ℕ → Control
+unfoldable pub control_of : List ℕ → Result Control Refusal
 control_of s =
-    if_signed (signed_of s) BadSignature (λ byte flags type-data.
-    if_version_one (version_of byte) OtherVersion (λ type.
-    if_known (known_type_of type) UnknownType (λ message.
-    Read message flags type-data)))
+    if_passed (signed_of s) (Err BadSignature) (λ signed.
+    if_passed (version_of signed.control_byte) (Err OtherVersion) (λ type.
+    if_passed (known_type_of type) (Err UnknownType) (λ message.
+    Ok (record { message = message; flags = signed.flags; type_data = signed.type_data }))))
 
--- the number of the answer
-abbrev pub number_of : Control → ℕ
-number_of (Read message flags type-data) = 0
-number_of BadSignature = signed_number Unsigned
-number_of OtherVersion = version_number Other
-number_of UnknownType = known_type_number Unknown
+-- the numbers 11, 12 and 13
+abbrev pub refusal_number : Refusal → ℕ
+refusal_number BadSignature = 11
+refusal_number OtherVersion = 12
+refusal_number UnknownType = 13
+
+-- the number of the answer, and of each stage's
+abbrev pub number_of : {T : Type 0} → Result T Refusal → ℕ
+number_of = number_by refusal_number
 
 -- a control frame as it is written
 unfoldable pub bytes_of : MessageType → ℕ → ℕ → List ℕ

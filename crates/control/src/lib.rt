@@ -2,12 +2,14 @@
 #![tactic(auto)]
 
 ghost use Rattle.std.specs.Prelude.{◌≡◌};
-ghost use Rattle.control.specs.Frame.{type_of, signed_of, version_of, known_type_of, control_of, number_of, bytes_of};
+ghost use Rattle.control.specs.Frame.{type_of, signed_of, version_of, known_type_of, control_of, refusal_number, bytes_of};
+
+use numbered::Numbered;
 
 use bytes_be::Number;
 
 // The five types of message.
-#[derive(Clone, Copy)]
+#[derive(Clone, Copy, Debug, PartialEq, Eq)]
 pub enum MessageType {
     Open,
     Ready,
@@ -16,138 +18,129 @@ pub enum MessageType {
     Close,
 }
 
-// A frame of 8 bytes with the signature, or one that is not: 11.
-#[derive(Clone, Copy)]
-pub enum Signed {
-    Frame {
-        control_byte: u8,
-        flags: u8,
-        type_data: u16,
-    },
-    Unsigned,
+// Why a frame is no control frame.
+#[derive(Clone, Copy, Debug, PartialEq, Eq)]
+pub enum Refusal {
+    // Not 8 bytes, or a wrong signature.
+    BadSignature,
+    // The version is not 1.
+    OtherVersion,
+    // Type 0 or 6 to 31.
+    UnknownType,
 }
 
-// A control byte of version 1, with the number of its type, or one of another version: 12.
-#[derive(Clone, Copy)]
-pub enum Version {
-    One(u8),
-    Other,
+impl Numbered for Refusal {
+    ghost number = { refusal_number };
+
+    fn number(&self) -> u8 {
+        match self {
+            Refusal::BadSignature => 11,
+            Refusal::OtherVersion => 12,
+            Refusal::UnknownType => 13,
+        }
+    }
 }
 
-// The type that a number stands for, or none: 13.
+// What a frame of 8 bytes with the signature says.
 #[derive(Clone, Copy)]
-pub enum KnownType {
-    Known(MessageType),
-    Unknown,
+pub struct Signed {
+    pub control_byte: u8,
+    pub flags: u8,
+    pub type_data: u16,
 }
 
 // A control frame as it is read.
 #[derive(Clone, Copy)]
-pub enum Control {
-    Read {
-        message: MessageType,
-        flags: u8,
-        type_data: u16,
-    },
-    // 11: not 8 bytes, or a wrong signature.
-    BadSignature,
-    // 12: the version is not 1.
-    OtherVersion,
-    // 13: type 0 or 6 to 31.
-    UnknownType,
+pub struct Control {
+    pub message: MessageType,
+    pub flags: u8,
+    pub type_data: u16,
 }
 
 // The number of a type.
-pub fn type_of(message: MessageType) -> u8
-    ensures { result ≡ type_of message }
-{
-    match message {
-        MessageType::Open => 1,
-        MessageType::Ready => 2,
-        MessageType::Noop => 3,
-        MessageType::Data => 4,
-        MessageType::Close => 5,
+impl From<MessageType> for u8 {
+    ghost from_gives = { λ message number. number ≡ type_of message };
+
+    fn from(message: MessageType) -> u8 {
+        match message {
+            MessageType::Open => 1,
+            MessageType::Ready => 2,
+            MessageType::Noop => 3,
+            MessageType::Data => 4,
+            MessageType::Close => 5,
+        }
     }
 }
 
-pub fn signed_of(s: &[u8]) -> Signed
+// The type that a number stands for.
+impl TryFrom<u8> for MessageType {
+    type Error = Refusal;
+
+    ghost try_from_gives = { λ number result. result ≡ known_type_of number };
+
+    #[tactic(auto, unfolding(crate::specs::Frame::known_type_of))]
+    fn try_from(number: u8) -> Result<MessageType, Refusal> {
+        match number {
+            1 => Ok(MessageType::Open),
+            2 => Ok(MessageType::Ready),
+            3 => Ok(MessageType::Noop),
+            4 => Ok(MessageType::Data),
+            5 => Ok(MessageType::Close),
+            _ => Err(Refusal::UnknownType),
+        }
+    }
+}
+
+// The first stage: 8 bytes with the signature.
+#[tactic(auto, unfolding(crate::specs::Frame::signed_of, bytes_be::specs::Number::from_bytes, bytes_be::specs::Number::from_bytes_behind))]
+pub fn signed_of(s: &[u8]) -> Result<Signed, Refusal>
     ensures { result ≡ signed_of s.now }
 {
     let signed = (s.len() == 8) & (bytes_be::read::<u32>(s, 0) == 0x4642_4450);
     if signed {
-        return Signed::Frame {
+        return Ok(Signed {
             control_byte: bytes_be::read(s, 4),
             flags: bytes_be::read(s, 5),
             type_data: bytes_be::read(s, 6),
-        };
+        });
     }
-    Signed::Unsigned
+    Err(Refusal::BadSignature)
 }
 
-pub fn version_of(control_byte: u8) -> Version
+// The second stage: a control byte of version 1, and the number of its type.
+#[tactic(auto, unfolding(crate::specs::Frame::version_of))]
+pub fn version_of(control_byte: u8) -> Result<u8, Refusal>
     ensures { result ≡ version_of control_byte }
 {
     if control_byte % 8 == 1 {
-        return Version::One(control_byte / 8);
+        return Ok(control_byte / 8);
     }
-    Version::Other
-}
-
-pub fn known_type_of(number: u8) -> KnownType
-    ensures { result ≡ known_type_of number }
-{
-    match number {
-        1 => KnownType::Known(MessageType::Open),
-        2 => KnownType::Known(MessageType::Ready),
-        3 => KnownType::Known(MessageType::Noop),
-        4 => KnownType::Known(MessageType::Data),
-        5 => KnownType::Known(MessageType::Close),
-        _ => KnownType::Unknown,
-    }
+    Err(Refusal::OtherVersion)
 }
 
 // Reads a control frame.
-pub fn read(s: &[u8]) -> Control
+#[tactic(auto, unfolding(crate::specs::Frame::control_of))]
+pub fn read(s: &[u8]) -> Result<Control, Refusal>
     ensures { result ≡ control_of s.now }
 {
-    let Signed::Frame {
-        control_byte,
-        flags,
-        type_data,
-    } = signed_of(s)
-    else {
-        return Control::BadSignature;
+    let Ok(signed) = signed_of(s) else {
+        return Err(Refusal::BadSignature);
     };
-    let Version::One(number) = version_of(control_byte) else {
-        return Control::OtherVersion;
+    let Ok(number) = version_of(signed.control_byte) else {
+        return Err(Refusal::OtherVersion);
     };
-    let KnownType::Known(message) = known_type_of(number) else {
-        return Control::UnknownType;
+    let Ok(message) = MessageType::try_from(number) else {
+        return Err(Refusal::UnknownType);
     };
-    Control::Read {
+    Ok(Control {
         message: message,
-        flags: flags,
-        type_data: type_data,
-    }
-}
-
-// The number of 01 for what was read: 0, or the refusal.
-pub fn number_of(control: Control) -> u8
-    ensures { result ≡ number_of control }
-{
-    match control {
-        Control::Read {
-            message: _,
-            flags: _,
-            type_data: _,
-        } => 0,
-        Control::BadSignature => 11,
-        Control::OtherVersion => 12,
-        Control::UnknownType => 13,
-    }
+        flags: signed.flags,
+        type_data: signed.type_data,
+    })
 }
 
 // The bytes of a control frame.
+#[tactic(auto, using(crate::proofs::Round::type_few), unfolding(crate::specs::Frame::bytes_of, bytes_be::specs::Number::to_bytes))]
 pub fn bytes_of(message: MessageType, flags: u8, type_data: u16) -> [u8; 8]
     ensures { result ≡ bytes_of message flags type_data }
 {
@@ -157,7 +150,7 @@ pub fn bytes_of(message: MessageType, flags: u8, type_data: u16) -> [u8; 8]
         0x42,
         0x44,
         0x50,
-        8 * type_of(message) + 1,
+        8 * u8::from(message) + 1,
         flags,
         last[0],
         last[1],

@@ -1,9 +1,9 @@
 -- What the entries without a state block answer and leave: one record for each, with an equation for the number and for every output.
-use Rattle.std.specs.Prelude.{ℕ, ◌+◌, ◌≡◌, List, [], ◌∷◌, cond, Result, Ok, Err}
+use Rattle.std.specs.Prelude.{ℕ, ◌+◌, ◌≡◌, List, [], ◌∷◌, cond, Result, Ok, Err, Option, Some, None}
 use Rattle.bundle.specs.Reading.{frame_of, frame_number}
-use Rattle.bundle.specs.declared.Frame.{Frame}
-use Rattle.bundle.specs.declared.Frame.TheVariants.{At, Behind, BadBundle}
 use Rattle.wire.specs.declared.Fault.{Fault}
+use Rattle.bytes_be.specs.declared.Place.{Place}
+use Rattle.bundle.specs.declared.BadBundle.{BadBundle}
 use Rattle.terms.specs.Value.{value_of, value_number}
 use Rattle.terms.specs.declared.Value.{Value}
 use Rattle.terms.specs.declared.Value.TheVariants.{Null, Number, Text, Boolean, Struct, List as Value-as-List}
@@ -18,10 +18,10 @@ pub record InterfaceAnswer (number : ℕ) : Type 0 where
   pub numbered : number ≡ interface
 
 -- found (0 or 1), at, length
-abbrev pub frame_slots : Frame → List ℕ
-frame_slots (At place) = 1 ∷ place.at ∷ place.length ∷ []
-frame_slots Behind = 0 ∷ 0 ∷ 0 ∷ []
-frame_slots BadBundle = 0 ∷ 0 ∷ 0 ∷ []
+abbrev pub frame_slots : Result (Option Place) BadBundle → List ℕ
+frame_slots (Ok (Some place)) = 1 ∷ place.at ∷ place.length ∷ []
+frame_slots (Ok None) = 0 ∷ 0 ∷ 0 ∷ []
+frame_slots (Err bad) = 0 ∷ 0 ∷ 0 ∷ []
 
 -- `fbdp_frame`: "For a bad bundle it answers 10 and hands out none; behind the last frame it answers that there is none."
 pub record FrameAnswer (bundle : List ℕ) (index number : ℕ) (slots : List ℕ) : Type 0 where

@@ -11,7 +11,8 @@ ghost use Rattle.fbdp.specs.Blocks.{MakeAnswer, Kept, Finished, report_of, SendO
 ghost use Rattle.fbdp.specs.Slots.{carried_in_order, in_order, carries_of, heard_slots, refused_slots, answer_slots};
 ghost use Rattle.fbdp.specs.Entries.{InterfaceAnswer, frame_slots, FrameAnswer, value_slots, ValueAnswer, term_slots, LookupAnswer};
 
-use bundle::Frame;
+use bundle::BadBundle;
+use bytes_be::Place;
 use endpoint::Made;
 use receiving::{Answer, Content, Heard, Reply};
 use sending::{Report, Sent};
@@ -25,17 +26,17 @@ pub fn fbdp_interface_3() -> u32
     3
 }
 
-fn frame_slots(frame: Frame) -> [u64; 3]
+fn frame_slots(frame: Result<Option<Place>, BadBundle>) -> [u64; 3]
     ensures { result ≡ frame_slots frame }
 {
     match frame {
-        Frame::At(place) => {
+        Ok(Some(place)) => {
             let at = place.at as u64;
             let length = place.length as u64;
             [1, at, length]
         }
-        Frame::Behind => [0, 0, 0],
-        Frame::BadBundle => [0, 0, 0],
+        Ok(None) => [0, 0, 0],
+        Err(_) => [0, 0, 0],
     }
 }
 
@@ -45,7 +46,7 @@ pub fn fbdp_frame(bundle: &[u8], index: u32, slots: &mut [u64; 3]) -> u32
 {
     let frame = bundle::frame_at(bundle, index as usize);
     *slots = frame_slots(frame);
-    bundle::frame_number(frame) as u32
+    numbered::number_of(&frame) as u32
 }
 
 fn value_slots(value: Result<Value, Fault>) -> [u64; 3]
@@ -261,7 +262,7 @@ fn heard_slots(heard: Heard, reply: u64) -> [u64; 16]
     let content = heard.content;
     let said = content_slots(content);
     [
-        control::type_of(message) as u64,
+        u8::from(message) as u64,
         heard.flags as u64,
         heard.type_data as u64,
         reply,

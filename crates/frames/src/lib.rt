@@ -4,7 +4,8 @@
 ghost use Rattle.std.specs.Prelude.{◌≡◌};
 ghost use Rattle.frames.specs.Frames.{handed_at, begun_over, NextAnswer};
 
-use bundle::Frame;
+use bundle::BadBundle;
+use bytes_be::Place;
 
 #[derive(Clone, Copy)]
 pub struct Reader<'a> {
@@ -16,48 +17,45 @@ pub struct Reader<'a> {
 // What is handed out, and the position afterwards.
 #[derive(Clone, Copy)]
 pub struct Handed {
-    pub frame: Frame,
+    pub frame: Result<Option<Place>, BadBundle>,
     pub position: usize,
 }
 
 // What a reader at this position hands out.
+#[tactic(auto, using(crate::proofs::OneByOne::among_sixteen), unfolding(crate::specs::Frames::handed_at))]
 pub fn handed_at(bundle: &[u8], position: usize) -> Handed
     ensures { result ≡ handed_at bundle.now position }
 {
     let frame = bundle::frame_at(bundle, position);
-    match frame {
-        Frame::At(_) => Handed {
-            frame: frame,
-            position: position + 1,
-        },
-        Frame::Behind => Handed {
-            frame: frame,
-            position: position,
-        },
-        Frame::BadBundle => Handed {
-            frame: frame,
-            position: position,
-        },
+    let moved = match frame {
+        Ok(Some(_)) => position + 1,
+        Ok(None) | Err(_) => position,
+    };
+    Handed {
+        frame: frame,
+        position: moved,
     }
 }
 
-// A reader that has handed out nothing yet.
-pub fn over<'a>(bundle: &'a [u8]) -> Reader<'a>
-    ensures { result ≡ begun_over bundle.entry }
-{
-    Reader {
-        bundle: bundle,
-        position: 0,
+impl<'a> Reader<'a> {
+    // A reader that has handed out nothing yet.
+    pub fn over(bundle: &'a [u8]) -> Reader<'a>
+        ensures { result ≡ begun_over bundle.entry }
+    {
+        Reader {
+            bundle: bundle,
+            position: 0,
+        }
     }
-}
 
-// Hands out the next frame.
-pub fn next<'s, 'a>(reader: &'s mut Reader<'a>) -> Frame
-    ensures { NextAnswer reader.old result reader.new }
-{
-    let handed = handed_at(reader.bundle, reader.position);
-    reader.position = handed.position;
-    handed.frame
+    // Hands out the next frame; none behind the last.
+    pub fn next(&mut self) -> Result<Option<Place>, BadBundle>
+        ensures { NextAnswer self.old result self.new }
+    {
+        let handed = handed_at(self.bundle, self.position);
+        self.position = handed.position;
+        handed.frame
+    }
 }
 
 // The same for a caller that holds no reader: the position goes in, and the one afterwards comes back.
@@ -68,7 +66,7 @@ pub fn hand_out(bundle: &[u8], position: usize) -> Handed
         bundle: bundle,
         position: position,
     };
-    let frame = next(&mut reader);
+    let frame = reader.next();
     Handed {
         frame: frame,
         position: reader.position,

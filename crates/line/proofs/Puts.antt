@@ -6,7 +6,9 @@ use native.Mathlib.Omega.{arith}
 use lib.ListN.{length, length-append}
 use Rattle.bytes_be.specs.Part.{put_at}
 use Rattle.bytes_be.proofs.Parts.{put_then, length_put}
-use Rattle.line.specs.Report.{Put}
+use Rattle.control.specs.declared.MessageType.{MessageType}
+use Rattle.control.specs.declared.MessageType.TheVariants.{Open, Ready, Noop, Data, Close}
+use Rattle.line.specs.Report.{name_of, Put}
 
 -- a text right behind another
 pub put_more : {text more before between after : List ℕ} {at next last : ℕ} →
@@ -22,3 +24,11 @@ put_more {text} {more} {before} {between} {at = at} {next = next} one two =
 -- a text that was written lies in the buffer
 pub put_held : {text before after : List ℕ} {at next : ℕ} → Put text before at next after → next ≤ length after
 put_held {text} {before} {at = at} one = omega (arith, one.room, ap length one.left ∙ length_put before at text)
+
+-- no name is longer than five letters
+pub name_short : (message : MessageType) → length (name_of message) ≤ 5
+name_short Open = omega arith
+name_short Ready = omega arith
+name_short Noop = omega arith
+name_short Data = omega arith
+name_short Close = omega arith

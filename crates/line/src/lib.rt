@@ -3,75 +3,59 @@
 
 ghost use Rattle.std.specs.Prelude.{◌≡◌, ◌+◌, ◌≤◌, ◌++◌, length};
 ghost use Rattle.line.specs.Text.{decimal};
-ghost use Rattle.line.specs.Report.{report_of_control, report_of, name_of, line_of, Put, Spelled};
+ghost use Rattle.line.specs.Report.{report_of, name_of, refused_line, line_of, Put};
+ghost use Rattle.line.specs.declared.Refusal.TheVariants.{ControlFrame};
 
-use bundle::Contents;
+use bundle::BadBundle;
 use control::{Control, MessageType};
+use numbered::Numbered;
 
+// What the control frame says, and how many data frames come with it.
 #[derive(Clone, Copy)]
-pub enum Report {
+pub struct Report {
+    pub control: Control,
+    pub frames: usize,
+}
+
+// Why an input has no control frame to report: the first of these that applies.
+#[derive(Clone, Copy, Debug, PartialEq, Eq)]
+pub enum Refusal {
     // More than 65,536 bytes.
     TooLong,
-    // The first of 10, 11, 12 and 13 that applies.
-    Refused(u8),
-    // What the control frame says, and how many data frames come with it.
-    Message {
-        message: MessageType,
-        flags: u8,
-        type_data: u16,
-        frames: usize,
-    },
+    BadBundle,
+    ControlFrame(control::Refusal),
 }
 
-// The name of a type: the first `count` bytes of a text.
-#[derive(Clone, Copy)]
-struct Name {
-    text: [u8; 5],
-    count: usize,
-}
+impl From<control::Refusal> for Refusal {
+    ghost from_gives = { λ why refusal. refusal ≡ ControlFrame why };
 
-fn report_of_control(control: Control, frames: usize) -> Report
-    ensures { result ≡ report_of_control control frames }
-{
-    let number = control::number_of(control);
-    match control {
-        Control::Read {
-            message,
-            flags,
-            type_data,
-        } => Report::Message {
-            message: message,
-            flags: flags,
-            type_data: type_data,
-            frames: frames,
-        },
-        Control::BadSignature => Report::Refused(number),
-        Control::OtherVersion => Report::Refused(number),
-        Control::UnknownType => Report::Refused(number),
+    fn from(why: control::Refusal) -> Refusal {
+        Refusal::ControlFrame(why)
     }
 }
 
 // What is to be said of an input.
-pub fn report_of(input: &[u8]) -> Report
+#[tactic(auto, using(bundle::proofs::Sums::contents_some, bundle::proofs::Sums::control_inside), unfolding(crate::specs::Report::report_of))]
+pub fn report_of(input: &[u8]) -> Result<Report, Refusal>
     ensures { result ≡ report_of input.now }
 {
     if 65536 < input.len() {
-        return Report::TooLong;
+        return Err(Refusal::TooLong);
     }
-    let Contents::Frames {
-        count,
-        control,
-        size: _,
-    } = bundle::contents_of(input)
-    else {
-        return Report::Refused(10);
+    let Ok(contents) = bundle::contents_of(input) else {
+        return Err(Refusal::BadBundle);
     };
-    let at = control.at;
-    let end = at + control.length;
-    report_of_control(control::read(&input[at..end]), count - 1)
+    let at = contents.control.at;
+    let end = at + contents.control.length;
+    let control = control::read(&input[at..end])?;
+    Ok(Report {
+        control: control,
+        frames: contents.count - 1,
+    })
 }
 
-// Writes a text at a place of the buffer, and answers the place behind it.
+// Writes a text at a place of the buffer, and answers the place behind it. Buffer and place are no struct with methods: its clauses would have to
+// say of the lent buffer, beside the text, what the caller has back. Nor does `write!` do it, whose answer may be an error, which `fill` has not.
 fn put(out: &mut [u8], at: usize, text: &[u8]) -> usize
     requires { at + length text.now ≤ length out.old }
     ensures { Put text.now out.old at result out.new }
@@ -85,88 +69,56 @@ fn put_field(out: &mut [u8], at: usize, label: &[u8], number: u64) -> usize
     requires { at + length label.now + 20 ≤ length out.old }
     ensures { Put (label.now ++ decimal number) out.old at result out.new × (result ≤ at + length label.now + 20) }
 {
+    // A fixed buffer, as there is no heap.
     let mut digits = [0u8; 20];
     let count = io::decimal(number, &mut digits);
     let next = put(out, at, label);
     put(out, next, &digits[..count])
 }
 
-// The same of the name of a type.
-fn put_name(out: &mut [u8], at: usize, message: MessageType) -> usize
-    requires { at + 5 ≤ length out.old }
-    ensures { Put (name_of message) out.old at result out.new × (result ≤ at + 5) }
-{
-    let name = name_of(message);
-    let text = name.text;
-    let count = name.count;
-    put(out, at, &text[..count])
-}
-
-fn name_of(message: MessageType) -> Name
-    ensures { Spelled message result.text result.count }
+fn name_of(message: MessageType) -> &'static [u8]
+    ensures { result.now ≡ name_of message }
 {
     match message {
-        MessageType::Open => Name {
-            text: *b"OPEN ",
-            count: 4,
-        },
-        MessageType::Ready => Name {
-            text: *b"READY",
-            count: 5,
-        },
-        MessageType::Noop => Name {
-            text: *b"NOOP ",
-            count: 4,
-        },
-        MessageType::Data => Name {
-            text: *b"DATA ",
-            count: 4,
-        },
-        MessageType::Close => Name {
-            text: *b"CLOSE",
-            count: 5,
-        },
+        MessageType::Open => b"OPEN",
+        MessageType::Ready => b"READY",
+        MessageType::Noop => b"NOOP",
+        MessageType::Data => b"DATA",
+        MessageType::Close => b"CLOSE",
     }
 }
 
-fn fill_message(
-    out: &mut [u8],
-    message: MessageType,
-    flags: u8,
-    type_data: u16,
-    frames: usize,
-) -> usize
+#[tactic(auto, using(crate::proofs::Puts::name_short))]
+fn fill_message(out: &mut [u8], report: Report) -> usize
     requires { 96 ≤ length out.old }
-    ensures { Put (line_of (Report.Message message flags type_data frames)) out.old 0 result out.new }
+    ensures { Put (line_of (Ok report)) out.old 0 result out.new }
 {
-    let named = put_name(out, 0, message);
-    let flagged = put_field(out, named, b" v1 flags=", flags as u64);
-    let said = put_field(out, flagged, b" data=", type_data as u64);
-    let counted = put_field(out, said, b" frames=", frames as u64);
+    let control = report.control;
+    let named = put(out, 0, name_of(control.message));
+    let flagged = put_field(out, named, b" v1 flags=", control.flags as u64);
+    let said = put_field(out, flagged, b" data=", control.type_data as u64);
+    let counted = put_field(out, said, b" frames=", report.frames as u64);
     put(out, counted, b"\n")
 }
 
 fn fill_refused(out: &mut [u8], number: u8) -> usize
     requires { 96 ≤ length out.old }
-    ensures { Put (line_of (Report.Refused number)) out.old 0 result out.new }
+    ensures { Put (refused_line number) out.old 0 result out.new }
 {
     let refused = put_field(out, 0, b"refused ", number as u64);
     put(out, refused, b"\n")
 }
 
-fn fill_report(out: &mut [u8], report: Report) -> usize
+#[tactic(auto, unfolding(crate::specs::Report::line_of))]
+fn fill_report(out: &mut [u8], report: Result<Report, Refusal>) -> usize
     requires { 96 ≤ length out.old }
     ensures { Put (line_of report) out.old 0 result out.new }
 {
     match report {
-        Report::TooLong => put(out, 0, b"too long\n"),
-        Report::Refused(number) => fill_refused(out, number),
-        Report::Message {
-            message,
-            flags,
-            type_data,
-            frames,
-        } => fill_message(out, message, flags, type_data, frames),
+        Ok(report) => fill_message(out, report),
+        Err(Refusal::TooLong) => put(out, 0, b"too long\n"),
+        Err(Refusal::BadBundle) => fill_refused(out, BadBundle.number()),
+        Err(Refusal::ControlFrame(why)) => fill_refused(out, why.number()),
     }
 }
 

@@ -1,5 +1,5 @@
 -- What a host is told says whether there is a body: DATA that is heard has one where it has a data frame, and nothing else has. Assumes nothing.
-use Rattle.std.specs.Prelude.{Result, Ok, Err}
+use Rattle.std.specs.Prelude.{Result, Ok, Err, Option, Some, None}
 use mathlib.Core.Path.{◌≡◌, ◌∙◌, ap, refl, subst, sym}
 use Prim.Native.Nat.{ℕ, ◌+◌}
 use mathlib.Core.List.{List}
@@ -11,8 +11,6 @@ use Rattle.control.specs.declared.MessageType.{MessageType}
 use Rattle.control.specs.declared.MessageType.TheVariants.{Open, Ready, Noop, Data, Close}
 use Rattle.control.specs.Frame.{ack_reply, type_of}
 use Rattle.open.specs.Open.{heard_by}
-use Rattle.message.specs.declared.Body.{Body as BodyPlace}
-use Rattle.message.specs.declared.Body.TheVariants.{Nothing as BodyPlace-as-Nothing, At}
 use Rattle.message.specs.Reading.{bad_frames, body_place}
 use Rattle.message.specs.Held.{body_behind}
 use Rattle.message.proofs.Bodies.{read_placed}
@@ -44,7 +42,7 @@ module _ (s : List ℕ) where
       → Lacks (not (not (eqb frames 0))) (body_carried (body_behind Data flags frames place))
   data_lacks flags frames place passes = go (eqb flags ack_reply) (eqb frames 0) passes
     where
-      go : (confirms none : Bool) → cond confirms (not none) (leb 2 frames) ≡ false → Lacks (not (not none)) (body_carried (cond (not confirms && not none) (At place) BodyPlace-as-Nothing))
+      go : (confirms none : Bool) → cond confirms (not none) (leb 2 frames) ≡ false → Lacks (not (not none)) (body_carried (cond (not confirms && not none) (Some place) None))
       go true true passes = refl
       go true false passes = clash cc
       go false true passes = refl
@@ -73,6 +71,6 @@ frames_tell_body e s pipe room heard is =
     let placed = read_placed s m passed.read in
     let place = body_place m.body in
     let said = heard_by s place.at (place.at + place.length) e.flow pipe in
-    let carries = ap (λ (body : BodyPlace). carried_as m.message (open_carried said) (body_carried body)) placed.there in
+    let carries = ap (λ (body : Option Place). carried_as m.message (open_carried said) (body_carried body)) placed.there in
     subst (Lacks s (not (tells_body (type_of m.message) m.frames))) (sym carries ∙ passed.carried)
     (carried_lacks s said m.message m.flags m.frames placed.place placed.passes)) room)

@@ -1,4 +1,5 @@
 -- A control frame with at most one data frame, as a bundle, is read as it was written. Assumes nothing.
+use Rattle.std.specs.Prelude.{Option, Some, None, Ok}
 use mathlib.Core.Path.{◌∙◌, ◌≡◌, ap, refl}
 use Prim.Native.Nat.{◌+◌, ◌<◌, ◌^◌, ◌-◌, ◌≤◌, suc, ℕ}
 use mathlib.Core.List.{flatten, append-nil, List, [], ◌∷◌}
@@ -6,19 +7,15 @@ use mathlib.Core.Bool.{false, true}
 use native.Mathlib.Omega.{arith}
 use lib.ListN.{length, length-append}
 use borrow.Author.Tests.{lt-ltb}
+use Rattle.bytes_be.specs.declared.Place.{Place}
 use Rattle.bytes_be.specs.Part.{part, part_at}
 use Rattle.bytes_be.proofs.Tests.{either_way}
-use Rattle.bundle.specs.declared.Contents.TheVariants.{Frames}
-use Rattle.bundle.specs.declared.Frame.TheVariants.{At as Frame-as-At, Behind}
 use Rattle.bundle.specs.Reading.{contents_of, place_of, start_of, length_of, frame_of}
 use Rattle.bundle.specs.Writing.{bundle_of, lengths_fit}
 use Rattle.bundle.proofs.Round.{before_back, count_back, frame_back, good_back, handed_back, length_back, none_behind, size_back}
 use Rattle.control.specs.declared.MessageType.{MessageType}
-use Rattle.control.specs.declared.Signed.TheVariants.{Frame}
 use Rattle.control.specs.Frame.{bytes_of, control_byte, signed_of, type_of}
 use Rattle.control.proofs.Round.{known_back, length_control, signed_back, version_back}
-use Rattle.message.specs.declared.Body.TheVariants.{Nothing}
-use Rattle.message.specs.declared.Reading.TheVariants.{Read}
 use Rattle.message.specs.Reading.{bad_flags, bad_frames, body_of, carries, read_as, reading_of}
 use Rattle.machine.specs.Round.{message_with}
 
@@ -31,18 +28,18 @@ module _ (message : MessageType) (flags type-data : ℕ) (small : type-data < 25
     unfolding lengths_fit
     all_fit = simp (lt-ltb (length control) (256 ^ 4) (omega (arith, length_control message flags type-data)), fit)
 
-    contents_back : contents_of (bundle_of (control ∷ frames)) ≡ Frames (suc (length frames)) (place_of (bundle_of (control ∷ frames)) 0) (length (flatten (control ∷ frames)))
+    contents_back : contents_of (bundle_of (control ∷ frames)) ≡ Ok (record { count = suc (length frames); control = place_of (bundle_of (control ∷ frames)) 0; size = length (flatten (control ∷ frames)) })
     unfolding contents_of
     contents_back =
         let most : length (control ∷ frames) ≤ 16 = omega arith in
         simp (good_back (control ∷ frames) most all_fit (omega arith), count_back (control ∷ frames) most all_fit, size_back (control ∷ frames) most all_fit)
 
-    control_read : signed_of (part_at (bundle_of (control ∷ frames)) (place_of (bundle_of (control ∷ frames)) 0)) ≡ Frame (control_byte (type_of message)) flags type-data
+    control_read : signed_of (part_at (bundle_of (control ∷ frames)) (place_of (bundle_of (control ∷ frames)) 0)) ≡ Ok (record { control_byte = control_byte (type_of message); flags = flags; type_data = type-data })
     control_read = ap signed_of (frame_back (control ∷ frames) (omega arith) all_fit 0 (omega arith)) ∙ signed_back message flags type-data small
 
     -- a message that 14 and 15 do not refuse
     pub reading_back : bad_flags message flags ≡ false → bad_frames message flags (length frames) ≡ false → reading_of (bundle_of (control ∷ frames)) ≡
-        Read
+        Ok
         (record {
           message = message;
           flags = flags;
@@ -59,12 +56,12 @@ module _ (message : MessageType) (flags type-data : ℕ) (small : type-data < 25
   -- without a data frame
 
   pub plain_read : bad_flags message flags ≡ false → bad_frames message flags 0 ≡ false →
-      reading_of (bundle_of (control ∷ [])) ≡ Read (message_with message flags type-data [])
+      reading_of (bundle_of (control ∷ [])) ≡ Ok (message_with message flags type-data [])
   unfolding lengths_fit body_of flatten
   plain_read flagged framed =
       let eight : length (flatten (control ∷ [])) ≡ 8 = simp append-nil (length_control message flags type-data) in
-      let none : frame_of (bundle_of (control ∷ [])) 1 ≡ Behind = none_behind (control ∷ []) (omega arith) (all_fit [] (omega arith) refl) (omega arith) 1 (omega arith) in
-      reading_back [] (omega arith) refl flagged framed ∙ simp (eight, none, either_way (carries message flags) Nothing)
+      let none : frame_of (bundle_of (control ∷ [])) 1 ≡ Ok None = none_behind (control ∷ []) (omega arith) (all_fit [] (omega arith) refl) (omega arith) 1 (omega arith) in
+      reading_back [] (omega arith) refl flagged framed ∙ simp (eight, none, either_way {A = Option Place} (carries message flags) None)
 
   -- with one
 
@@ -88,14 +85,14 @@ module _ (message : MessageType) (flags type-data : ℕ) (small : type-data < 25
     long : length_of (bundle_of both) 1 ≡ length frame
     long = length_back both (omega arith) both_fit 1 (omega arith)
 
-    frame_place : frame_of (bundle_of both) 1 ≡ Frame-as-At (record { at = 18; length = length frame })
-    frame_place = handed_back both (omega arith) both_fit (omega arith) 1 (omega arith) ∙ (λ i. Frame-as-At (record { at = starts i; length = long i }))
+    frame_place : frame_of (bundle_of both) 1 ≡ Ok (Some (record { at = 18; length = length frame }))
+    frame_place = handed_back both (omega arith) both_fit (omega arith) 1 (omega arith) ∙ (λ i. Ok (Some (record { at = starts i; length = long i })))
 
     pub frame_read : part (bundle_of both) 18 (length frame) ≡ frame
     frame_read = rw (starts, long) at (frame_back both (omega arith) both_fit 1 (omega arith))
 
     pub framed_read : bad_flags message flags ≡ false → bad_frames message flags 1 ≡ false → carries message flags ≡ true →
-        reading_of (bundle_of both) ≡ Read (message_with message flags type-data (frame ∷ []))
+        reading_of (bundle_of both) ≡ Ok (message_with message flags type-data (frame ∷ []))
     unfolding body_of flatten
     framed_read flagged framed bears =
         let sum : length (flatten both) ≡ 8 + length frame = simp (append-nil, length-append) (omega (arith, length_control message flags type-data)) in

@@ -1,5 +1,5 @@
 -- What is carried by an OPEN that is heard has a limit that is one, and one that is not heard is refused by a number of 18 to 22. Assumes nothing.
-use Rattle.std.specs.Prelude.{Result, Ok, Err}
+use Rattle.std.specs.Prelude.{Result, Ok, Err, Option, Some, None}
 use Prim.Native.Nat.{◌+◌, ◌≤◌, ℕ}
 use mathlib.Core.List.{List}
 use native.Mathlib.Omega.{arith}
@@ -11,8 +11,6 @@ use Rattle.open.specs.declared.Refusal.TheVariants.{Unreadable, OutOfRange, Unkn
 use Rattle.open.specs.Open.{heard_by, refusal_number}
 use Rattle.open.proofs.Limits.{HeardBounded, heard_bounded}
 use Rattle.open.proofs.Stages.{OfOpening}
-use Rattle.message.specs.declared.Body.{Body}
-use Rattle.message.specs.declared.Body.TheVariants.{Nothing as Body-as-Nothing, At}
 use Rattle.message.specs.declared.Message.{Message}
 use Rattle.message.specs.Reading.{body_place}
 use Rattle.open.specs.Offer.{Offer}
@@ -43,9 +41,9 @@ open_carries : (said : Result Opening Refusal) → OfOpening HeardBounded said �
 open_carries (Ok opening) bounded = bounded
 open_carries (Err refusal) bounded = refusal_numbered refusal
 
-body_carries : (body : Body) → CarriedBounded (body_carried body)
-body_carries Body-as-Nothing = tt
-body_carries (At place) = tt
+body_carries : (body : Option Place) → CarriedBounded (body_carried body)
+body_carries None = tt
+body_carries (Some place) = tt
 
 pub carried_bounded : (e : Endpoint) (s : List ℕ) (pipe : Offer) (m : Message) → CarriedBounded (carried_by e s pipe m)
 unfolding carried_by open_at

@@ -1,4 +1,5 @@
 -- A CLOSE that passes 10 to 13 is heard and closes, before the OPEN it is refused as 17, and behind a close passed over. Assumes nothing.
+use Rattle.std.specs.Prelude.{None, Ok}
 use mathlib.Core.Path.{◌≡◌, refl}
 use Prim.Native.Nat.{ℕ, ◌-◌, ◌≤◌}
 use mathlib.Core.List.{List}
@@ -9,8 +10,6 @@ use borrow.Author.Tests.{eq-eqb, eqb-false, eqb-true, le-leb, lt-leb, ne_eqb}
 use Rattle.control.specs.declared.MessageType.TheVariants.{Close}
 use Rattle.control.specs.Frame.{known_type_of, type_of}
 use Rattle.open.specs.Offer.{Offer}
-use Rattle.message.specs.declared.Body.TheVariants.{Nothing}
-use Rattle.message.specs.declared.Reading.TheVariants.{Read}
 use Rattle.message.specs.Reading.{body_of, read_as, reading_of}
 use Rattle.endpoint.specs.declared.Endpoint.{Endpoint}
 use Rattle.endpoint.specs.Record.{batch, client, fresh, opening, shut}
@@ -22,14 +21,14 @@ use Rattle.machine.specs.Close.{PassesAsClose, closing, heard_close, CloseWhole}
 
 -- it is read, whatever its flags and its frames
 close_read : (s : List ℕ) (passes : PassesAsClose s) → reading_of s
-    ≡ Read
+    ≡ Ok
     (record {
       message = Close;
       flags = passes.flags;
       type_data = passes.type-data;
       frames = passes.count - 1;
       size = passes.size;
-      body = Nothing;
+      body = None;
     })
 unfolding reading_of read_as body_of known_type_of
 close_read s passes = simp (passes.bundled, passes.signed, passes.version_one)

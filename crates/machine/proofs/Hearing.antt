@@ -14,7 +14,6 @@ use Rattle.open.specs.Open.{offered_socket}
 use Rattle.open_write.specs.Frame.{socket_of}
 use Rattle.open_write.specs.Round.{answer_to}
 use Rattle.message.specs.declared.Message.{Message}
-use Rattle.message.specs.declared.Reading.TheVariants.{Read}
 use Rattle.message.specs.Reading.{reading_of}
 use Rattle.endpoint.specs.declared.Endpoint.{Endpoint}
 use Rattle.endpoint.specs.Record.{shut}
@@ -31,7 +30,7 @@ module _ (r : Endpoint) (m : Message) (phase n : ℕ) (leads : hear_row r m ≡ 
   alive = row_alive (other r.role) (other r.flow) r.phase r.n (moves_as m.message m.flags) m.type_data phase n leads
 
   -- a message that none of the tests refuses is accepted
-  pub message_heard : (s : List ℕ) (pipe : Offer) (content : Content) → reading_of s ≡ Read m → too_large r m ≡ false → carried_by r s pipe m ≡ Carried-as-Content content →
+  pub message_heard : (s : List ℕ) (pipe : Offer) (content : Content) → reading_of s ≡ Ok m → too_large r m ≡ false → carried_by r s pipe m ≡ Carried-as-Content content →
       unmatched r m ≡ false → hear_of r s pipe ≡ accepted r m (To phase n) content
   unfolding hear_of hear_message hear_content forbidden
   message_heard s pipe content read small carried matched = simp (alive, read, small, leads, carried, matched)

@@ -1,4 +1,5 @@
 -- What holds of every refusal and of every message that all tests let pass holds of whatever a receive makes of bytes. Assumes nothing.
+use Rattle.std.specs.Prelude.{Result, Ok, Err}
 use mathlib.Core.Path.{◌≡◌, ap, refl, subst}
 use Prim.Native.Nat.{ℕ, ◌+◌, ◌≤◌, ◌<◌}
 use mathlib.Core.List.{List}
@@ -10,10 +11,8 @@ use Rattle.bytes_be.proofs.Tests.{took_second}
 use Rattle.control.specs.Frame.{type_of}
 use Rattle.open.specs.Offer.{Offer}
 use Rattle.message.specs.declared.Message.{Message}
-use Rattle.message.specs.declared.Reading.{Reading}
-use Rattle.message.specs.declared.Reading.TheVariants.{Read, Refused as Reading-as-Refused}
 use Rattle.message.specs.declared.Refusal.{Refusal}
-use Rattle.message.specs.Reading.{reading_of, said_in}
+use Rattle.message.specs.Reading.{reading_of, refusal_number, said_in}
 use Rattle.message.proofs.Inside.{read_refused}
 use Rattle.endpoint.specs.declared.Endpoint.{Endpoint}
 use Rattle.endpoint.specs.Record.{fresh, good, server, shut}
@@ -31,7 +30,7 @@ use Rattle.machine.proofs.Carried.{CarriedBounded, carried_bounded}
 -- what a message that is heard has passed
 pub record Passed (e : Endpoint) (s : List ℕ) (pipe : Offer) (m : Message) (content : Content) : Type 0 where
   pub alive : eqb e.phase shut ≡ false
-  pub read : reading_of s ≡ Read m
+  pub read : reading_of s ≡ Ok m
   pub small : too_large e m ≡ false
   pub allowed : forbidden e m ≡ false
   pub carried : carried_by e s pipe m ≡ Carried-as-Content content
@@ -110,10 +109,10 @@ uncoded e number said low =
 
 -- and so has that of a message that is not read, and of one whose content is not heard
 
-reading_coded : (e : Endpoint) (s : List ℕ) (refusal : Refusal) → reading_of s ≡ Reading-as-Refused refusal → close_code e refusal.number (said_by s) ≡ 0 → ⊥
+reading_coded : (e : Endpoint) (s : List ℕ) (refusal : Refusal) → reading_of s ≡ Err refusal → close_code e (refusal_number refusal) (said_by s) ≡ 0 → ⊥
 reading_coded e s refusal stops =
     let among = read_refused s refusal stops in
-    coded e refusal.number (said_by s) (omega (arith, among.0)) (omega (arith, among.1))
+    coded e (refusal_number refusal) (said_by s) (omega (arith, among.0)) (omega (arith, among.1))
 
 carried_coded : (e : Endpoint) (s : List ℕ) (pipe : Offer) (m : Message) (number : ℕ) → carried_by e s pipe m ≡ Carried-as-Refused number
     → close_code e number (said_by s) ≡ 0 → ⊥
@@ -131,18 +130,18 @@ module _ (Holds : Received → Type 0) (e : Endpoint) (s : List ℕ) (pipe : Off
   by_content (Carried-as-Refused number) refuse next first second = first number refl
   by_content (Carried-as-Content content) refuse next first second = second content refl
 
-  by_reading : (reading : Reading) (refuse : ℕ → ℕ → Received) (next : Message → Received) → ((refusal : Refusal) → reading ≡ Reading-as-Refused refusal → Holds (refuse refusal.number refusal.said))
-      → ((m : Message) → reading ≡ Read m → Holds (next m)) → Holds (if_read reading refuse next)
-  by_reading (Reading-as-Refused refusal) refuse next first second = first refusal refl
-  by_reading (Read m) refuse next first second = second m refl
+  by_reading : (reading : Result Message Refusal) (refuse : ℕ → ℕ → Received) (next : Message → Received) → ((refusal : Refusal) → reading ≡ Err refusal → Holds (refuse (refusal_number refusal) refusal.said))
+      → ((m : Message) → reading ≡ Ok m → Holds (next m)) → Holds (if_read reading refuse next)
+  by_reading (Err refusal) refuse next first second = first refusal refl
+  by_reading (Ok m) refuse next first second = second m refl
 
   module _ (stays : (number : ℕ) → Holds (unchanged e number)) (closes : (number : ℕ) → (close_code e number (said_by s) ≡ 0 → ⊥) → Holds (refused e number (said_by s)))
       (accepts : (m : Message) (content : Content) → Passed e s pipe m content → Holds (accepted e m (hear_row e m) content)) where
     -- of a message that is read, what the bytes say is its type
-    read_closes : (m : Message) → reading_of s ≡ Read m → (number : ℕ) → (close_code e number (said_by s) ≡ 0 → ⊥) → Holds (refused e number (type_of m.message))
+    read_closes : (m : Message) → reading_of s ≡ Ok m → (number : ℕ) → (close_code e number (said_by s) ≡ 0 → ⊥) → Holds (refused e number (type_of m.message))
     read_closes m read number has_code = subst (λ (said : ℕ). Holds (refused e number said)) (ap said_in read) (closes number has_code)
 
-    message_holds : eqb e.phase shut ≡ false → (m : Message) → reading_of s ≡ Read m → Holds (hear_message e s pipe m)
+    message_holds : eqb e.phase shut ≡ false → (m : Message) → reading_of s ≡ Ok m → Holds (hear_message e s pipe m)
     unfolding hear_message hear_content
     message_holds alive m read =
         by_test (too_large e m) _ _ (read_closes m read 16 (coded e 16 (said_by s) (omega arith) (omega arith))) (λ small.
@@ -158,7 +157,7 @@ module _ (Holds : Received → Type 0) (e : Endpoint) (s : List ℕ) (pipe : Off
       where
         go : (t : Bool) → eqb e.phase shut ≡ t → Holds (cond t (unchanged e 3) (if_read (reading_of s) (refused e) (hear_message e s pipe)))
         go true is-shut = stays 3
-        go false alive = by_reading (reading_of s) (refused e) (hear_message e s pipe) (λ refusal stops. subst (λ (said : ℕ). Holds (refused e refusal.number said)) (ap said_in stops) (closes refusal.number (reading_coded e s refusal stops))) (message_holds alive)
+        go false alive = by_reading (reading_of s) (refused e) (hear_message e s pipe) (λ refusal stops. subst (λ (said : ℕ). Holds (refused e (refusal_number refusal) said)) (ap said_in stops) (closes (refusal_number refusal) (reading_coded e s refusal stops))) (message_holds alive)
 
     pub received_holds : (room : ℕ) → Holds (received_of e s pipe room)
     unfolding received_of

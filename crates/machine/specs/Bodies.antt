@@ -1,10 +1,9 @@
 -- C-12: "a missing body is heard as such, apart from an empty one": the body of a message that was read, and of one that is heard.
-use Rattle.std.specs.Prelude.{ℕ, ◌≡◌, List, Bool, not, ◌&&◌, eqb}
+use Rattle.std.specs.Prelude.{ℕ, ◌≡◌, List, Bool, not, ◌&&◌, eqb, Option, Some, None}
 use Rattle.bytes_be.specs.Part.{part_at}
 use Rattle.control.specs.declared.MessageType.TheVariants.{Data}
 use Rattle.control.specs.Frame.{type_of}
-use Rattle.message.specs.declared.Body.{Body as BodyPlace}
-use Rattle.message.specs.declared.Body.TheVariants.{Nothing as BodyPlace-as-Nothing, At}
+use Rattle.bytes_be.specs.declared.Place.{Place}
 use Rattle.open.specs.Offer.{Offer}
 use Rattle.endpoint.specs.declared.Endpoint.{Endpoint}
 use Rattle.receiving.specs.declared.Content.{Content}
@@ -15,15 +14,15 @@ use Rattle.receiving.specs.Receiving.{received_of}
 use Rattle.sending.specs.Calls.{Body, Missing, Given, is_missing}
 
 -- the bytes at a place of the message, or none
-abbrev pub body_at : List ℕ → BodyPlace → Body
-body_at s BodyPlace-as-Nothing = Missing
-body_at s (At place) = Given (part_at s place)
+abbrev pub body_at : List ℕ → Option Place → Body
+body_at s None = Missing
+body_at s (Some place) = Given (part_at s place)
 
 -- "Heard too is the place of its body."
-abbrev pub place_heard : Content → BodyPlace
-place_heard Nothing = BodyPlace-as-Nothing
-place_heard (Opening opening) = BodyPlace-as-Nothing
-place_heard (Content-as-Body place) = At place
+abbrev pub place_heard : Content → Option Place
+place_heard Nothing = None
+place_heard (Opening opening) = None
+place_heard (Content-as-Body place) = Some place
 
 abbrev pub body_heard : List ℕ → Content → Body
 body_heard s content = body_at s (place_heard content)

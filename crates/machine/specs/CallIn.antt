@@ -7,8 +7,7 @@ use Rattle.control.specs.Frame.{ack_request}
 use Rattle.open.specs.Offer.{offer_of}
 use Rattle.open.specs.Open.{open_of}
 use Rattle.message.specs.declared.Message.{Message}
-use Rattle.message.specs.declared.Reading.{Reading}
-use Rattle.message.specs.declared.Reading.TheVariants.{Read, Refused as Reading-as-Refused}
+use Rattle.message.specs.declared.Refusal.{Refusal as Refusal-of-message}
 use Rattle.message.specs.Reading.{body_place, reading_of}
 use Rattle.endpoint.specs.declared.Endpoint.{Endpoint}
 use Rattle.open.specs.declared.Opening.{Opening}
@@ -38,9 +37,9 @@ call_of Data s m =
 call_of Close s m = TheCall (CLOSE m.type_data)
 
 -- a confirmation is of no call
-abbrev pub call_read : List ℕ → Reading → CallRead
-call_read s (Read m) = cond (confirms m.message m.flags) NoCall (call_of m.message s m)
-call_read s (Reading-as-Refused refusal) = NoCall
+abbrev pub call_read : List ℕ → Result Message Refusal-of-message → CallRead
+call_read s (Ok m) = cond (confirms m.message m.flags) NoCall (call_of m.message s m)
+call_read s (Err refusal) = NoCall
 
 abbrev pub call_in : List ℕ → CallRead
 call_in s = call_read s (reading_of s)

@@ -1,13 +1,10 @@
 -- "A CLOSE that passes 10..13 is heard in phases 1 to 4 whatever its flags, frames or size. Phase becomes 5; n, W and entries zero. No reply. In
 -- phase 0 it is refused as 17, none of 14..16 being tested."
-use Rattle.std.specs.Prelude.{ℕ, ◌-◌, ◌≤◌, ◌≡◌, List, cond, eqb}
+use Rattle.std.specs.Prelude.{ℕ, ◌-◌, ◌≤◌, ◌≡◌, List, cond, eqb, Ok}
 use Rattle.bytes_be.specs.declared.Place.{Place}
 use Rattle.bytes_be.specs.Part.{part_at}
-use Rattle.bundle.specs.declared.Contents.TheVariants.{Frames}
 use Rattle.bundle.specs.Reading.{contents_of}
 use Rattle.control.specs.declared.MessageType.TheVariants.{Close}
-use Rattle.control.specs.declared.Signed.TheVariants.{Frame}
-use Rattle.control.specs.declared.Version.TheVariants.{One}
 use Rattle.control.specs.Frame.{type_of, signed_of, version_of}
 use Rattle.open.specs.Offer.{Offer}
 use Rattle.endpoint.specs.declared.Endpoint.{Endpoint}
@@ -25,12 +22,12 @@ pub record PassesAsClose (s : List ℕ) : Type 0 where
   pub count : ℕ
   pub control : Place
   pub size : ℕ
-  pub bundled : contents_of s ≡ Frames count control size
+  pub bundled : contents_of s ≡ Ok (record { count = count; control = control; size = size })
   pub byte : ℕ
   pub flags : ℕ
   pub type-data : ℕ
-  pub signed : signed_of (part_at s control) ≡ Frame byte flags type-data
-  pub version_one : version_of byte ≡ One (type_of Close)
+  pub signed : signed_of (part_at s control) ≡ Ok (record { control_byte = byte; flags = flags; type_data = type-data })
+  pub version_one : version_of byte ≡ Ok (type_of Close)
 
 -- "Phase becomes 5; n, W and entries zero. No reply."
 abbrev pub closing : Endpoint → Answer → Received

@@ -1,8 +1,7 @@
 -- "Numbers 10..24 given by a receive set phase 5, clear n, W and the entries, and write the CLOSE reply .. All others change no byte."
-use Rattle.std.specs.Prelude.{ℕ, ◌≡◌, List}
+use Rattle.std.specs.Prelude.{ℕ, ◌≡◌, List, Ok}
 use Rattle.open.specs.Offer.{Offer}
 use Rattle.message.specs.declared.Message.{Message}
-use Rattle.message.specs.declared.Reading.TheVariants.{Read}
 use Rattle.message.specs.Reading.{reading_of, said_in}
 use Rattle.endpoint.specs.declared.Endpoint.{Endpoint}
 use Rattle.receiving.specs.declared.Content.{Content}
@@ -23,7 +22,7 @@ said_by s = said_in (reading_of s)
 pub record Hears (e : Endpoint) (s : List ℕ) (received : Received) : Type 0 where
   pub message : Message
   pub content : Content
-  pub read : reading_of s ≡ Read message
+  pub read : reading_of s ≡ Ok message
   pub is : received ≡ accepted e message (hear_row e message) content
 
 -- a number that closes has a row among the CLOSE codes, and its reply is by what the bytes say

@@ -1,5 +1,5 @@
 -- What is sent is read, and heard by an end that may hear it, as it was sent; and what is replied is read as it was replied.
-use Rattle.std.specs.Prelude.{ℕ, ◌+◌, ◌<◌, ◌^◌, ◌≡◌, List, [], ◌∷◌, Bool, true, false, cond, ◌&&◌, length, get_or, eqb}
+use Rattle.std.specs.Prelude.{ℕ, ◌+◌, ◌<◌, ◌^◌, ◌≡◌, List, [], ◌∷◌, Bool, true, false, cond, ◌&&◌, length, get_or, eqb, Option, Some, None, Ok}
 use Rattle.bytes_be.specs.declared.Place.{Place}
 use Rattle.bytes_be.specs.Part.{part_at}
 use Rattle.control.specs.declared.MessageType.{MessageType}
@@ -11,10 +11,7 @@ use Rattle.open.specs.Offer.{Offer}
 use Rattle.open.specs.declared.Opening.{Opening}
 use Rattle.open_write.specs.Frame.{socket_of, limit_struct}
 use Rattle.open_write.specs.Round.{same_pipe, same_format}
-use Rattle.message.specs.declared.Body.{Body as BodyPlace}
-use Rattle.message.specs.declared.Body.TheVariants.{Nothing as BodyPlace-as-Nothing, At}
 use Rattle.message.specs.declared.Message.{Message}
-use Rattle.message.specs.declared.Reading.TheVariants.{Read}
 use Rattle.message.specs.Reading.{body_place, reading_of}
 use Rattle.endpoint.specs.declared.Endpoint.{Endpoint}
 use Rattle.endpoint.specs.Record.{confirmed, limited}
@@ -37,9 +34,9 @@ first_frame [] = []
 first_frame (frame ∷ rest) = frame
 
 -- where it stands: behind the frame count, two lengths and the control frame
-abbrev pub place_behind : List (List ℕ) → BodyPlace
-place_behind [] = BodyPlace-as-Nothing
-place_behind (frame ∷ rest) = At (record { at = 18; length = length frame })
+abbrev pub place_behind : List (List ℕ) → Option Place
+place_behind [] = None
+place_behind (frame ∷ rest) = Some (record { at = 18; length = length frame })
 
 -- a message of these data frames, of which there is at most one
 abbrev pub message_with : MessageType → ℕ → ℕ → List (List ℕ) → Message
@@ -59,7 +56,7 @@ message_sent e call = message_with (message_of call) (flags_for (ask_of call)) (
 
 -- the bytes of a call are read as its message, and its data frame, if it has one, stands where the message says
 pub record ReadBack (e : Endpoint) (call : Call) : Type 0 where
-  pub read : reading_of (written e call) ≡ Read (message_sent e call)
+  pub read : reading_of (written e call) ≡ Ok (message_sent e call)
   pub framed : part_at (written e call) (body_place (message_sent e call).body) ≡ first_frame (data_frames e call)
 
 -- for every call that is accepted
@@ -158,7 +155,7 @@ is_reply Close flags = eqb flags 0
 abbrev pub RepliesReadBack : Type 0
 RepliesReadBack =
     (message : MessageType) (flags type-data : ℕ) → is_reply message flags ≡ true → type-data < 256 ^ 2
-    → reading_of (reply_bytes (Frame message flags type-data)) ≡ Read (message_with message flags type-data [])
+    → reading_of (reply_bytes (Frame message flags type-data)) ≡ Ok (message_with message flags type-data [])
 
 -- and a receive makes no other
 abbrev pub RepliesOnly : Type 0

@@ -11,37 +11,36 @@ use Rattle.bytes_be.specs.Number.{from_bytes, number_at}
 use Rattle.bytes_be.specs.Part.{part_at}
 use Rattle.bytes_be.proofs.Numbers.{Bytes, bytes_part, number_below}
 use Rattle.bytes_be.proofs.Tests.{clash, took_first}
-use Rattle.bundle.specs.declared.Frame.TheVariants.{At as Frame-as-At, Behind, BadBundle}
+use Rattle.std.specs.Prelude.{Option, Some, None, Result, Ok, Err}
+use Rattle.std.proofs.lemmas.Result.{IfOk-at_ok}
 use Rattle.bundle.specs.Reading.{count_of, frame_of, good, place_of}
 use Rattle.bundle.proofs.Sums.{body_inside}
 use Rattle.control.specs.declared.MessageType.{MessageType}
-use Rattle.control.specs.declared.Signed.TheVariants.{Frame as Signed-as-Frame, Unsigned}
+use Rattle.control.specs.declared.Signed.{Signed}
+use Rattle.control.specs.declared.Refusal.{Refusal as Refusal-of-control}
 use Rattle.control.specs.Frame.{signature, signed_of}
-use Rattle.message.specs.declared.Body.{Body}
-use Rattle.message.specs.declared.Body.TheVariants.{Nothing}
+use Rattle.bytes_be.specs.declared.Place.{Place}
 use Rattle.message.specs.declared.Message.{Message}
-use Rattle.message.specs.declared.Reading.{Reading}
-use Rattle.message.specs.declared.Reading.TheVariants.{Read, Refused}
 use Rattle.message.specs.declared.Refusal.{Refusal}
-use Rattle.message.specs.Reading.{body_in, body_of, body_place, carries, reading_of}
-use Rattle.message.proofs.Stages.{OfMessage, WhileReading, by_stages}
+use Rattle.message.specs.Reading.{body_in, body_of, body_place, carries, reading_of, refusal_number}
+use Rattle.message.proofs.Stages.{OfMessage, WhileReading, by_stages, reason_numbered}
 
 module _ (s : List ℕ) where
-  abbrev pub BodyInside : Body → Type 0
+  abbrev pub BodyInside : Option Place → Type 0
   BodyInside body = (body_place body).at + (body_place body).length ≤ length s
 
-  abbrev pub Inside : Reading → Type 0
+  abbrev pub Inside : Result Message Refusal → Type 0
   Inside reading = OfMessage (λ (m : Message). BodyInside m.body) reading
 
   second_frame : BodyInside (body_in (frame_of s 1))
   unfolding frame_of
   second_frame = go (good s) refl
     where
-      counted : (t : Bool) → good s ≡ true → ltb 1 (count_of s) ≡ t → BodyInside (body_in (cond t (Frame-as-At (place_of s 1)) Behind))
+      counted : (t : Bool) → good s ≡ true → ltb 1 (count_of s) ≡ t → BodyInside (body_in (cond t (Ok (Some (place_of s 1))) (Ok None)))
       counted true is-good more = body_inside s is-good 1 (ltb-true 1 (count_of s) more)
       counted false is-good more = zero-le
 
-      go : (t : Bool) → good s ≡ t → BodyInside (body_in (cond t (cond (ltb 1 (count_of s)) (Frame-as-At (place_of s 1)) Behind) BadBundle))
+      go : (t : Bool) → good s ≡ t → BodyInside (body_in (cond t (cond (ltb 1 (count_of s)) (Ok (Some (place_of s 1))) (Ok None)) (Err (record {}))))
       go true is-good = counted (ltb 1 (count_of s)) is-good refl
       go false is-good = zero-le
 
@@ -49,33 +48,34 @@ module _ (s : List ℕ) where
   unfolding body_of
   body_there message flags = go (carries message flags)
     where
-      go : (t : Bool) → BodyInside (cond t (body_in (frame_of s 1)) Nothing)
+      go : (t : Bool) → BodyInside (cond t (body_in (frame_of s 1)) None)
       go true = second_frame
       go false = zero-le
 
   pub read_inside : Inside (reading_of s)
-  read_inside = by_stages (λ (m : Message). BodyInside m.body) s (λ count size control byte flags type-data message contents signed framed. body_there message flags)
+  read_inside = by_stages (λ (m : Message). BodyInside m.body) s (λ contents signed message counted is_signed framed. body_there message signed.flags)
 
-unsigned_frame : {byte flags type-data : ℕ} → Unsigned ≡ Signed-as-Frame byte flags type-data → ⊥
+-- of a message that is read
+pub read_within : (s : List ℕ) (m : Message) → reading_of s ≡ Ok m → (body_place m.body).at + (body_place m.body).length ≤ length s
+read_within s m is = subst (Inside s) is (read_inside s)
+
+unsigned_frame : {why : Refusal-of-control} {signed : Signed} → Err why ≡ Ok signed → ⊥
 unsigned_frame e = clash cc
 
 -- the type-data of a frame that is signed
-signed_small : (s : List ℕ) → Bytes s → (byte flags type-data : ℕ) → signed_of s ≡ Signed-as-Frame byte flags type-data → type-data < 256 ^ 2
+signed_small : (s : List ℕ) → Bytes s → (signed : Signed) → signed_of s ≡ Ok signed → signed.type_data < 256 ^ 2
 unfolding signed_of
-signed_small s bytes byte flags type-data e =
+signed_small s bytes signed e =
     let fields = took_first (eqb (length s) 8 && eqb (number_at 4 s 0) (from_bytes signature)) unsigned_frame e in
-    let same : Signed-as-Frame (number_at 1 s 4) (number_at 1 s 5) (number_at 2 s 6) ≡ Signed-as-Frame byte flags type-data = fields.1 in
-    let ended : number_at 2 s 6 ≡ type-data = cc in
-    rw (← ended) (number_below 2 s 6 bytes)
+    IfOk-at_ok (λ (x : Signed). x.type_data < 256 ^ 2) fields.1 (number_below 2 s 6 bytes)
 
 -- the type-data of a message that is read
-pub read_small : (s : List ℕ) → Bytes s → (m : Message) → reading_of s ≡ Read m → m.type_data < 256 ^ 2
+pub read_small : (s : List ℕ) → Bytes s → (m : Message) → reading_of s ≡ Ok m → m.type_data < 256 ^ 2
 read_small s bytes m is =
     subst (OfMessage (λ (m : Message). m.type_data < 256 ^ 2)) is
     (by_stages (λ (m : Message). m.type_data < 256 ^ 2) s
-    (λ count size control byte flags type-data message contents signed framed. signed_small (part_at s control) (bytes_part s control.at control.length bytes) byte flags type-data signed))
+    (λ contents signed message counted is_signed framed. signed_small (part_at s contents.control) (bytes_part s contents.control.at contents.control.length bytes) signed is_signed))
 
 -- the number of a message that is not read
-pub read_refused : (s : List ℕ) (refusal : Refusal) → reading_of s ≡ Refused refusal → WhileReading refusal.number
-read_refused s refusal is =
-    subst (OfMessage (λ (m : Message). Unit)) is (by_stages (λ (m : Message). Unit) s (λ count size control byte flags type-data message contents signed framed. tt))
+pub read_refused : (s : List ℕ) (refusal : Refusal) → reading_of s ≡ Err refusal → WhileReading (refusal_number refusal)
+read_refused s refusal is = reason_numbered refusal.why

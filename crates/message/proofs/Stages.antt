@@ -1,72 +1,60 @@
 -- What holds of every message that a stage lets pass holds of every message that is read, and every refusal is one of 10 to 15. Assumes nothing.
-use mathlib.Core.Path.{◌≡◌, refl}
-use Prim.Native.Nat.{◌-◌, ◌≤◌, ℕ}
-use mathlib.Core.List.{List}
-use mathlib.Core.Bool.{Bool, true, false, cond}
-use native.Mathlib.Omega.{arith}
-use Rattle.bytes_be.specs.declared.Place.{Place}
+use Rattle.std.proofs.Common.{◌≡◌, refl, ℕ, ◌-◌, ◌≤◌, List, arith}
+use Rattle.std.specs.Prelude.{Bool, true, false, cond, Result, Ok, Err}
 use Rattle.bytes_be.specs.Part.{part_at}
+use Rattle.numbered.specs.Numbered.{if_passed}
 use Rattle.bundle.specs.declared.Contents.{Contents}
-use Rattle.bundle.specs.declared.Contents.TheVariants.{Frames, BadBundle}
-use Rattle.bundle.specs.Reading.{contents_of, if_frames}
-use Rattle.control.specs.declared.KnownType.{KnownType}
-use Rattle.control.specs.declared.KnownType.TheVariants.{Known, Unknown}
+use Rattle.bundle.specs.Reading.{contents_of}
 use Rattle.control.specs.declared.MessageType.{MessageType}
 use Rattle.control.specs.declared.Signed.{Signed}
-use Rattle.control.specs.declared.Signed.TheVariants.{Frame, Unsigned}
-use Rattle.control.specs.declared.Version.{Version}
-use Rattle.control.specs.declared.Version.TheVariants.{One, Other}
-use Rattle.control.specs.Frame.{type_in, signed_of, version_of, known_type_of, if_signed, if_version_one, if_known}
+use Rattle.control.specs.declared.Refusal.TheVariants.{BadSignature, OtherVersion, UnknownType}
+use Rattle.control.specs.Frame.{type_in, signed_of, version_of, known_type_of}
 use Rattle.message.specs.declared.Message.{Message}
-use Rattle.message.specs.declared.Reading.{Reading}
-use Rattle.message.specs.declared.Reading.TheVariants.{Read, Refused}
-use Rattle.message.specs.Reading.{bad_flags, bad_frames, body_of, read_as, reading_of, refused}
+use Rattle.message.specs.declared.Reason.{Reason}
+use Rattle.message.specs.declared.Reason.TheVariants.{BadBundle, Control, BadFlags, BadFrames}
+use Rattle.message.specs.declared.Refusal.{Refusal}
+use Rattle.message.specs.Reading.{bad_flags, bad_frames, body_of, read_as, reading_of, reason_number, refused}
 
 -- the numbers that refuse a message while it is read
 abbrev pub WhileReading : ℕ → Type 0
 WhileReading number = (10 ≤ number) × (number ≤ 15)
 
+pub reason_numbered : (why : Reason) → WhileReading (reason_number why)
+reason_numbered BadBundle = (omega arith, omega arith)
+reason_numbered (Control BadSignature) = (omega arith, omega arith)
+reason_numbered (Control OtherVersion) = (omega arith, omega arith)
+reason_numbered (Control UnknownType) = (omega arith, omega arith)
+reason_numbered BadFlags = (omega arith, omega arith)
+reason_numbered BadFrames = (omega arith, omega arith)
+
 -- what holds of a message, of a reading
-abbrev pub OfMessage : (Message → Type 0) → Reading → Type 0
-OfMessage Holds (Read m) = Holds m
-OfMessage Holds (Refused refusal) = WhileReading refusal.number
+abbrev pub OfMessage : (Message → Type 0) → Result Message Refusal → Type 0
+OfMessage Holds (Ok m) = Holds m
+OfMessage Holds (Err refusal) = Unit
 
 module _ (Holds : Message → Type 0) where
-  by_contents : (x : Contents) (number said : ℕ) → WhileReading number → (next : ℕ → Place → ℕ → Reading) → ((count : ℕ) (control : Place) (size : ℕ) → x ≡ Frames count control size → OfMessage Holds (next count control size))
-      → OfMessage Holds (if_frames x (refused number said) next)
-  by_contents (Frames count control size) number said early next h = h count control size refl
-  by_contents BadBundle number said early next h = early
+  by_stage : {T E : Type 0} (x : Result T E) (why : Reason) (said : ℕ) → (next : T → Result Message Refusal) → ((answer : T) → x ≡ Ok answer → OfMessage Holds (next answer))
+      → OfMessage Holds (if_passed x (refused why said) next)
+  by_stage (Ok answer) why said next h = h answer refl
+  by_stage (Err bad) why said next h = tt
 
-  by_signature : (x : Signed) (number said : ℕ) → WhileReading number → (next : ℕ → ℕ → ℕ → Reading) → ((byte flags type-data : ℕ) → x ≡ Frame byte flags type-data → OfMessage Holds (next byte flags type-data))
-      → OfMessage Holds (if_signed x (refused number said) next)
-  by_signature (Frame byte flags type-data) number said early next h = h byte flags type-data refl
-  by_signature Unsigned number said early next h = early
-
-  by_version : (x : Version) (number said : ℕ) → WhileReading number → (next : ℕ → Reading) → ((said : ℕ) → OfMessage Holds (next said)) → OfMessage Holds (if_version_one x (refused number said) next)
-  by_version (One type) number said early next h = h type
-  by_version Other number said early next h = early
-
-  by_type : (x : KnownType) (number said : ℕ) → WhileReading number → (next : MessageType → Reading) → ((message : MessageType) → OfMessage Holds (next message)) → OfMessage Holds (if_known x (refused number said) next)
-  by_type (Known message) number said early next h = h message
-  by_type Unknown number said early next h = early
-
-  by_test : (fails : Bool) (number said : ℕ) → WhileReading number → (next : Reading) → (fails ≡ false → OfMessage Holds next) → OfMessage Holds (cond fails (refused number said) next)
-  by_test true number said early next h = early
-  by_test false number said early next h = h refl
+  by_test : (fails : Bool) (why : Reason) (said : ℕ) → (next : Result Message Refusal) → (fails ≡ false → OfMessage Holds next) → OfMessage Holds (cond fails (refused why said) next)
+  by_test true why said next h = tt
+  by_test false why said next h = h refl
 
   -- every message that is read has the flags and the type-data of a frame that is signed, as many data frames as its type and flags allow, and
   -- the body that they say
   pub by_stages : (s : List ℕ)
-      → ((count size : ℕ) (control : Place) (byte flags type-data : ℕ) (message : MessageType) → contents_of s ≡ Frames count control size → signed_of (part_at s control) ≡ Frame byte flags type-data
-      → bad_frames message flags (count - 1) ≡ false
-      → Holds (record { message = message; flags = flags; type_data = type-data; frames = count - 1; size = size; body = body_of s message flags }))
+      → ((contents : Contents) (signed : Signed) (message : MessageType) → contents_of s ≡ Ok contents → signed_of (part_at s contents.control) ≡ Ok signed
+      → bad_frames message signed.flags (contents.count - 1) ≡ false
+      → Holds (record { message = message; flags = signed.flags; type_data = signed.type_data; frames = contents.count - 1; size = contents.size; body = body_of s message signed.flags }))
       → OfMessage Holds (reading_of s)
   unfolding reading_of read_as
   by_stages s holds =
-      by_contents (contents_of s) 10 0 (omega arith, omega arith) _ (λ count control size contents.
-      by_signature (signed_of (part_at s control)) 11 0 (omega arith, omega arith) _ (λ byte flags type-data signed.
-      by_version (version_of byte) 12 (type_in byte) (omega arith, omega arith) _ (λ said.
-      by_type (known_type_of said) 13 said (omega arith, omega arith) _ (λ message.
-      by_test (bad_flags message flags) 14 said (omega arith, omega arith) _ (λ flagged.
-      by_test (bad_frames message flags (count - 1)) 15 said (omega arith, omega arith) _ (λ framed.
-      holds count size control byte flags type-data message contents signed framed))))))
+      by_stage (contents_of s) BadBundle 0 _ (λ contents counted.
+      by_stage (signed_of (part_at s contents.control)) (Control BadSignature) 0 _ (λ signed is_signed.
+      by_stage (version_of signed.control_byte) (Control OtherVersion) (type_in signed.control_byte) _ (λ said versioned.
+      by_stage (known_type_of said) (Control UnknownType) said _ (λ message known.
+      by_test (bad_flags message signed.flags) BadFlags said _ (λ flagged.
+      by_test (bad_frames message signed.flags (contents.count - 1)) BadFrames said _ (λ framed.
+      holds contents signed message counted is_signed framed))))))

@@ -1,29 +1,19 @@
 -- A message as it is read: "Checks run in the order of the numbers", here 10 to 15. "A CLOSE that passes 10..13 is heard .. whatever its
 -- flags, frames or size."
-use Rattle.std.specs.Prelude.{ℕ, ◌+◌, ◌-◌, List, Bool, true, false, cond, not, ◌||◌, leb, eqb}
+use Rattle.std.specs.Prelude.{ℕ, ◌+◌, ◌-◌, List, Bool, true, false, cond, not, ◌||◌, leb, eqb, Option, Some, None, Result, Ok, Err}
 use Rattle.bytes_be.specs.declared.Place.{Place}
 use Rattle.bytes_be.specs.Part.{part_at}
-use Rattle.bundle.specs.declared.Contents.TheVariants.{BadBundle as Contents-as-BadBundle}
-use Rattle.bundle.specs.declared.Frame.{Frame}
-use Rattle.bundle.specs.declared.Frame.TheVariants.{At as Frame-as-At, Behind, BadBundle}
-use Rattle.bundle.specs.Reading.{contents_of, frame_of, if_frames, contents_number}
+use Rattle.numbered.specs.Numbered.{if_passed, number_of}
+use Rattle.bundle.specs.declared.BadBundle.{BadBundle as BadBundle-of-bundle}
+use Rattle.bundle.specs.Reading.{contents_of, frame_of, bad_number}
 use Rattle.control.specs.declared.MessageType.{MessageType}
 use Rattle.control.specs.declared.MessageType.TheVariants.{Open, Ready, Noop, Data, Close}
-use Rattle.control.specs.declared.Signed.TheVariants.{Unsigned}
-use Rattle.control.specs.declared.Version.TheVariants.{Other}
-use Rattle.control.specs.declared.KnownType.TheVariants.{Unknown}
-use Rattle.control.specs.Frame.{ack_request, ack_reply, type_of, type_in, signed_of, version_of, known_type_of, signed_number, version_number, known_type_number, if_signed, if_version_one, if_known}
-use Rattle.message.specs.declared.Body.{Body}
-use Rattle.message.specs.declared.Body.TheVariants.{Nothing, At}
+use Rattle.control.specs.declared.Refusal.TheVariants.{BadSignature, OtherVersion, UnknownType}
+use Rattle.control.specs.Frame.{ack_request, ack_reply, type_of, type_in, signed_of, version_of, known_type_of, refusal_number as control_number}
 use Rattle.message.specs.declared.Message.{Message}
-use Rattle.message.specs.declared.Reading.{Reading}
-use Rattle.message.specs.declared.Reading.TheVariants.{Read, Refused}
-use Rattle.message.specs.declared.Test.{Test}
-use Rattle.message.specs.declared.Test.TheVariants.{Passes, Fails}
-
--- whether a message passes a test, where a true test refuses it
-abbrev pub test_of : Bool → Test
-test_of fails = cond fails Fails Passes
+use Rattle.message.specs.declared.Reason.{Reason}
+use Rattle.message.specs.declared.Reason.TheVariants.{BadBundle, Control, BadFlags, BadFrames}
+use Rattle.message.specs.declared.Refusal.{Refusal}
 
 -- "flag bits 2..7, both flags"
 unfoldable pub strange_flags : ℕ → Bool
@@ -55,32 +45,31 @@ carries Data flags = not (eqb flags ack_reply)
 carries Close flags = false
 
 -- where it stands
-abbrev pub body_in : Frame → Body
-body_in (Frame-as-At place) = At place
-body_in Behind = Nothing
-body_in BadBundle = Nothing
+abbrev pub body_in : Result (Option Place) BadBundle-of-bundle → Option Place
+body_in (Ok body) = body
+body_in (Err bad) = None
 
 -- C-12: "a missing body is heard as such, apart from an empty one"
-unfoldable pub body_of : List ℕ → MessageType → ℕ → Body
-body_of s message flags = cond (carries message flags) (body_in (frame_of s 1)) Nothing
+unfoldable pub body_of : List ℕ → MessageType → ℕ → Option Place
+body_of s message flags = cond (carries message flags) (body_in (frame_of s 1)) None
 
 -- the place of a body; the empty place at 0 where there is none
-abbrev pub body_place : Body → Place
-body_place Nothing = record { at = 0; length = 0 }
-body_place (At place) = place
+abbrev pub body_place : Option Place → Place
+body_place None = record { at = 0; length = 0 }
+body_place (Some place) = place
 
 -- a refusal, with the type that the control byte says, or 0 where no control byte was read
-abbrev pub refused : ℕ → ℕ → Reading
-refused number said = Refused (record { number = number; said = said })
+abbrev pub refused : Reason → ℕ → Result Message Refusal
+refused why said = Err (record { why = why; said = said })
 
 -- 14, 15, and else the message
-abbrev pub tested : ℕ → Message → Reading
+abbrev pub tested : ℕ → Message → Result Message Refusal
 tested said whole =
-    cond (bad_flags whole.message whole.flags) (refused 14 said)
-    (cond (bad_frames whole.message whole.flags whole.frames) (refused 15 said)
-    (Read whole))
+    cond (bad_flags whole.message whole.flags) (refused BadFlags said)
+    (cond (bad_frames whole.message whole.flags whole.frames) (refused BadFrames said)
+    (Ok whole))
 
-unfoldable pub read_as : List ℕ → ℕ → MessageType → ℕ → ℕ → ℕ → ℕ → Reading
+unfoldable pub read_as : List ℕ → ℕ → MessageType → ℕ → ℕ → ℕ → ℕ → Result Message Refusal
 read_as s said message flags type-data frames size =
     tested said
     (record {
@@ -93,20 +82,29 @@ read_as s said message flags type-data frames size =
     })
 
 -- 10, 11, 12, 13, and then by the type
-unfoldable pub reading_of : List ℕ → Reading
+unfoldable pub reading_of : List ℕ → Result Message Refusal
 reading_of s =
-    if_frames (contents_of s) (refused (contents_number Contents-as-BadBundle) 0) (λ count control size.
-    if_signed (signed_of (part_at s control)) (refused (signed_number Unsigned) 0) (λ byte flags type-data.
-    if_version_one (version_of byte) (refused (version_number Other) (type_in byte)) (λ said.
-    if_known (known_type_of said) (refused (known_type_number Unknown) said) (λ message.
-    read_as s said message flags type-data (count - 1) size))))
+    if_passed (contents_of s) (refused BadBundle 0) (λ contents.
+    if_passed (signed_of (part_at s contents.control)) (refused (Control BadSignature) 0) (λ signed.
+    if_passed (version_of signed.control_byte) (refused (Control OtherVersion) (type_in signed.control_byte)) (λ said.
+    if_passed (known_type_of said) (refused (Control UnknownType) said) (λ message.
+    read_as s said message signed.flags signed.type_data (contents.count - 1) contents.size))))
+
+-- the numbers 10 to 15
+abbrev pub reason_number : Reason → ℕ
+reason_number BadBundle = bad_number (record {})
+reason_number (Control why) = control_number why
+reason_number BadFlags = 14
+reason_number BadFrames = 15
+
+abbrev pub refusal_number : Refusal → ℕ
+refusal_number refusal = reason_number refusal.why
 
 -- the number of a reading: 0, or 10 to 15
-abbrev pub reading_number : Reading → ℕ
-reading_number (Read m) = 0
-reading_number (Refused refusal) = refusal.number
+abbrev pub reading_number : Result Message Refusal → ℕ
+reading_number = number_of refusal_number
 
 -- the type that the control byte says, or 0 where none was read
-abbrev pub said_in : Reading → ℕ
-said_in (Read m) = type_of m.message
-said_in (Refused refusal) = refusal.said
+abbrev pub said_in : Result Message Refusal → ℕ
+said_in (Ok m) = type_of m.message
+said_in (Err refusal) = refusal.said

@@ -2,19 +2,13 @@
 #![tactic(auto)]
 
 ghost use Rattle.std.specs.Prelude.{◌≡◌};
-ghost use Rattle.message.specs.Reading.{test_of, strange_flags, bad_flags, bad_frames, carries as Reading·carries, body_place, refused as Reading·refused, tested as Reading·tested, reading_of, reading_number, said_in};
+ghost use Rattle.message.specs.Reading.{strange_flags, bad_flags, bad_frames, carries as Reading·carries, body_place, refused as Reading·refused, tested as Reading·tested, reading_of, reason_number, refusal_number, said_in};
 ghost use Rattle.message.specs.Held.{body_behind};
 
-use bundle::Contents;
+use bundle::BadBundle;
 use bytes_be::Place;
-use control::{KnownType, MessageType, Signed, Version};
-
-#[derive(Clone, Copy)]
-pub enum Body {
-    Nothing,
-    // Where the data frame stands in the message.
-    At(Place),
-}
+use control::MessageType;
+use numbered::Numbered;
 
 #[derive(Clone, Copy)]
 pub struct Message {
@@ -25,197 +19,186 @@ pub struct Message {
     pub frames: usize,
     // The sum of all frame lengths.
     pub size: u64,
-    pub body: Body,
+    // Where the data frame stands in the message, if there is one that is looked at.
+    pub body: Option<Place>,
 }
 
-// A refusal: its number, and the type that the control byte says, or 0 where no control byte was read.
-#[derive(Clone, Copy)]
+// Why a message is refused while it is read.
+#[derive(Clone, Copy, Debug, PartialEq, Eq)]
+pub enum Reason {
+    BadBundle,
+    Control(control::Refusal),
+    BadFlags,
+    BadFrames,
+}
+
+impl Numbered for Reason {
+    ghost number = { reason_number };
+
+    fn number(&self) -> u8 {
+        match self {
+            Reason::BadBundle => BadBundle.number(),
+            Reason::Control(why) => why.number(),
+            Reason::BadFlags => 14,
+            Reason::BadFrames => 15,
+        }
+    }
+}
+
+// A refusal: why, and the type that the control byte says, or 0 where no control byte was read.
+#[derive(Clone, Copy, Debug, PartialEq, Eq)]
 pub struct Refusal {
-    pub number: u8,
+    pub why: Reason,
     pub said: u8,
 }
 
-#[derive(Clone, Copy)]
-pub enum Reading {
-    Read(Message),
-    Refused(Refusal),
-}
+impl Numbered for Refusal {
+    ghost number = { refusal_number };
 
-// Whether a message passes a test.
-#[derive(Clone, Copy)]
-pub enum Test {
-    Passes,
-    Fails,
-}
-
-pub fn test_of(fails: bool) -> Test
-    ensures { result ≡ test_of fails }
-{
-    if fails {
-        return Test::Fails;
+    fn number(&self) -> u8 {
+        self.why.number()
     }
-    Test::Passes
 }
 
 // A flag other than the two that there are, or both of them.
+#[tactic(auto, unfolding(crate::specs::Reading::strange_flags))]
 fn strange_flags(flags: u8) -> bool
     ensures { result ≡ strange_flags flags }
 {
     (4 <= flags) | (flags == 3)
 }
 
-fn bad_flags(message: MessageType, flags: u8) -> bool
-    ensures { result ≡ bad_flags message flags }
-{
-    let strange = strange_flags(flags);
-    match message {
-        MessageType::Open => strange | (flags == 2),
-        MessageType::Ready => strange | (flags == 2),
-        MessageType::Noop => strange,
-        MessageType::Data => strange,
-        MessageType::Close => false,
-    }
+// The type of a message and its flags, which say together what it may carry.
+#[derive(Clone, Copy)]
+struct Kind {
+    message: MessageType,
+    flags: u8,
 }
 
-// Whether a data frame of a message of this type and these flags is looked at.
-fn carries(message: MessageType, flags: u8) -> bool
-    ensures { result ≡ Reading·carries message flags }
-{
-    match message {
-        MessageType::Open => true,
-        MessageType::Ready => false,
-        MessageType::Noop => false,
-        MessageType::Data => flags != 2,
-        MessageType::Close => false,
-    }
-}
-
-fn bad_frames(message: MessageType, flags: u8, frames: usize) -> bool
-    ensures { result ≡ bad_frames message flags frames }
-{
-    match message {
-        MessageType::Open => frames != 1,
-        MessageType::Ready => frames != 0,
-        MessageType::Noop => frames != 0,
-        MessageType::Data => {
-            if flags == 2 {
-                return frames != 0;
-            }
-            2 <= frames
+impl Kind {
+    fn bad_flags(self) -> bool
+        ensures { result ≡ bad_flags self.message self.flags }
+    {
+        let strange = strange_flags(self.flags);
+        match self.message {
+            MessageType::Open | MessageType::Ready => strange | (self.flags == 2),
+            MessageType::Noop | MessageType::Data => strange,
+            MessageType::Close => false,
         }
-        MessageType::Close => false,
     }
-}
 
-// The body of a message with so many data frames, the first of which, if there is one, stands at this place.
-fn body_of(message: MessageType, flags: u8, frames: usize, at: usize, size: usize) -> Body
-    ensures { result ≡ body_behind message flags frames (record { at = at; length = size }) }
-{
-    let some = carries(message, flags) & (frames != 0);
-    if some {
-        return Body::At(Place {
-            at: at,
-            length: size,
-        });
+    // Whether a data frame is looked at.
+    fn carries(self) -> bool
+        ensures { result ≡ Reading·carries self.message self.flags }
+    {
+        match self.message {
+            MessageType::Open => true,
+            MessageType::Data => self.flags != 2,
+            MessageType::Ready | MessageType::Noop | MessageType::Close => false,
+        }
     }
-    Body::Nothing
+
+    fn bad_frames(self, frames: usize) -> bool
+        ensures { result ≡ bad_frames self.message self.flags frames }
+    {
+        match self.message {
+            MessageType::Open => frames != 1,
+            MessageType::Ready | MessageType::Noop => frames != 0,
+            MessageType::Data if self.flags == 2 => frames != 0,
+            MessageType::Data => 2 <= frames,
+            MessageType::Close => false,
+        }
+    }
+
+    // The body of a message with so many data frames, the first of which, if there is one, stands at this place.
+    fn body(self, frames: usize, place: Place) -> Option<Place>
+        ensures { result ≡ body_behind self.message self.flags frames place }
+    {
+        let some = self.carries() & (frames != 0);
+        some.then_some(place)
+    }
 }
 
 // Where a body stands; the empty place at 0 where there is none.
-pub fn body_place(body: Body) -> Place
+pub fn body_place(body: Option<Place>) -> Place
     ensures { result ≡ body_place body }
 {
-    match body {
-        Body::Nothing => Place { at: 0, length: 0 },
-        Body::At(place) => place,
-    }
+    body.unwrap_or(Place { at: 0, length: 0 })
 }
 
-fn refused(number: u8, said: u8) -> Reading
-    ensures { result ≡ Reading·refused number said }
+fn refused(why: Reason, said: u8) -> Result<Message, Refusal>
+    ensures { result ≡ Reading·refused why said }
 {
-    Reading::Refused(Refusal {
-        number: number,
+    Err(Refusal {
+        why: why,
         said: said,
     })
 }
 
 // A message whose type is known, or the first of 14 and 15 that refuses it.
-fn tested(said: u8, whole: Message) -> Reading
+fn tested(said: u8, whole: Message) -> Result<Message, Refusal>
     ensures { result ≡ Reading·tested said whole }
 {
-    let message = whole.message;
-    let flags = whole.flags;
-    let Test::Passes = test_of(bad_flags(message, flags)) else {
-        return refused(14, said);
+    let kind = Kind {
+        message: whole.message,
+        flags: whole.flags,
     };
-    let Test::Passes = test_of(bad_frames(message, flags, whole.frames)) else {
-        return refused(15, said);
-    };
-    Reading::Read(whole)
+    if kind.bad_flags() {
+        return refused(Reason::BadFlags, said);
+    }
+    if kind.bad_frames(whole.frames) {
+        return refused(Reason::BadFrames, said);
+    }
+    Ok(whole)
 }
 
 // Reads a message without looking at a byte of its data frames.
-pub fn read(s: &[u8]) -> Reading
+#[tactic(auto, using(bundle::proofs::Sums::contents_some, bundle::proofs::Sums::control_inside, bundle::proofs::Sums::control_within), unfolding(crate::specs::Reading::reading_of))]
+pub fn read(s: &[u8]) -> Result<Message, Refusal>
     ensures { result ≡ reading_of s.now }
 {
-    let Contents::Frames {
-        count,
-        control,
-        size,
-    } = bundle::contents_of(s)
-    else {
-        return refused(10, 0);
+    let Ok(contents) = bundle::contents_of(s) else {
+        return refused(Reason::BadBundle, 0);
     };
-    let at = control.at;
-    let end = at + control.length;
-    let Signed::Frame {
-        control_byte,
-        flags,
-        type_data,
-    } = control::signed_of(&s[at..end])
-    else {
-        return refused(11, 0);
+    let at = contents.control.at;
+    let end = at + contents.control.length;
+    let Ok(signed) = control::signed_of(&s[at..end]) else {
+        return refused(Reason::Control(control::Refusal::BadSignature), 0);
     };
-    let Version::One(said) = control::version_of(control_byte) else {
-        return refused(12, control_byte / 8);
+    let byte = signed.control_byte;
+    let Ok(said) = control::version_of(byte) else {
+        return refused(Reason::Control(control::Refusal::OtherVersion), byte / 8);
     };
-    let KnownType::Known(message) = control::known_type_of(said) else {
-        return refused(13, said);
+    let Ok(message) = MessageType::try_from(said) else {
+        return refused(Reason::Control(control::Refusal::UnknownType), said);
+    };
+    let kind = Kind {
+        message: message,
+        flags: signed.flags,
     };
     // Where there is one data frame, it is all that stands behind the control frame.
-    let rest = size as usize - control.length;
-    let frames = count - 1;
+    let rest = Place {
+        at: end,
+        length: contents.size as usize - contents.control.length,
+    };
+    let frames = contents.count - 1;
     let whole = Message {
         message: message,
-        flags: flags,
-        type_data: type_data,
+        flags: signed.flags,
+        type_data: signed.type_data,
         frames: frames,
-        size: size,
-        body: body_of(message, flags, frames, end, rest),
+        size: contents.size,
+        body: kind.body(frames, rest),
     };
     tested(said, whole)
 }
 
-// The number of 01 for a reading: 0, or 10 to 15.
-pub fn reading_number(reading: Reading) -> u8
-    ensures { result ≡ reading_number reading }
-{
-    match reading {
-        Reading::Read(_) => 0,
-        Reading::Refused(refusal) => refusal.number,
-    }
-}
-
 // The type that the control byte says, be the message read or refused; 0 where no control byte was read.
-pub fn said_in(reading: Reading) -> u8
+pub fn said_in(reading: Result<Message, Refusal>) -> u8
     ensures { result ≡ said_in reading }
 {
     match reading {
-        Reading::Read(m) => {
-            let message = m.message;
-            control::type_of(message)
-        }
-        Reading::Refused(refusal) => refusal.said,
+        Ok(m) => u8::from(m.message),
+        Err(refusal) => refusal.said,
     }
 }

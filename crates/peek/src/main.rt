@@ -9,6 +9,7 @@ use std::io::{Read, Write};
 
 fn main(rt: HostRuntime) -> io::Result<()> {
     // One byte more than the longest bundle, so that a longer input is known as such.
+    // Its memory is fixed, so that no run can be out of it.
     let mut input = [0u8; 65537];
     let count = read_full(&mut rt.stdin(), &mut input)?;
     let mut text = [0u8; 96];
@@ -16,7 +17,8 @@ fn main(rt: HostRuntime) -> io::Result<()> {
     rt.stdout().write_all(&text[..length])
 }
 
-// Fills a buffer from its start until it is full or the input ends, and answers how many bytes came.
+// Fills a buffer from its start until it is full or the input ends, and answers how many bytes came. Std's `read_exact` refuses a shorter input,
+// and its `read_to_end` needs a heap.
 fn read_full<R: Read>(from: &mut R, into: &mut [u8]) -> io::Result<usize>
     ensures held { IfOk result (λ count. count ≤ length into.new) }
     ensures bytes { IfOk result (λ count. Consumes (R.remaining from.old) (R.remaining from.new) (take count into.new)) }

@@ -6,10 +6,11 @@ use mathlib.Core.List.{List}
 use Prim.Native.Nat.{ℕ}
 use Rattle.bytes_be.proofs.Determined.{coincide}
 use Rattle.bundle.proofs.Determined.{written_determined}
-use Rattle.control.specs.declared.KnownType.{KnownType}
-use Rattle.control.specs.declared.KnownType.TheVariants.{Known, Unknown}
 use Rattle.open.specs.declared.Opening.{Opening}
 use Rattle.open.specs.declared.Refusal.{Refusal}
+use Rattle.std.specs.Prelude.{Result, Ok, Err}
+use Rattle.control.specs.declared.MessageType.{MessageType}
+use Rattle.control.specs.declared.Refusal.{Refusal as Refusal-of-control}
 use Rattle.open.specs.Offer.{Offer}
 use Rattle.probe.specs.Entries.{ContentsAnswer, HandOutAnswer, ControlAnswer, Wrote, FieldAnswer, Stored}
 use Rattle.probe.specs.Entries.{CheckAnswer, LimitAnswer, OpenAnswer, OpenFrameAnswer}
@@ -26,11 +27,11 @@ pub control_determined : {frame : List ℕ} {number number' : ℕ} {slots slots'
     ControlAnswer frame number' slots' → (number ≡ number') × (slots ≡ slots')
 control_determined one other = (coincide one.numbered other.numbered, coincide one.told other.told)
 
-pub wrote_determined : (known : KnownType) (flags type-data : ℕ) (data-frames : List (List ℕ)) (before : List ℕ) {count count' : ℕ}
+pub wrote_determined : (known : Result MessageType Refusal-of-control) (flags type-data : ℕ) (data-frames : List (List ℕ)) (before : List ℕ) {count count' : ℕ}
     {after after' : List ℕ} → Wrote known flags type-data data-frames before count after →
     Wrote known flags type-data data-frames before count' after' → (count ≡ count') × (after ≡ after')
-wrote_determined (Known message) flags type-data data-frames before one other = written_determined one other
-wrote_determined Unknown flags type-data data-frames before one other = (coincide one.0 other.0, coincide one.1 other.1)
+wrote_determined (Ok message) flags type-data data-frames before one other = written_determined one other
+wrote_determined (Err why) flags type-data data-frames before one other = (coincide one.0 other.0, coincide one.1 other.1)
 
 pub field_determined : {bytes : List ℕ} {at end number number' : ℕ} {slots slots' : List ℕ} → FieldAnswer bytes at end number slots →
     FieldAnswer bytes at end number' slots' → (number ≡ number') × (slots ≡ slots')

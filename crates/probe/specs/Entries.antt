@@ -1,18 +1,16 @@
 -- What the functions that are exported for the comparison answer and leave, where no definition below says it already.
-use Rattle.std.specs.Prelude.{ℕ, ◌-◌, ◌≡◌, List, [], ◌∷◌, Bool, true, false, cond, length, eqb, Some, None, Result, Ok, Err}
+use Rattle.std.specs.Prelude.{ℕ, ◌-◌, ◌≡◌, List, [], ◌∷◌, Bool, true, false, cond, length, eqb, Some, None, Result, Ok, Err, Option}
 use Rattle.bytes_be.specs.Part.{put_at}
 use Rattle.bundle.specs.Reading.{contents_of, contents_number, frame_number}
 use Rattle.bundle.specs.Writing.{Written}
 use Rattle.bundle.specs.declared.Contents.{Contents}
-use Rattle.bundle.specs.declared.Contents.TheVariants.{Frames, BadBundle}
-use Rattle.bundle.specs.declared.Frame.{Frame}
-use Rattle.bundle.specs.declared.Frame.TheVariants.{At, Behind, BadBundle as Frame-as-BadBundle}
+use Rattle.bytes_be.specs.declared.Place.{Place}
+use Rattle.bundle.specs.declared.BadBundle.{BadBundle}
 use Rattle.frames.specs.Frames.{handed_at}
 use Rattle.control.specs.Frame.{type_of, control_of, number_of, bytes_of}
-use Rattle.control.specs.declared.KnownType.{KnownType}
-use Rattle.control.specs.declared.KnownType.TheVariants.{Known, Unknown}
+use Rattle.control.specs.declared.MessageType.{MessageType}
+use Rattle.control.specs.declared.Refusal.{Refusal as Refusal-of-control}
 use Rattle.control.specs.declared.Control.{Control}
-use Rattle.control.specs.declared.Control.TheVariants.{Read, BadSignature, OtherVersion, UnknownType}
 use Rattle.wire.specs.declared.Kind.{Kind}
 use Rattle.wire.specs.declared.Kind.TheVariants.{CutShort, BadVarint, WireType, Repeated, BadText, Other, TooDeep}
 use Rattle.wire.specs.Varint.{shortest_of, varint_length}
@@ -29,30 +27,28 @@ use Rattle.open_write.specs.declared.BadOffer.{BadOffer}
 use Rattle.open_write.specs.Frame.{given_of, given_number, written}
 
 -- frame count, the control frame's place and length, the message's size
-abbrev pub contents_slots : Contents → List ℕ
-contents_slots (Frames count control size) = count ∷ control.at ∷ control.length ∷ size ∷ []
-contents_slots BadBundle = 0 ∷ 0 ∷ 0 ∷ 0 ∷ []
+abbrev pub contents_slots : Result Contents BadBundle → List ℕ
+contents_slots (Ok contents) = contents.count ∷ contents.control.at ∷ contents.control.length ∷ contents.size ∷ []
+contents_slots (Err bad) = 0 ∷ 0 ∷ 0 ∷ 0 ∷ []
 
 pub record ContentsAnswer (bundle : List ℕ) (number : ℕ) (slots : List ℕ) : Type 0 where
   pub numbered : number ≡ contents_number (contents_of bundle)
   pub told : slots ≡ contents_slots (contents_of bundle)
 
 -- found (0 or 1), at, length, and the position afterwards
-abbrev pub handed_slots : Frame → ℕ → List ℕ
-handed_slots (At place) position = 1 ∷ place.at ∷ place.length ∷ position ∷ []
-handed_slots Behind position = 0 ∷ 0 ∷ 0 ∷ position ∷ []
-handed_slots Frame-as-BadBundle position = 0 ∷ 0 ∷ 0 ∷ position ∷ []
+abbrev pub handed_slots : Result (Option Place) BadBundle → ℕ → List ℕ
+handed_slots (Ok (Some place)) position = 1 ∷ place.at ∷ place.length ∷ position ∷ []
+handed_slots (Ok None) position = 0 ∷ 0 ∷ 0 ∷ position ∷ []
+handed_slots (Err bad) position = 0 ∷ 0 ∷ 0 ∷ position ∷ []
 
 pub record HandOutAnswer (bundle : List ℕ) (position number : ℕ) (slots : List ℕ) : Type 0 where
   pub numbered : number ≡ frame_number (handed_at bundle position).frame
   pub told : slots ≡ handed_slots (handed_at bundle position).frame (handed_at bundle position).position
 
 -- type, flags and type-data
-abbrev pub control_slots : Control → List ℕ
-control_slots (Read message flags type-data) = type_of message ∷ flags ∷ type-data ∷ []
-control_slots BadSignature = 0 ∷ 0 ∷ 0 ∷ []
-control_slots OtherVersion = 0 ∷ 0 ∷ 0 ∷ []
-control_slots UnknownType = 0 ∷ 0 ∷ 0 ∷ []
+abbrev pub control_slots : Result Control Refusal-of-control → List ℕ
+control_slots (Ok control) = type_of control.message ∷ control.flags ∷ control.type_data ∷ []
+control_slots (Err why) = 0 ∷ 0 ∷ 0 ∷ []
 
 pub record ControlAnswer (frame : List ℕ) (number : ℕ) (slots : List ℕ) : Type 0 where
   pub numbered : number ≡ number_of (control_of frame)
@@ -64,10 +60,10 @@ bodies true body = body ∷ []
 bodies false body = []
 
 -- a message of a known type is written, and nothing of another
-abbrev pub Wrote : KnownType → ℕ → ℕ → List (List ℕ) → List ℕ → ℕ → List ℕ → Type 0
-Wrote (Known message) flags type-data data-frames before count after =
+abbrev pub Wrote : Result MessageType Refusal-of-control → ℕ → ℕ → List (List ℕ) → List ℕ → ℕ → List ℕ → Type 0
+Wrote (Ok message) flags type-data data-frames before count after =
     Written (bytes_of message flags type-data ∷ data-frames) before count after
-Wrote Unknown flags type-data data-frames before count after = (count ≡ 0) × (after ≡ before)
+Wrote (Err why) flags type-data data-frames before count after = (count ≡ 0) × (after ≡ before)
 
 -- the kinds of faults in their order
 abbrev pub kind_number : Kind → ℕ

@@ -13,12 +13,13 @@ ghost use Rattle.open.specs.Open.{heard_by};
 ghost use Rattle.utf8.specs.Text.{well_formed};
 ghost use Rattle.probe.specs.Entries.{contents_slots, ContentsAnswer, handed_slots, HandOutAnswer, control_slots, ControlAnswer, bodies, Wrote, kind_number, reading_number, reading_slots, FieldAnswer, Stored, check_of, check_slots, CheckAnswer, announced_slots, if_readable, LimitAnswer, flow_of, opening_slots, refusal_slots, open_slots, OpenAnswer, given_length, OpenFrameAnswer};
 
-use bundle::{Contents, Frame};
-use control::{Control, KnownType};
+use bundle::{BadBundle, Contents};
+use control::{Control, MessageType};
 use open::{Offer, Opening, Refusal};
 use open_write::BadOffer;
 use terms::BadLimit;
 use wire::{Fault, Field, Kind};
+use bytes_be::Place;
 
 #[unsafe(no_mangle)]
 pub extern "C" fn probe_read8(bytes: &[u8], at: usize) -> u8
@@ -76,20 +77,16 @@ pub extern "C" fn probe_copy(out: &mut [u8], at: usize, bytes: &[u8])
     bytes_be::copy_at(out, at, bytes)
 }
 
-fn contents_slots(contents: Contents) -> [u64; 4]
+fn contents_slots(contents: Result<Contents, BadBundle>) -> [u64; 4]
     ensures { result ≡ contents_slots contents }
 {
     match contents {
-        Contents::Frames {
-            count,
-            control,
-            size,
-        } => {
-            let at = control.at as u64;
-            let length = control.length as u64;
-            [count as u64, at, length, size]
+        Ok(contents) => {
+            let at = contents.control.at as u64;
+            let length = contents.control.length as u64;
+            [contents.count as u64, at, length, contents.size]
         }
-        Contents::BadBundle => [0, 0, 0, 0],
+        Err(_) => [0, 0, 0, 0],
     }
 }
 
@@ -99,21 +96,21 @@ pub extern "C" fn probe_contents(bundle: &[u8], slots: &mut [u64; 4]) -> u32
 {
     let contents = bundle::contents_of(bundle);
     *slots = contents_slots(contents);
-    bundle::contents_number(contents) as u32
+    numbered::number_of(&contents) as u32
 }
 
-fn handed_slots(frame: Frame, position: usize) -> [u64; 4]
+fn handed_slots(frame: Result<Option<Place>, BadBundle>, position: usize) -> [u64; 4]
     ensures { result ≡ handed_slots frame position }
 {
     let next = position as u64;
     match frame {
-        Frame::At(place) => {
+        Ok(Some(place)) => {
             let at = place.at as u64;
             let length = place.length as u64;
             [1, at, length, next]
         }
-        Frame::Behind => [0, 0, 0, next],
-        Frame::BadBundle => [0, 0, 0, next],
+        Ok(None) => [0, 0, 0, next],
+        Err(_) => [0, 0, 0, next],
     }
 }
 
@@ -124,25 +121,19 @@ pub extern "C" fn probe_hand_out(bundle: &[u8], position: usize, slots: &mut [u6
     let handed = frames::hand_out(bundle, position);
     let frame = handed.frame;
     *slots = handed_slots(frame, handed.position);
-    bundle::frame_number(frame) as u32
+    numbered::number_of(&frame) as u32
 }
 
-fn control_slots(control: Control) -> [u64; 3]
+fn control_slots(control: Result<Control, control::Refusal>) -> [u64; 3]
     ensures { result ≡ control_slots control }
 {
     match control {
-        Control::Read {
-            message,
-            flags,
-            type_data,
-        } => [
-            control::type_of(message) as u64,
-            flags as u64,
-            type_data as u64,
+        Ok(control) => [
+            u8::from(control.message) as u64,
+            control.flags as u64,
+            control.type_data as u64,
         ],
-        Control::BadSignature => [0, 0, 0],
-        Control::OtherVersion => [0, 0, 0],
-        Control::UnknownType => [0, 0, 0],
+        Err(_) => [0, 0, 0],
     }
 }
 
@@ -152,7 +143,7 @@ pub extern "C" fn probe_control(frame: &[u8], slots: &mut [u64; 3]) -> u32
 {
     let control = control::read(frame);
     *slots = control_slots(control);
-    control::number_of(control) as u32
+    numbered::number_of(&control) as u32
 }
 
 #[unsafe(no_mangle)]
@@ -166,7 +157,7 @@ pub extern "C" fn probe_write(
 ) -> u64
     ensures { Wrote (known_type_of number) flags type_data (bodies with_body body.now) out.old result out.new }
 {
-    let KnownType::Known(message) = control::known_type_of(number) else {
+    let Ok(message) = MessageType::try_from(number) else {
         return 0;
     };
     let frame = control::bytes_of(message, flags, type_data);

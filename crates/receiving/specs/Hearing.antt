@@ -1,6 +1,6 @@
 -- "Receiving": "Checks run in the order of the numbers .. and the first that applies is given." What an endpoint with an offer makes of a
 -- message.
-use Rattle.std.specs.Prelude.{ℕ, ◌+◌, List, Bool, true, false, cond, not, ◌&&◌, ◌||◌, ltb, eqb, Result, Ok, Err}
+use Rattle.std.specs.Prelude.{ℕ, ◌+◌, List, Bool, true, false, cond, not, ◌&&◌, ◌||◌, ltb, eqb, Result, Ok, Err, Option, Some, None}
 use Rattle.bytes_be.specs.declared.Place.{Place}
 use Rattle.control.specs.declared.MessageType.{MessageType}
 use Rattle.control.specs.declared.MessageType.TheVariants.{Open, Ready, Noop, Data, Close}
@@ -8,11 +8,8 @@ use Rattle.control.specs.Frame.{ack_request, ack_reply, type_of}
 use Rattle.terms.specs.Announced.{announced_limit}
 use Rattle.open.specs.Offer.{Offer}
 use Rattle.open.specs.Open.{heard_by, open_number}
-use Rattle.message.specs.declared.Body.{Body}
-use Rattle.message.specs.declared.Body.TheVariants.{Nothing as Body-as-Nothing, At}
 use Rattle.message.specs.declared.Message.{Message}
-use Rattle.message.specs.declared.Reading.{Reading}
-use Rattle.message.specs.declared.Reading.TheVariants.{Read, Refused as Reading-as-Refused}
+use Rattle.message.specs.declared.Refusal.{Refusal as Refusal-of-message}
 use Rattle.message.specs.Reading.{body_place, reading_of, reading_number, said_in}
 use Rattle.endpoint.specs.declared.Endpoint.{Endpoint}
 use Rattle.endpoint.specs.Record.{shut, oldest, confirmed, limited}
@@ -77,9 +74,9 @@ open_carried (Ok opening) = Carried-as-Content (Opening opening)
 open_carried (Err refusal) = Refused (open_number (Err refusal))
 
 -- "Heard too is the place of its body."
-abbrev pub body_carried : Body → Carried
-body_carried Body-as-Nothing = Carried-as-Content Nothing
-body_carried (At place) = Carried-as-Content (Content-as-Body place)
+abbrev pub body_carried : Option Place → Carried
+body_carried None = Carried-as-Content Nothing
+body_carried (Some place) = Carried-as-Content (Content-as-Body place)
 
 -- what the OPEN frame at a place says to this endpoint
 unfoldable pub open_at : Endpoint → List ℕ → Offer → Place → Carried
@@ -148,9 +145,9 @@ abbrev pub if_carried : Carried → (ℕ → Received) → (Content → Received
 if_carried (Carried-as-Content content) refuse next = next content
 if_carried (Refused number) refuse next = refuse (carried_number (Refused number))
 
-abbrev pub if_read : Reading → (ℕ → ℕ → Received) → (Message → Received) → Received
-if_read (Read m) refuse next = next m
-if_read (Reading-as-Refused refusal) refuse next = refuse (reading_number (Reading-as-Refused refusal)) (said_in (Reading-as-Refused refusal))
+abbrev pub if_read : Result Message Refusal-of-message → (ℕ → ℕ → Received) → (Message → Received) → Received
+if_read (Ok m) refuse next = next m
+if_read (Err refusal) refuse next = refuse (reading_number (Err refusal)) (said_in (Err refusal))
 
 -- 18 to 22; 23, which is the number of the row; 24; and else the message is heard
 unfoldable pub hear_content : Endpoint → List ℕ → Offer → Message → Received

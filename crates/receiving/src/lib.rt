@@ -11,7 +11,7 @@ ghost use Rattle.receiving.specs.Receiving.{replied, ReceiveAnswer};
 use bytes_be::Place;
 use control::MessageType;
 use endpoint::Endpoint;
-use message::{Body, Message, Reading, Test};
+use message::Message;
 use open::{Open, Opening};
 use table::Row;
 
@@ -221,12 +221,12 @@ fn open_carried(said: Open) -> Carried
     }
 }
 
-fn body_carried(body: Body) -> Carried
+fn body_carried(body: Option<Place>) -> Carried
     ensures { result ≡ body_carried body }
 {
     match body {
-        Body::Nothing => Carried::Content(Content::Nothing),
-        Body::At(place) => Carried::Content(Content::Body(place)),
+        None => Carried::Content(Content::Nothing),
+        Some(place) => Carried::Content(Content::Body(place)),
     }
 }
 
@@ -269,7 +269,7 @@ fn matches_oldest(e: Endpoint, message: MessageType, type_data: u16) -> bool
     ensures { result ≡ matches_oldest e message type_data }
 {
     let oldest = endpoint::oldest(e);
-    (0 < e.w) & (oldest.message == control::type_of(message)) & (oldest.type_data == type_data)
+    (0 < e.w) & (oldest.message == u8::from(message)) & (oldest.type_data == type_data)
 }
 
 fn is_unmatched(e: Endpoint, m: Message) -> bool
@@ -339,45 +339,48 @@ fn accept(e: Endpoint, m: Message, row: Row, content: Content) -> Received
 }
 
 // 18 to 22 by what the message carries, 23, 24, and else it is heard; `row` is what the table says of it.
+#[tactic(auto, unfolding(crate::specs::Hearing::hear_content))]
 fn hear_content(e: Endpoint, s: &[u8], name: &[u8], format: &[u8], m: Message, row: Row) -> Received
     requires inside { (body_place m.body).at + (body_place m.body).length ≤ length s.now }
     requires rowed { row ≡ hear_row e m }
     ensures { result ≡ hear_content e s.now (offer_of name.now format.now) m }
 {
     let message = m.message;
-    let said = control::type_of(message);
+    let said = u8::from(message);
     let carried = carried_by(e, s, name, format, m);
     let Carried::Content(content) = carried else {
         return refuse(e, carried_number(carried), said);
     };
-    let Test::Passes = message::test_of(table::above_offer(row)) else {
+    if table::above_offer(row) {
         return refuse(e, 23, said);
-    };
-    let Test::Passes = message::test_of(is_unmatched(e, m)) else {
+    }
+    if is_unmatched(e, m) {
         return refuse(e, 24, said);
-    };
+    }
     accept(e, m, row, content)
 }
 
 // 16, 17, and then by what it carries.
+#[tactic(auto, unfolding(crate::specs::Hearing::hear_message, crate::specs::Hearing::forbidden))]
 fn hear_message(e: Endpoint, s: &[u8], name: &[u8], format: &[u8], m: Message) -> Received
     requires { (body_place m.body).at + (body_place m.body).length ≤ length s.now }
     ensures { result ≡ hear_message e s.now (offer_of name.now format.now) m }
 {
     let message = m.message;
-    let said = control::type_of(message);
+    let said = u8::from(message);
     let row = hear_row(e, m);
-    let Test::Passes = message::test_of(too_large(e, m)) else {
+    if too_large(e, m) {
         return refuse(e, 16, said);
-    };
-    let Test::Passes = message::test_of(table::not_allowed(row)) else {
+    }
+    if table::not_allowed(row) {
         return refuse(e, 17, said);
-    };
+    }
     hear_content(e, s, name, format, m, row)
 }
 
 // What any endpoint that offers this name and this format makes of a message: 3, 10 to 24, or it is heard, with no byte of a body read and
 // nothing written.
+#[tactic(auto, using(message::proofs::Inside::read_within), unfolding(crate::specs::Hearing::hear_of))]
 pub fn hear(e: Endpoint, s: &[u8], name: &[u8], format: &[u8]) -> Received
     ensures { result ≡ hear_of e s.now (offer_of name.now format.now) }
 {
@@ -385,8 +388,8 @@ pub fn hear(e: Endpoint, s: &[u8], name: &[u8], format: &[u8]) -> Received
         return stay(e, 3);
     }
     let reading = message::read(s);
-    let Reading::Read(m) = reading else {
-        let number = message::reading_number(reading);
+    let Ok(m) = reading else {
+        let number = numbered::number_of(&reading);
         let said = message::said_in(reading);
         return refuse(e, number, said);
     };

@@ -94,7 +94,7 @@ fn asked_by(e: Endpoint, o: Outgoing) -> Endpoint
 {
     let message = o.message;
     let entry = Entry {
-        message: control::type_of(message),
+        message: u8::from(message),
         type_data: o.type_data,
     };
     if o.ask {

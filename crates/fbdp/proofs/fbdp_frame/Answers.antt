@@ -5,4 +5,4 @@ use Rattle.fbdp.proofs.fbdp_frame.Goals as goal
 pub returns : goal.returns
 returns c =
     let frame = c.frame_at-frame.ensures in
-    record { numbered = rw frame at c.frame_number.ensures; told = rw frame at c.frame_slots.ensures }
+    record { numbered = rw frame at c.number_of.ensures; told = rw frame at c.frame_slots.ensures }

@@ -15,4 +15,4 @@ returns c =
     let carried = c.content_slots-said.result in
     let nine : length carried ≡ 9 = search rules in
     ap₂ (λ (type : ℕ) (slots : List ℕ). (type ∷ heard.flags ∷ heard.type_data ∷ c.args.reply ∷ heard.frames ∷ []) ++ slots ++ (0 ∷ 0 ∷ []))
-    c.type_of.ensures (sym (last_elements 0 carried 0 9 (sym nine)) ∙ c.content_slots-said.ensures)
+    c.from.ensures (sym (last_elements 0 carried 0 9 (sym nine)) ∙ c.content_slots-said.ensures)

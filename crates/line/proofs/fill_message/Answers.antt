@@ -6,4 +6,6 @@ use Rattle.line.proofs.fill_message.Goals as goal
 
 pub returns : goal.returns
 unfolding line_of
-returns c = put_more (put_more (put_more (put_more c.put_name-named.ensures.0 c.put_field-flagged.ensures.0) c.put_field-said.ensures.0) c.put_field-counted.ensures.0) c.put.ensures
+returns c =
+    let named = rw c.name_of.ensures at c.put-named.ensures in
+    put_more (put_more (put_more (put_more named c.put_field-flagged.ensures.0) c.put_field-said.ensures.0) c.put_field-counted.ensures.0) c.put.ensures

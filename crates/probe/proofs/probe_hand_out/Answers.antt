@@ -4,4 +4,4 @@ use Rattle.probe.proofs.probe_hand_out.Goals as goal
 pub returns : goal.returns
 returns c =
     let handed = c.hand_out-handed.ensures in
-    record { numbered = rw handed at c.frame_number.ensures; told = rw handed at c.handed_slots.ensures }
+    record { numbered = rw handed at c.number_of.ensures; told = rw handed at c.handed_slots.ensures }

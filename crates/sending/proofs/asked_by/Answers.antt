@@ -6,7 +6,7 @@ use Rattle.sending.proofs.asked_by.Goals as goal
 
 pub returns-then-o : goal.returns-then-o
 unfolding asked_by
-returns-then-o c = simp (c.if-o.true, sym c.type_of.ensures) c.asked.ensures
+returns-then-o c = simp (c.if-o.true, sym c.from.ensures) c.asked.ensures
 
 pub returns : goal.returns
 unfolding asked_by
