@@ -1,8 +1,8 @@
--- What a frame holds, from any of its fields on; its parts lie in the bytes. Assumes nothing.
+-- What a frame holds, with the fields that are left; its parts lie in the bytes. Assumes nothing.
 use Rattle.std.specs.Prelude.{Option, Some, Ok, Err}
-use Prim.Native.Nat.{ℕ, zero, suc, ◌+◌, ◌-◌, ◌≤◌, ◌<◌}
+use Prim.Native.Nat.{ℕ, zero, suc, ◌+◌, ◌-◌, ◌≤◌}
 use mathlib.Core.Path.{◌≡◌, refl, sym, ◌∙◌}
-use mathlib.Core.List.{List, []}
+use mathlib.Core.List.{List, [], ◌∷◌}
 use mathlib.Core.Bool.{Bool, true, false, cond}
 use lib.ListN.{length}
 use lib.Dec.{ltb, eqb}
@@ -10,21 +10,21 @@ use native.Mathlib.Omega.{arith}
 use Rattle.bytes_be.specs.declared.Place.{Place}
 use Rattle.wire.specs.declared.Field.{Field}
 use Rattle.wire.specs.Fields.{Reading, field_at, and_behind, fields_within, fields_of}
-use Rattle.wire.proofs.Readings.{Within, field_within, no_fields, first_field}
+use Rattle.wire.proofs.Readings.{Within, field_within}
 use Rattle.params.specs.Message.{place_of}
 use Rattle.open.specs.declared.Parts.{Parts}
 use Rattle.open.specs.Open.{or_nowhere}
 use Rattle.open.specs.Frame.{nothing, place_if, keep, kept, parts_of}
 
--- `whole` is what the frame holds, and is known to be what it holds from `at` on
-module _ (s : List ℕ) (to at : ℕ) (parts whole : Parts) (known : whole ≡ kept (fields_of s at to) parts) where
-  pub kept_done : to ≤ at → parts ≡ whole
+-- `whole` is what the frame holds, and is known to be what it holds with the fields that are left
+module _ (left : List Reading) (parts whole : Parts) (known : whole ≡ kept left parts) where
+  pub kept_done : left ≡ [] → parts ≡ whole
   unfolding kept
-  kept_done h = sym (known ∙ rw (no_fields s at to h))
+  kept_done e = sym (known ∙ rw e)
 
-  pub kept_on : at < to → (r : Reading) → r ≡ field_at s at to → (field : Field) → r ≡ Ok field → whole ≡ kept (fields_of s field.next to) (keep parts field)
+  pub kept_on : (read : Reading) (rest : List Reading) → left ≡ read ∷ rest → (field : Field) → read ≡ Ok field → whole ≡ kept rest (keep parts field)
   unfolding kept
-  kept_on more r is field read = known ∙ rw (first_field s at to more r is field read)
+  kept_on read rest is field ok = known ∙ rw (is, ok)
 
 -- ---- the parts of a frame lie in the bytes
 

@@ -205,12 +205,10 @@ fn readable(s: &[u8], from: usize, to: usize) -> Result<Opening, Refusal>
         format: None,
         parameters: None,
     };
-    let mut at = from;
-    while at < to {
-        let field = wire::field_at(s, at, to)?;
+    for read in wire::fields_of(s, from, to) {
+        let field = read?;
         frame_field(s, parts, field)?;
         parts = keep(parts, field);
-        at = field.next;
     }
     Ok(opening_of(s, parts))
 }

@@ -1,8 +1,8 @@
--- A search for the first field of a kind, from any field on; what is found lies in the bytes. Assumes nothing.
+-- A search for the first field of a kind, over the fields that are left; what is found lies in the bytes. Assumes nothing.
 use Rattle.std.specs.Prelude.{Option, Some, None, Ok, Err}
-use Prim.Native.Nat.{ℕ, zero, suc, ◌+◌, ◌-◌, ◌≤◌, ◌<◌}
+use Prim.Native.Nat.{ℕ, zero, suc, ◌+◌, ◌-◌, ◌≤◌}
 use mathlib.Core.Path.{◌≡◌, refl, sym, ◌∙◌, subst}
-use mathlib.Core.List.{List, []}
+use mathlib.Core.List.{List, [], ◌∷◌}
 use mathlib.Core.Bool.{Bool, true, false, cond}
 use lib.ListN.{length}
 use lib.Dec.{ltb}
@@ -10,34 +10,34 @@ use native.Mathlib.Omega.{arith}
 use Rattle.bytes_be.specs.declared.Place.{Place}
 use Rattle.wire.specs.declared.Field.{Field}
 use Rattle.wire.specs.Fields.{Reading, field_at, and_behind, fields_within, fields_of}
-use Rattle.wire.proofs.Readings.{Within, field_within, no_fields, first_field, first_fault}
+use Rattle.wire.proofs.Readings.{Within, field_within}
 use Rattle.params.specs.Message.{first_of, has_number, place_of, nowhere, place_in}
 use Rattle.params.specs.Keys.{has_key, value_place, value_found, find_in}
 
--- `whole` is what the search comes to, and is known to be what it comes to from `at` on
-module _ {A : Type 0} (test : Field → Bool) (answer : Field → A) (none : A) (s : List ℕ) (to at : ℕ) (whole : A)
-    (known : whole ≡ first_of test answer none (fields_of s at to)) where
-  pub search_done : to ≤ at → none ≡ whole
+-- `whole` is what the search comes to, and is known to be what it comes to over the fields that are left
+module _ {A : Type 0} (test : Field → Bool) (answer : Field → A) (none : A) (left : List Reading) (whole : A)
+    (known : whole ≡ first_of test answer none left) where
+  pub search_done : left ≡ [] → none ≡ whole
   unfolding first_of
-  search_done h = sym (known ∙ rw (no_fields s at to h))
+  search_done e = sym (known ∙ rw e)
 
-  module _ (more : at < to) (r : Reading) (is : r ≡ field_at s at to) where
-    pub search_refused : ((field : Field) → r ≡ Ok field → ⊥) → none ≡ whole
+  module _ (read : Reading) (rest : List Reading) (is : left ≡ read ∷ rest) where
+    pub search_refused : ((field : Field) → read ≡ Ok field → ⊥) → none ≡ whole
     unfolding first_of
-    search_refused unread = go r refl
+    search_refused unread = go read refl
       where
-        go : (w : Reading) → r ≡ w → none ≡ whole
+        go : (r : Reading) → read ≡ r → none ≡ whole
         go (Ok field) e = absurd (unread field e)
-        go (Err why) e = sym (known ∙ rw (first_fault s at to more r is why e))
+        go (Err why) e = sym (known ∙ rw (is, e))
 
-    module _ (field : Field) (read : r ≡ Ok field) where
+    module _ (field : Field) (ok : read ≡ Ok field) where
       pub search_here : test field ≡ true → answer field ≡ whole
       unfolding first_of
-      search_here e = sym (known ∙ rw (first_field s at to more r is field read, e))
+      search_here e = sym (known ∙ rw (is, ok, e))
 
-      pub search_on : test field ≡ false → whole ≡ first_of test answer none (fields_of s field.next to)
+      pub search_on : test field ≡ false → whole ≡ first_of test answer none rest
       unfolding first_of
-      search_on e = known ∙ rw (first_field s at to more r is field read, e)
+      search_on e = known ∙ rw (is, ok, e)
 
 -- ---- what is found lies in the bytes
 

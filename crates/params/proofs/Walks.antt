@@ -1,41 +1,40 @@
--- A message that is judged field by field, from any of its fields on. Assumes nothing.
+-- A message that is judged field by field, over the fields that are left. Assumes nothing.
 use Rattle.std.specs.Prelude.{Ok, Err}
-use Prim.Native.Nat.{ℕ, zero, suc, ◌-◌, ◌≤◌, ◌<◌}
+use Prim.Native.Nat.{ℕ, zero, suc, ◌-◌}
 use mathlib.Core.Path.{◌≡◌, refl, sym, ◌∙◌}
-use mathlib.Core.List.{List}
+use mathlib.Core.List.{List, [], ◌∷◌}
 use lib.Dec.{eqb}
 use native.Mathlib.Numerals.{sub-one}
 use Rattle.wire.specs.declared.Kind.TheVariants.{TooDeep}
 use Rattle.wire.specs.declared.Fault.{Fault}
 use Rattle.wire.specs.declared.Field.{Field}
-use Rattle.wire.specs.Fields.{Reading, field_at, fields_of}
-use Rattle.wire.proofs.Readings.{no_fields, first_field, first_fault}
+use Rattle.wire.specs.Fields.{Reading}
 use Rattle.params.specs.Message.{Check, good, fault, and_then, walk}
 use Rattle.params.specs.Rules.{items_check, inside}
 
--- `whole` is what the message comes to, and is known to be what its fields from `at` on come to, after what was seen
-module _ {Seen : Type 0} (judge : Seen → Field → Check) (move : Seen → Field → Seen) (done : Seen → Check) (s : List ℕ) (to at : ℕ) (seen : Seen) (whole : Check)
-    (known : whole ≡ walk judge move done (fields_of s at to) seen) where
-  pub walk_done : to ≤ at → done seen ≡ whole
+-- `whole` is what the message comes to, and is known to be what the fields that are left come to, after what was seen
+module _ {Seen : Type 0} (judge : Seen → Field → Check) (move : Seen → Field → Seen) (done : Seen → Check) (left : List Reading) (seen : Seen) (whole : Check)
+    (known : whole ≡ walk judge move done left seen) where
+  pub walk_done : left ≡ [] → done seen ≡ whole
   unfolding walk
-  walk_done h = sym (known ∙ rw (no_fields s at to h))
+  walk_done e = sym (known ∙ rw e)
 
-  module _ (more : at < to) (r : Reading) (is : r ≡ field_at s at to) where
-    pub walk_refused : (why : Fault) → r ≡ Err why → Err why ≡ whole
+  module _ (read : Reading) (rest : List Reading) (is : left ≡ read ∷ rest) where
+    pub walk_refused : (why : Fault) → read ≡ Err why → Err why ≡ whole
     unfolding walk
-    walk_refused why e = sym (known ∙ rw (first_fault s at to more r is why e))
+    walk_refused why e = sym (known ∙ rw (is, e))
 
-    module _ (field : Field) (read : r ≡ Ok field) (check : Check) (judged : check ≡ judge seen field) where
-      step : whole ≡ and_then (judge seen field) (walk judge move done (fields_of s field.next to) (move seen field))
+    module _ (field : Field) (ok : read ≡ Ok field) (check : Check) (judged : check ≡ judge seen field) where
+      step : whole ≡ and_then (judge seen field) (walk judge move done rest (move seen field))
       unfolding walk
-      step = known ∙ rw (first_field s at to more r is field read)
+      step = known ∙ rw (is, ok)
 
       pub walk_stopped : (why : Fault) → check ≡ Err why → check ≡ whole
       walk_stopped why e =
           let stops : judge seen field ≡ Err why = sym judged ∙ e in
           e ∙ sym (step ∙ rw stops)
 
-      pub walk_on : check ≡ good → whole ≡ walk judge move done (fields_of s field.next to) (move seen field)
+      pub walk_on : check ≡ good → whole ≡ walk judge move done rest (move seen field)
       walk_on e =
           let passes : judge seen field ≡ good = sym judged ∙ e in
           step ∙ rw passes

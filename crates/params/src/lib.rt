@@ -32,10 +32,9 @@ fn lacking(to: usize, there: bool) -> Result<(), Fault>
 pub fn place_in(s: &[u8], from: usize, to: usize, number: u64) -> Place
     ensures { result ≡ place_in number (fields_of s.now from to) }
 {
-    let mut at = from;
-    while at < to {
-        let Ok(field) = wire::field_at(s, at, to) else {
-            return Place { at: 0, length: 0 };
+    for read in wire::fields_of(s, from, to) {
+        let Ok(field) = read else {
+            break;
         };
         if field.number == number {
             return Place {
@@ -43,7 +42,6 @@ pub fn place_in(s: &[u8], from: usize, to: usize, number: u64) -> Place
                 length: field.next - field.at,
             };
         }
-        at = field.next;
     }
     Place { at: 0, length: 0 }
 }
@@ -62,15 +60,13 @@ fn has_key(s: &[u8], from: usize, to: usize, key: &[u8]) -> bool
 pub fn find(s: &[u8], from: usize, to: usize, key: &[u8]) -> Option<Place>
     ensures { result ≡ find_in s.now from to key.now }
 {
-    let mut at = from;
-    while at < to {
-        let Ok(field) = wire::field_at(s, at, to) else {
-            return None;
+    for read in wire::fields_of(s, from, to) {
+        let Ok(field) = read else {
+            break;
         };
         if has_key(s, field.at, field.next, key) {
             return Some(place_in(s, field.at, field.next, 2));
         }
-        at = field.next;
     }
     None
 }
@@ -157,13 +153,11 @@ fn value_field(s: &[u8], held: u64, field: Field, levels: u8) -> Result<(), Faul
 fn check_value(s: &[u8], from: usize, to: usize, levels: u8) -> Result<(), Fault>
     ensures { result ≡ value_check (inside levels s.now) s.now from to }
 {
-    let mut at = from;
     let mut held = 0;
-    while at < to {
-        let field = wire::field_at(s, at, to)?;
+    for read in wire::fields_of(s, from, to) {
+        let field = read?;
         value_field(s, held, field, levels)?;
         held = field.number;
-        at = field.next;
     }
     lacking(to, held != 0)
 }
@@ -261,19 +255,17 @@ fn check_entry(
 ) -> Result<(), Fault>
     ensures { result ≡ entry_check (inside levels s.now) s.now from tag start to }
 {
-    let mut at = start;
     let mut seen = Seen {
         key: false,
         value: false,
     };
-    while at < to {
-        let field = wire::field_at(s, at, to)?;
+    for read in wire::fields_of(s, start, to) {
+        let field = read?;
         entry_field(s, from, tag, seen, field, levels)?;
         seen = Seen {
             key: seen.key | (field.number == 1),
             value: seen.value | (field.number != 1),
         };
-        at = field.next;
     }
     entry_done(s, from, tag, to, seen)
 }
@@ -296,11 +288,9 @@ fn item_field(s: &[u8], from: usize, field: Field, levels: u8, list: bool) -> Re
 fn check_items(s: &[u8], from: usize, to: usize, levels: u8, list: bool) -> Result<(), Fault>
     ensures { result ≡ items_check (inside levels s.now) s.now list from to }
 {
-    let mut at = from;
-    while at < to {
-        let field = wire::field_at(s, at, to)?;
+    for read in wire::fields_of(s, from, to) {
+        let field = read?;
         item_field(s, from, field, levels, list)?;
-        at = field.next;
     }
     Ok(())
 }

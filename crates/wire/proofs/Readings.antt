@@ -194,3 +194,41 @@ less_left s at end r field is e more =
     let w = field_within s at end field (sym is ∙ e) in
     let b = w.behind in let l = w.ends in let i = w.inside in
     omega arith
+
+-- ---- of the fields of a message, each that was read lies in the bytes
+
+abbrev pub Lying : List ℕ → List Reading → Type 0
+Lying s [] = Unit {0}
+Lying s (Err why ∷ rest) = Unit {0}
+Lying s (Ok field ∷ rest) = (field.at ≤ field.next) × (field.next ≤ length s) × Lying s rest
+
+lying_within : (left : ℕ) (s : List ℕ) (to at : ℕ) → Lying s (fields_within left s to at)
+unfolding fields_within
+lying_within zero s to at = tt
+lying_within (suc left) s to at = go (ltb at to) (field_at s at to) refl (lying_within left s to)
+  where
+    go : (t : Bool) (r : Reading) → field_at s at to ≡ r → ((next : ℕ) → Lying s (fields_within left s to next)) → Lying s (cond t (and_behind (fields_within left s to) r) [])
+    go false r e behind = tt
+    go true (Err why) e behind = tt
+    go true (Ok field) e behind =
+        let w = field_within s at to field e in let i = w.inside in let l = w.there in
+        (w.ends, omega arith, behind field.next)
+
+lying_of : (s : List ℕ) (from to : ℕ) → Lying s (fields_of s from to)
+unfolding fields_of
+lying_of s from to = lying_within (to - from) s to from
+
+module _ (s : List ℕ) (left : List Reading) where
+  pub fields_lie : (from to : ℕ) → left ≡ fields_of s from to → Lying s left
+  fields_lie from to e = subst (Lying s) (sym e) (lying_of s from to)
+
+  -- a field that was read stands in front of what is left behind it
+  module _ (lying : Lying s left) (read : Reading) (rest : List Reading) (is : left ≡ read ∷ rest) (field : Field) (ok : read ≡ Ok field) where
+    split : Lying s (Ok field ∷ rest)
+    split = subst (λ (r : Reading). Lying s (r ∷ rest)) ok (subst (Lying s) is lying)
+
+    pub field_lies_in : (field.at ≤ field.next) × (field.next ≤ length s)
+    field_lies_in = (split.0, split.1)
+
+    pub rest_lie : Lying s rest
+    rest_lie = split.2

@@ -1,4 +1,5 @@
 -- Protobuf's varints and fields, as document 01 narrows them.
 pub mod Varint
 pub mod Fields
+pub mod Left
 pub mod Written

@@ -4,7 +4,8 @@
 ghost use Rattle.std.specs.Prelude.{◌≡◌, cond, ◌≤◌, ◌+◌, ◌%◌, ltb, length, take};
 ghost use Rattle.bytes_be.specs.Part.{put_at};
 ghost use Rattle.wire.specs.Varint.{bounded, said_at, varint_at, varint_length, shortest_of};
-ghost use Rattle.wire.specs.Fields.{fault_number, of_field, sized, payload_at, field_at};
+ghost use Rattle.wire.specs.Fields.{fault_number, of_field, sized, payload_at, field_at, fields_of};
+ghost use Rattle.wire.specs.Left.{fields_left};
 
 use numbered::Numbered;
 
@@ -206,6 +207,45 @@ pub fn field_at(s: &[u8], at: usize, end: usize) -> Result<Field, Fault>
         });
     }
     payload_at(s, at, tag.value / 8, tag.value % 8, tag.next, end)
+}
+
+// The fields of a lent message, one after the other; one that cannot be read is the last.
+#[derive(Clone, Copy)]
+pub struct Fields<'a> {
+    s: &'a [u8],
+    // Where the next field begins, and where the message ends.
+    at: usize,
+    to: usize,
+}
+
+// The fields from place `from` on of the message that ends at `to`.
+pub fn fields_of(s: &[u8], from: usize, to: usize) -> Fields<'_>
+    ensures { fields_left result ≡ fields_of s.now from to }
+{
+    Fields { s, at: from, to }
+}
+
+impl<'a> Iterator for Fields<'a> {
+    ghost use Rattle.std.specs.Iterator.{YieldsFirst, item_count};
+    ghost use Rattle.wire.specs.Left.{fields_left};
+
+    type Item = Result<Field, Fault>;
+
+    ghost next_gives = { YieldsFirst fields_left };
+
+    ghost remaining = { item_count fields_left };
+
+    fn next(&mut self) -> Option<Result<Field, Fault>> {
+        if self.to <= self.at {
+            return None;
+        }
+        let read = field_at(self.s, self.at, self.to);
+        self.at = match read {
+            Ok(field) => field.next,
+            Err(_) => self.to,
+        };
+        Some(read)
+    }
 }
 
 // A number's lowest seven bits, marked where higher ones follow.

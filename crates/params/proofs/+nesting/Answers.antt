@@ -1,82 +1,77 @@
 -- The check of a Value, an entry, a Struct and a list meets its contract: siblings by a loop, nesting by calls with fewer levels left.
 -- Assumes nothing.
-use mathlib.Core.Path.{refl, sym, ◌∙◌}
-use native.Mathlib.Omega.{arith}
+use mathlib.Core.Path.{ap, ◌∙◌}
 use borrow.Author.Rules.{rules}
 use borrow.Author.Tests.{lt-ltb, le-ltb, eq-eqb, ne_eqb}
-use Rattle.wire.proofs.Readings.{field_within, less_left}
+use Rattle.wire.specs.Left.{fields_left}
+use Rattle.wire.proofs.Readings.{fields_lie, field_lies_in, rest_lie}
 use Rattle.params.specs.Rules.{value_field, value_check, entry_field, entry_check, item_field, items_check}
 use Rattle.params.proofs.Walks.{walk_done, walk_refused, walk_stopped, walk_on, inside_none, inside_more, passed}
 use Rattle.params.proofs.+nesting.Goals as goal
 
-pub check_entry-loop-at-init : goal.check_entry-loop-at-init
+pub check_entry-loop-read-init : goal.check_entry-loop-read-init
 unfolding entry_check
-check_entry-loop-at-init t c = refl
+check_entry-loop-read-init t c =
+    let all = ap fields_left c.into_iter-read-iterator.ensures.into_iter_gives ∙ c.fields_of-read-items.ensures in
+    (rw all, fields_lie _ _ _ _ all)
 
 pub check_entry-returns-in_err-field : goal.check_entry-returns-in_err-field
-check_entry-returns-in_err-field t c = let h = walk_refused _ _ _ _ _ _ _ _ c.loop-at.invariant c.loop-at-test.true _ c.field_at.ensures _ c.in_err-field.was in search rules
+check_entry-returns-in_err-field t c = let h = walk_refused _ _ _ _ _ _ c.loop-read.invariant.0 _ _ c.in-Some.ensures.steps _ c.in_err-field.was in search rules
 
 pub check_entry-entry_field-requires : goal.check_entry-entry_field-requires
-check_entry-entry_field-requires t c =
-    let w = field_within _ _ _ _ (sym c.field_at.ensures ∙ c.in_ok-field.was) in
-    let i = w.inside in let l = w.there in
-    (search rules, (w.ends, omega arith))
+check_entry-entry_field-requires t c = (search rules, field_lies_in _ _ c.loop-read.invariant.1 _ _ c.in-Some.ensures.steps _ c.in_ok-field.was)
 
 pub check_entry-returns-in_err-entry_field : goal.check_entry-returns-in_err-entry_field
-check_entry-returns-in_err-entry_field t c = let h = walk_stopped _ _ _ _ _ _ _ _ c.loop-at.invariant c.loop-at-test.true _ c.field_at.ensures _ c.in_ok-field.was _ c.entry_field.ensures _ c.in_err-entry_field.was in search rules
+check_entry-returns-in_err-entry_field t c = let h = walk_stopped _ _ _ _ _ _ c.loop-read.invariant.0 _ _ c.in-Some.ensures.steps _ c.in_ok-field.was _ c.entry_field.ensures _ c.in_err-entry_field.was in search rules
 
-pub check_entry-loop-at-smaller : goal.check_entry-loop-at-smaller
-check_entry-loop-at-smaller t c = less_left _ _ _ _ _ c.field_at.ensures c.in_ok-field.was c.loop-at-test.true
-
-pub check_entry-loop-at-preserved : goal.check_entry-loop-at-preserved
-check_entry-loop-at-preserved t c = walk_on _ _ _ _ _ _ _ _ c.loop-at.invariant c.loop-at-test.true _ c.field_at.ensures _ c.in_ok-field.was _ c.entry_field.ensures c.in_ok-entry_field.was
+pub check_entry-loop-read-preserved : goal.check_entry-loop-read-preserved
+check_entry-loop-read-preserved t c = (
+  walk_on _ _ _ _ _ _ c.loop-read.invariant.0 _ _ c.in-Some.ensures.steps _ c.in_ok-field.was _ c.entry_field.ensures c.in_ok-entry_field.was,
+  rest_lie _ _ c.loop-read.invariant.1 _ _ c.in-Some.ensures.steps _ c.in_ok-field.was,
+)
 
 pub check_entry-returns : goal.check_entry-returns
-check_entry-returns t c = c.entry_done.ensures ∙ walk_done _ _ _ _ _ _ _ _ c.loop-at.invariant c.loop-at-test.false
+check_entry-returns t c = c.entry_done.ensures ∙ walk_done _ _ _ _ _ _ c.loop-read.invariant.0 c.in-None.ensures.steps.0
 
-pub check_items-loop-at-init : goal.check_items-loop-at-init
+pub check_items-loop-read-init : goal.check_items-loop-read-init
 unfolding items_check
-check_items-loop-at-init t c = refl
+check_items-loop-read-init t c = rw (ap fields_left c.into_iter-read-iterator.ensures.into_iter_gives ∙ c.fields_of-read-items.ensures)
 
 pub check_items-returns-in_err-field : goal.check_items-returns-in_err-field
-check_items-returns-in_err-field t c = let h = walk_refused _ _ _ _ _ _ _ _ c.loop-at.invariant c.loop-at-test.true _ c.field_at.ensures _ c.in_err-field.was in search rules
+check_items-returns-in_err-field t c = let h = walk_refused _ _ _ _ _ _ c.loop-read.invariant _ _ c.in-Some.ensures.steps _ c.in_err-field.was in search rules
 
 pub check_items-returns-in_err-item_field : goal.check_items-returns-in_err-item_field
-check_items-returns-in_err-item_field t c = let h = walk_stopped _ _ _ _ _ _ _ _ c.loop-at.invariant c.loop-at-test.true _ c.field_at.ensures _ c.in_ok-field.was _ c.item_field.ensures _ c.in_err-item_field.was in search rules
+check_items-returns-in_err-item_field t c = let h = walk_stopped _ _ _ _ _ _ c.loop-read.invariant _ _ c.in-Some.ensures.steps _ c.in_ok-field.was _ c.item_field.ensures _ c.in_err-item_field.was in search rules
 
-pub check_items-loop-at-smaller : goal.check_items-loop-at-smaller
-check_items-loop-at-smaller t c = less_left _ _ _ _ _ c.field_at.ensures c.in_ok-field.was c.loop-at-test.true
-
-pub check_items-loop-at-preserved : goal.check_items-loop-at-preserved
-check_items-loop-at-preserved t c = walk_on _ _ _ _ _ _ _ _ c.loop-at.invariant c.loop-at-test.true _ c.field_at.ensures _ c.in_ok-field.was _ c.item_field.ensures c.in_ok-item_field.was
+pub check_items-loop-read-preserved : goal.check_items-loop-read-preserved
+check_items-loop-read-preserved t c = walk_on _ _ _ _ _ _ c.loop-read.invariant _ _ c.in-Some.ensures.steps _ c.in_ok-field.was _ c.item_field.ensures c.in_ok-item_field.was
 
 pub check_items-returns : goal.check_items-returns
-check_items-returns t c = walk_done _ _ _ _ _ _ _ _ c.loop-at.invariant c.loop-at-test.false
+check_items-returns t c = walk_done _ _ _ _ _ _ c.loop-read.invariant c.in-None.ensures.steps.0
 
-pub check_value-loop-at-init : goal.check_value-loop-at-init
+pub check_value-loop-read-init : goal.check_value-loop-read-init
 unfolding value_check
-check_value-loop-at-init t c = refl
+check_value-loop-read-init t c =
+    let all = ap fields_left c.into_iter-read-iterator.ensures.into_iter_gives ∙ c.fields_of-read-items.ensures in
+    (rw all, fields_lie _ _ _ _ all)
 
 pub check_value-returns-in_err-field : goal.check_value-returns-in_err-field
-check_value-returns-in_err-field t c = let h = walk_refused _ _ _ _ _ _ _ _ c.loop-at.invariant c.loop-at-test.true _ c.field_at.ensures _ c.in_err-field.was in search rules
+check_value-returns-in_err-field t c = let h = walk_refused _ _ _ _ _ _ c.loop-read.invariant.0 _ _ c.in-Some.ensures.steps _ c.in_err-field.was in search rules
 
 pub check_value-value_field-requires : goal.check_value-value_field-requires
-check_value-value_field-requires t c =
-    let w = field_within _ _ _ _ (sym c.field_at.ensures ∙ c.in_ok-field.was) in
-    let i = w.inside in let l = w.there in
-    (search rules, (w.ends, omega arith))
+check_value-value_field-requires t c = (search rules, field_lies_in _ _ c.loop-read.invariant.1 _ _ c.in-Some.ensures.steps _ c.in_ok-field.was)
 
 pub check_value-returns-in_err-value_field : goal.check_value-returns-in_err-value_field
-check_value-returns-in_err-value_field t c = let h = walk_stopped _ _ _ _ _ _ _ _ c.loop-at.invariant c.loop-at-test.true _ c.field_at.ensures _ c.in_ok-field.was _ c.value_field.ensures _ c.in_err-value_field.was in search rules
+check_value-returns-in_err-value_field t c = let h = walk_stopped _ _ _ _ _ _ c.loop-read.invariant.0 _ _ c.in-Some.ensures.steps _ c.in_ok-field.was _ c.value_field.ensures _ c.in_err-value_field.was in search rules
 
-pub check_value-loop-at-smaller : goal.check_value-loop-at-smaller
-check_value-loop-at-smaller t c = less_left _ _ _ _ _ c.field_at.ensures c.in_ok-field.was c.loop-at-test.true
-
-pub check_value-loop-at-preserved : goal.check_value-loop-at-preserved
-check_value-loop-at-preserved t c = walk_on _ _ _ _ _ _ _ _ c.loop-at.invariant c.loop-at-test.true _ c.field_at.ensures _ c.in_ok-field.was _ c.value_field.ensures c.in_ok-value_field.was
+pub check_value-loop-read-preserved : goal.check_value-loop-read-preserved
+check_value-loop-read-preserved t c = (
+  walk_on _ _ _ _ _ _ c.loop-read.invariant.0 _ _ c.in-Some.ensures.steps _ c.in_ok-field.was _ c.value_field.ensures c.in_ok-value_field.was,
+  rest_lie _ _ c.loop-read.invariant.1 _ _ c.in-Some.ensures.steps _ c.in_ok-field.was,
+)
 
 pub check_value-returns : goal.check_value-returns
-check_value-returns t c = c.lacking.ensures ∙ walk_done _ _ _ _ _ _ _ _ c.loop-at.invariant c.loop-at-test.false
+check_value-returns t c = c.lacking.ensures ∙ walk_done _ _ _ _ _ _ c.loop-read.invariant.0 c.in-None.ensures.steps.0
 
 pub entry_field-returns-then-field-eq1 : goal.entry_field-returns-then-field-eq1
 unfolding entry_field

@@ -1,27 +1,24 @@
--- `params::find` meets its contract: no entry in front of the place that the loop has reached has the key. Assumes nothing.
+-- `params::find` meets its contract: no entry that the loop has passed has the key. Assumes nothing.
 use Rattle.std.specs.Prelude.{Some}
-use mathlib.Core.Path.{refl, sym, ap, ◌∙◌}
-use Rattle.wire.proofs.Readings.{less_left}
+use mathlib.Core.Path.{sym, ap, ◌∙◌}
+use Rattle.wire.specs.Left.{fields_left}
 use Rattle.params.specs.Keys.{value_place, find_in}
 use Rattle.params.proofs.Finds.{search_done, search_refused, search_here, search_on}
 use Rattle.params.proofs.find.Goals as goal
 
-pub loop-at-init : goal.loop-at-init
+pub loop-read-init : goal.loop-read-init
 unfolding find_in
-loop-at-init c = refl
+loop-read-init c = rw (ap fields_left c.into_iter-read-iterator.ensures.into_iter_gives ∙ c.fields_of-read-items.ensures)
 
 pub returns-in_default : goal.returns-in_default
-returns-in_default c = search_refused _ _ _ _ _ _ _ c.loop-at.invariant c.loop-at-test.true _ c.field_at.ensures c.in_default.not-Ok
+returns-in_default c = search_refused _ _ _ _ _ c.loop-read.invariant _ _ c.in-Some.ensures.steps c.in_default.not-Ok
 
 pub returns-then-has_key : goal.returns-then-has_key
 unfolding value_place
-returns-then-has_key c = ap Some c.place_in.ensures ∙ search_here _ _ _ _ _ _ _ c.loop-at.invariant c.loop-at-test.true _ c.field_at.ensures _ c.in-Ok.is (sym c.has_key.ensures ∙ c.if-has_key.true)
+returns-then-has_key c = ap Some c.place_in.ensures ∙ search_here _ _ _ _ _ c.loop-read.invariant _ _ c.in-Some.ensures.steps _ c.in-Ok.is (sym c.has_key.ensures ∙ c.if-has_key.true)
 
-pub loop-at-smaller : goal.loop-at-smaller
-loop-at-smaller c = less_left _ _ _ _ _ c.field_at.ensures c.in-Ok.is c.loop-at-test.true
+pub loop-read-preserved : goal.loop-read-preserved
+loop-read-preserved c = search_on _ _ _ _ _ c.loop-read.invariant _ _ c.in-Some.ensures.steps _ c.in-Ok.is (sym c.has_key.ensures ∙ c.if-has_key.false)
 
-pub loop-at-preserved : goal.loop-at-preserved
-loop-at-preserved c = search_on _ _ _ _ _ _ _ c.loop-at.invariant c.loop-at-test.true _ c.field_at.ensures _ c.in-Ok.is (sym c.has_key.ensures ∙ c.if-has_key.false)
-
-pub returns : goal.returns
-returns c = search_done _ _ _ _ _ _ _ c.loop-at.invariant c.loop-at-test.false
+pub returns-in-None : goal.returns-in-None
+returns-in-None c = search_done _ _ _ _ _ c.loop-read.invariant c.in-None.ensures.steps.0
