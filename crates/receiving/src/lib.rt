@@ -117,7 +117,7 @@ fn refuse(e: Endpoint, number: u8, said: u8) -> Received
     ensures { result ≡ refused e number said }
 {
     let silent = is_silent(e, number, said);
-    let next = endpoint::closed(e);
+    let next = e.closed();
     if silent {
         return Received {
             answer: Answer::Closes(number),
@@ -268,7 +268,7 @@ fn carried_number(carried: Carried) -> u8
 fn matches_oldest(e: Endpoint, message: MessageType, type_data: u16) -> bool
     ensures { result ≡ matches_oldest e message type_data }
 {
-    let oldest = endpoint::oldest(e);
+    let oldest = e.oldest();
     (0 < e.w) & (oldest.message == control::type_of(message)) & (oldest.type_data == type_data)
 }
 
@@ -286,7 +286,7 @@ fn confirmed_by(e: Endpoint, m: Message) -> Endpoint
     let message = m.message;
     let quiet = confirms(message, m.flags);
     if quiet {
-        return endpoint::confirmed(e);
+        return e.confirmed();
     }
     e
 }
@@ -299,7 +299,7 @@ fn limited_by(e: Endpoint, content: Content) -> Endpoint
         Content::Nothing => e,
         Content::Opening(opening) => {
             let announced = opening.announced;
-            endpoint::limited(e, terms::announced_limit(announced))
+            e.limited(terms::announced_limit(announced))
         }
         Content::Body(_) => e,
     }
@@ -413,7 +413,7 @@ pub fn write_reply(out: &mut [u8], reply: Reply)
 pub fn receive(e: Endpoint, s: &[u8], name: &[u8], format: &[u8], out: &mut [u8]) -> Received
     ensures { ReceiveAnswer e s.now (offer_of name.now format.now) out.old result out.new }
 {
-    if !endpoint::good(e) {
+    if !e.good() {
         return stay(e, 1);
     }
     if out.len() < 14 {

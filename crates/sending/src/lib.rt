@@ -58,7 +58,7 @@ fn send_row(e: Endpoint, o: Outgoing) -> Row
 fn number_for(e: Endpoint, o: Outgoing, row: Row, room: usize) -> u8
     ensures { result ≡ number_for e o row room }
 {
-    if !endpoint::good(e) {
+    if !e.good() {
         return 1;
     }
     if e.phase == 5 {
@@ -98,7 +98,7 @@ fn asked_by(e: Endpoint, o: Outgoing) -> Endpoint
         type_data: o.type_data,
     };
     if o.ask {
-        return endpoint::asked(e, entry);
+        return e.asked(entry);
     }
     e
 }

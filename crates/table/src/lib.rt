@@ -138,9 +138,9 @@ fn at_row(e: Endpoint, phase: u8, n: u16) -> Endpoint
     ensures { result ≡ at_row e phase n }
 {
     if phase == 5 {
-        return endpoint::closed(e);
+        return e.closed();
     }
-    endpoint::at_phase(e, phase, n)
+    e.at_phase(phase, n)
 }
 
 // The endpoint after a message of this row.
