@@ -22,9 +22,7 @@ use Rattle.endpoint.specs.Record.{asked, at_phase, awaited, batch, capacity, cli
 use Rattle.endpoint.proofs.Awaited.{oldest_awaited}
 use Rattle.endpoint.proofs.Reports.{reports, reports_few}
 use Rattle.endpoint.proofs.Told.{good_told}
-use Rattle.table.specs.declared.Row.{Row}
-use Rattle.table.specs.declared.Row.TheVariants.{To}
-use Rattle.table.specs.Table.{allowed, at_row, begun, close_row, data_row, moved, noop_row, not_allowed, open_row, other, ready_row, row_of}
+use Rattle.table.specs.Table.{Row, To, allowed, at_row, begun, close_row, data_row, moved, noop_row, not_allowed, open_row, other, ready_row, row_of}
 use Rattle.receiving.specs.declared.Content.{Content}
 use Rattle.receiving.specs.declared.Content.TheVariants.{Nothing, Opening, Body as Content-as-Body}
 use Rattle.receiving.specs.declared.Received.{Received}

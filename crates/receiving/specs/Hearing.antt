@@ -1,6 +1,6 @@
 -- "Receiving": "Checks run in the order of the numbers .. and the first that applies is given." What an endpoint with an offer makes of a
 -- message.
-use Rattle.std.specs.Prelude.{ℕ, ◌+◌, List, Bool, true, false, cond, not, ◌&&◌, ◌||◌, ltb, eqb}
+use Rattle.std.specs.Prelude.{ℕ, ◌+◌, List, Bool, true, false, cond, not, ◌&&◌, ◌||◌, ltb, eqb, Err}
 use Rattle.bytes_be.specs.declared.Place.{Place}
 use Rattle.control.specs.declared.MessageType.{MessageType}
 use Rattle.control.specs.declared.MessageType.TheVariants.{Open, Ready, Noop, Data, Close}
@@ -18,9 +18,8 @@ use Rattle.message.specs.declared.Reading.TheVariants.{Read, Refused as Reading-
 use Rattle.message.specs.Reading.{body_place, reading_of, reading_number, said_in}
 use Rattle.endpoint.specs.declared.Endpoint.{Endpoint}
 use Rattle.endpoint.specs.Record.{shut, oldest, confirmed, limited}
-use Rattle.table.specs.declared.Row.{Row}
-use Rattle.table.specs.declared.Row.TheVariants.{NotAllowed, AboveOffer}
-use Rattle.table.specs.Table.{row_of, hear_number, not_allowed, above_offer, other, moved}
+use Rattle.table.specs.declared.Refusal.TheVariants.{NotAllowed, AboveOffer}
+use Rattle.table.specs.Table.{Row, row_of, hear_number, not_allowed, above_offer, other, moved}
 use Rattle.receiving.specs.declared.Content.{Content}
 use Rattle.receiving.specs.declared.Content.TheVariants.{Nothing, Opening, Body as Content-as-Body}
 use Rattle.receiving.specs.declared.Carried.{Carried}
@@ -157,7 +156,7 @@ if_read (Reading-as-Refused refusal) refuse next = refuse (reading_number (Readi
 unfoldable pub hear_content : Endpoint → List ℕ → Offer → Message → Received
 hear_content e s pipe m =
     if_carried (carried_by e s pipe m) (λ number. refused e number (type_of m.message)) (λ content.
-    cond (above_offer (hear_row e m)) (refused e (hear_number AboveOffer) (type_of m.message))
+    cond (above_offer (hear_row e m)) (refused e (hear_number (Err AboveOffer)) (type_of m.message))
     (cond (unmatched e m) (refused e 24 (type_of m.message))
     (accepted e m (hear_row e m) content)))
 
@@ -165,7 +164,7 @@ hear_content e s pipe m =
 unfoldable pub hear_message : Endpoint → List ℕ → Offer → Message → Received
 hear_message e s pipe m =
     cond (too_large e m) (refused e 16 (type_of m.message))
-    (cond (forbidden e m) (refused e (hear_number NotAllowed) (type_of m.message))
+    (cond (forbidden e m) (refused e (hear_number (Err NotAllowed)) (type_of m.message))
     (hear_content e s pipe m))
 
 -- 3, 10 to 15

@@ -13,7 +13,7 @@ use control::MessageType;
 use endpoint::Endpoint;
 use message::{Body, Message, Reading, Test};
 use open::{Open, Opening};
-use table::Row;
+use table::{Refusal, Step};
 
 // What is heard beside type, flags and type-data.
 #[derive(Clone, Copy)]
@@ -185,7 +185,7 @@ fn moves_as(message: MessageType, flags: u8) -> MessageType
     message
 }
 
-fn hear_row(e: Endpoint, m: Message) -> Row
+fn hear_row(e: Endpoint, m: Message) -> Result<Step, Refusal>
     ensures { result ≡ hear_row e m }
 {
     let message = m.message;
@@ -321,7 +321,7 @@ fn reply_to(m: Message) -> Reply
 }
 
 // A message that is heard.
-fn accept(e: Endpoint, m: Message, row: Row, content: Content) -> Received
+fn accept(e: Endpoint, m: Message, row: Result<Step, Refusal>, content: Content) -> Received
     ensures { result ≡ accepted e m row content }
 {
     let message = m.message;
@@ -339,7 +339,14 @@ fn accept(e: Endpoint, m: Message, row: Row, content: Content) -> Received
 }
 
 // 18 to 22 by what the message carries, 23, 24, and else it is heard; `row` is what the table says of it.
-fn hear_content(e: Endpoint, s: &[u8], name: &[u8], format: &[u8], m: Message, row: Row) -> Received
+fn hear_content(
+    e: Endpoint,
+    s: &[u8],
+    name: &[u8],
+    format: &[u8],
+    m: Message,
+    row: Result<Step, Refusal>,
+) -> Received
     requires inside { (body_place m.body).at + (body_place m.body).length ≤ length s.now }
     requires rowed { row ≡ hear_row e m }
     ensures { result ≡ hear_content e s.now (offer_of name.now format.now) m }

@@ -3,8 +3,7 @@
 use mathlib.Core.Path.{◌∙◌, ◌≡◌, ap, sym}
 use mathlib.Core.Bool.{false}
 use Rattle.message.proofs.Tests.{passed, failed}
-use Rattle.table.specs.declared.Row.{Row}
-use Rattle.table.specs.Table.{above_offer}
+use Rattle.table.specs.Table.{Row, above_offer}
 use Rattle.receiving.specs.Hearing.{carried_number, hear_row, hear_content, accepted}
 use Rattle.receiving.proofs.hear_content.Goals as goal
 
