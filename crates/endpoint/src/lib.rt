@@ -403,7 +403,9 @@ fn entries_in(block: &[u8]) -> [u8; 48]
     ensures { result ≡ part block.now 16 48 }
 {
     let mut entries = [0; 48];
-    entries.copy_from_slice(&block[16..64]);
+    for i in 0..48 {
+        entries[i] = block[16 + i];
+    }
     entries
 }
 
