@@ -1,13 +1,12 @@
 -- "State block": the record that the block holds, what a good one is, what making gives, and the ways in which a record changes.
-use Rattle.std.specs.Prelude.{ℕ, zero, suc, ◌+◌, ◌-◌, ◌*◌, List, [], ◌∷◌, ◌++◌, Bool, true, cond, ◌&&◌, ◌||◌, drop, length, replicate, take, ltb, leb, eqb}
+use Rattle.std.specs.Prelude.{ℕ, zero, suc, ◌+◌, ◌-◌, ◌*◌, Result, Ok, Err, List, [], ◌∷◌, ◌++◌, Bool, true, cond, ◌&&◌, ◌||◌, drop, length, replicate, take, ltb, leb, eqb}
+use Rattle.numbered.specs.Numbered.{number_of}
 use Rattle.bytes_be.specs.Part.{tabulate, put_at}
 use Rattle.bytes_be.specs.Number.{number_at, to_bytes}
 use Rattle.double.specs.Limit.{most_limit, in_limits}
 use Rattle.endpoint.specs.declared.Entry.{Entry}
 use Rattle.endpoint.specs.declared.Endpoint.{Endpoint}
-use Rattle.endpoint.specs.declared.Given.{Given}
-use Rattle.endpoint.specs.declared.Given.TheVariants.{Good, Bad}
-use Rattle.endpoint.specs.declared.Made.{Made}
+use Rattle.endpoint.specs.declared.BadMaking.{BadMaking}
 
 -- "role (1 client, 2 server)"
 abbrev pub client : ℕ
@@ -131,12 +130,15 @@ unfoldable pub good : Endpoint → Bool
 good e = in_ranges e && count_fits e && wait_fits e && entries_fit e && unconfirmed_fits e && in_limits e.limit
 
 -- "Making tests .. 34": "bad .. flow or limit given"
-unfoldable pub given_of : ℕ → ℕ → Given
-given_of flow limit = cond (good_flow flow && in_limits limit) Good Bad
+unfoldable pub given_of : ℕ → ℕ → Result (Unit {0}) BadMaking
+given_of flow limit = cond (good_flow flow && in_limits limit) (Ok tt) (Err (record {}))
 
-abbrev pub given_number : Given → ℕ
-given_number Good = 0
-given_number Bad = 34
+abbrev pub making_number : BadMaking → ℕ
+making_number why = 34
+
+-- of what is given, and of what is made
+abbrev pub given_number : {A : Type 0} → Result A BadMaking → ℕ
+given_number answer = number_of making_number answer
 
 -- "Both give phase 0 and zeros."
 unfoldable pub fresh_of : ℕ → ℕ → ℕ → Endpoint
@@ -154,13 +156,14 @@ fresh_server flow = fresh_of server flow most_limit
 abbrev pub no_endpoint : Endpoint
 no_endpoint = fresh_of 0 0 0
 
--- "Making tests .. 34."; "All others change no byte.": the record that is made, or what was there before
-unfoldable pub made_of : Endpoint → Endpoint → Made
-made_of before made =
-    record {
-      number = given_number (given_of made.flow made.limit);
-      next = cond (eqb (given_number (given_of made.flow made.limit)) 0) made before;
-    }
+-- "Making tests .. 34.": the record that is made
+unfoldable pub made_of : Endpoint → Result Endpoint BadMaking
+made_of made = cond (good_flow made.flow && in_limits made.limit) (Ok made) (Err (record {}))
+
+-- "All others change no byte.": the record that is made, or what was there before
+abbrev pub made_or : Endpoint → Result Endpoint BadMaking → Endpoint
+made_or before (Ok made) = made
+made_or before (Err why) = before
 
 -- "Phase becomes 5; n, W and entries zero."; so is the count of C-14
 unfoldable pub closed : Endpoint → Endpoint

@@ -14,7 +14,8 @@ use Rattle.bytes_be.specs.Part.{put_at}
 use Rattle.bytes_be.proofs.Parts.{length_put, part_put}
 use Rattle.open.specs.Offer.{Offer}
 use Rattle.endpoint.specs.declared.Endpoint.{Endpoint}
-use Rattle.endpoint.specs.Record.{given_of, given_number, good, made_of}
+use Rattle.endpoint.specs.Record.{given_number, good, made_of}
+use Rattle.endpoint.proofs.Made.{made_accepted}
 use Rattle.endpoint.specs.Block.{bytes_of, is_good, load_of}
 use Rattle.endpoint.proofs.Round.{block_told, byte_six_counts, loaded_good, loaded_sized, stored_loads}
 use Rattle.endpoint.proofs.Stored.{length_block}
@@ -43,7 +44,7 @@ use Rattle.session.specs.Demand.{prompt_ledger}
 use Rattle.session.specs.Laws.{on_records}
 use Rattle.session.proofs.Follows.{Alike, Follows, follows_laws, held_by}
 use Rattle.session.proofs.Ends.{fresh_sound}
-use Rattle.session.proofs.Tables.{accepted_given, fresh_due, tables_laws}
+use Rattle.session.proofs.Tables.{fresh_due, tables_laws}
 use Rattle.entries.proofs.Told.{answer_told, reply_told}
 use Rattle.session.proofs.Demand.{laws_suffice}
 
@@ -186,18 +187,18 @@ module _ (s : List ℕ) (pipe : Offer) (block out : List ℕ) (number : ℕ) (sl
 -- a making: what was made has 64 bytes and is loaded again
 
 made_back : (block : List ℕ) (made : Endpoint) (number : ℕ) (block' : List ℕ) → MakeAnswer made block number block' → number ≡ 0
-    → (given_number (given_of made.flow made.limit) ≡ 0) × (Sound made → load_of block' ≡ made)
-unfolding make_number made_of
+    → (given_number (made_of made) ≡ 0) × (Sound made → load_of block' ≡ made)
+unfolding make_number
 made_back block made number block' answer accepts =
     let accepted = sym answer.numbered ∙ accepts in
     let passed = took_first (eqb (length block) 64) (λ one. omega arith) accepted in
-    let kept : block' ≡ stored made block = rw (accepted, passed.1) at answer.kept in
+    let kept : block' ≡ stored made block = rw ((made_accepted made passed.1).1, passed.0) at answer.kept in
     (passed.1, λ sound. ap load_of kept ∙ stored_back made sound block (eqb-true (length block) 64 passed.0))
 
 pub made_are_fresh : MadeAreFresh
 made_are_fresh making memory block answer =
     let back = made_back memory (fresh_by making) 0 block answer refl in
-    let given = accepted_given _ back.0 in
+    let given = (made_accepted (fresh_by making) back.0).0 in
     let loads = back.1 (fresh_sound making given) in
     record { given = given; holds = loads; none_due = ap prompt_ledger loads ∙ fresh_due making }
 
@@ -205,10 +206,9 @@ module _ (entries : Entries) (meets : Meets entries) where
   entries_make : (block : List ℕ) (making : Making) → (entries.makes making block).number ≡ 0
       → ((tables.make (load_of block) making).number ≡ 0)
       × (Sound (tables.make (load_of block) making).next → load_of (entries.makes making block).next ≡ (tables.make (load_of block) making).next)
-  unfolding made_of
   entries_make block making accepts =
       let back = made_back block (fresh_by making) _ _ (meets.making making block) accepts in
-      (back.0, rw back.0 back.1)
+      (back.0, rw (made_accepted (fresh_by making) back.0).1 back.1)
 
   entries_write : (block : List ℕ) (call : Call) (out : List ℕ) → Sound (load_of block) → Fits call
       → (tables.send (load_of block) call (length out)).number ≡ 0 → Sound (tables.send (load_of block) call (length out)).next

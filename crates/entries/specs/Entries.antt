@@ -1,10 +1,11 @@
 -- Demand 3 for the C entries: two 64-byte blocks, each changed only by `fbdp_make_client`, `fbdp_make_server`, the sends and `fbdp_receive`, with
 -- any outputs. What is queued are the bytes that an entry wrote to its output, and what is told is read off the numbers that it gave.
-use Rattle.std.specs.Prelude.{ℕ, ◌+◌, ◌<◌, ◌≡◌, List, [], ◌∷◌, cond, true, get_or, length, take, eqb}
+use Rattle.std.specs.Prelude.{ℕ, ◌+◌, ◌<◌, ◌≡◌, Result, List, [], ◌∷◌, cond, true, get_or, length, take, eqb}
 use Rattle.bytes_be.specs.Part.{part_at}
 use Rattle.open.specs.Offer.{Offer}
-use Rattle.endpoint.specs.declared.Made.{Made}
-use Rattle.endpoint.specs.Record.{made_of, no_endpoint}
+use Rattle.endpoint.specs.declared.BadMaking.{BadMaking}
+use Rattle.endpoint.specs.declared.Endpoint.{Endpoint}
+use Rattle.endpoint.specs.Record.{made_of}
 use Rattle.endpoint.specs.Block.{is_good, load_of}
 use Rattle.receiving.specs.declared.Received.{Received}
 use Rattle.receiving.specs.Receiving.{answer_number, replied}
@@ -14,7 +15,7 @@ use Rattle.sending.specs.Sending.{left_by}
 use Rattle.machine.specs.Good.{Fits}
 use Rattle.machine.specs.Bodies.{tells_body}
 use Rattle.machine.specs.Programs.{Making, fresh_by, Told, MakeOutcome, SendOutcome, ReceiveOutcome, Program}
-use Rattle.fbdp.specs.Blocks.{MakeAnswer, SendOnBlock, ReceiveOnBlock, kept_after, kept_by, make_number, received_on, reply_length, sent_on, stored}
+use Rattle.fbdp.specs.Blocks.{MakeAnswer, SendOnBlock, ReceiveOnBlock, kept_after, kept_by, made_in, make_number, received_on, reply_length, sent_on}
 use Rattle.fbdp.specs.Slots.{Slots, answer_slots, in_order, slots_in}
 use Rattle.session.specs.World.{End, Going, asked_for, World, side}
 use Rattle.session.specs.Demand.{View, prompt_ledger, Fresh, Holds, DemandOf}
@@ -55,12 +56,8 @@ pub record Meets (entries : Entries) : Type 0 where
       (entries.receives s pipe block out).out
 
 -- what the tables make of a making, a call and a message
-abbrev pub make_result : Made → List ℕ → MakeOutcome (List ℕ)
-make_result made block =
-    record {
-      number = make_number made block;
-      next = cond (eqb (make_number made block) 0) (stored made.next block) block;
-    }
+abbrev pub make_result : Result Endpoint BadMaking → List ℕ → MakeOutcome (List ℕ)
+make_result made block = record { number = make_number made block; next = made_in made block }
 
 abbrev pub send_result : Sent → Call → List ℕ → List ℕ → SendResult
 send_result sent call block out =
@@ -84,7 +81,7 @@ receive_result received block out =
 unfoldable pub by_tables : Entries
 by_tables =
     record {
-      makes = λ making block. make_result (made_of no_endpoint (fresh_by making)) block;
+      makes = λ making block. make_result (made_of (fresh_by making)) block;
       sends = λ call block out. send_result (sent_on block call (length out)) call block out;
       receives = λ s pipe block out. receive_result (received_on block s pipe (length out)) block out;
     }

@@ -1,11 +1,11 @@
 -- What each entry on a state block answers and leaves: making, the five sends and receive, each with an equation for the number, for every
 -- output of numbers, for the block and for the output. A call or a message is answered by the record in the block: 1 where it is not good.
-use Rattle.std.specs.Prelude.{ℕ, ◌≡◌, List, Bool, true, false, cond, length, replicate, eqb}
+use Rattle.std.specs.Prelude.{ℕ, ◌≡◌, Result, Ok, Err, List, Bool, true, false, cond, length, replicate, eqb}
 use Rattle.bytes_be.specs.Part.{put_at}
 use Rattle.open.specs.Offer.{Offer}
+use Rattle.endpoint.specs.declared.BadMaking.{BadMaking}
 use Rattle.endpoint.specs.declared.Endpoint.{Endpoint}
-use Rattle.endpoint.specs.declared.Made.{Made}
-use Rattle.endpoint.specs.Record.{made_of, no_endpoint}
+use Rattle.endpoint.specs.Record.{given_number, made_of}
 use Rattle.endpoint.specs.Block.{bytes_of, is_good, load_of}
 use Rattle.receiving.specs.declared.Answer.{Answer}
 use Rattle.receiving.specs.declared.Answer.TheVariants.{Heard, Stays, Closes}
@@ -23,17 +23,22 @@ use Rattle.fbdp.specs.Slots.{answer_slots, in_order}
 unfoldable pub stored : Endpoint → List ℕ → List ℕ
 stored e block = put_at block 0 (bytes_of e)
 
--- "Making tests 1 (length only), 34.": what was made is stored in a block of 64 bytes, and else the block is as it was
-unfoldable pub make_number : Made → List ℕ → ℕ
-make_number made block = cond (eqb (length block) 64) made.number 1
+-- "Making tests 1 (length only), 34."
+unfoldable pub make_number : Result Endpoint BadMaking → List ℕ → ℕ
+make_number made block = cond (eqb (length block) 64) (given_number made) 1
 
-pub record Kept (made : Made) (before : List ℕ) (number : ℕ) (after : List ℕ) : Type 0 where
+-- "All others change no byte.": what was made is stored in a block of 64 bytes, and else the block is as it was
+abbrev pub made_in : Result Endpoint BadMaking → List ℕ → List ℕ
+made_in (Ok made) block = cond (eqb (length block) 64) (stored made block) block
+made_in (Err why) block = block
+
+pub record Kept (made : Result Endpoint BadMaking) (before : List ℕ) (number : ℕ) (after : List ℕ) : Type 0 where
   pub numbered : number ≡ make_number made before
-  pub kept : after ≡ cond (eqb (make_number made before) 0) (stored made.next before) before
+  pub kept : after ≡ made_in made before
 
 -- `fbdp_make_client` and `fbdp_make_server`, of the fresh endpoint that they make
 abbrev pub MakeAnswer : Endpoint → List ℕ → ℕ → List ℕ → Type 0
-MakeAnswer fresh before number after = Kept (made_of no_endpoint fresh) before number after
+MakeAnswer fresh before number after = Kept (made_of fresh) before number after
 
 -- what comes of a call on a block
 abbrev pub sent_on : List ℕ → Call → ℕ → Sent

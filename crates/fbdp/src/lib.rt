@@ -13,7 +13,8 @@ ghost use Rattle.fbdp.specs.Entries.{InterfaceAnswer, frame_slots, FrameAnswer, 
 
 use bundle::BadBundle;
 use bytes_be::Place;
-use endpoint::Made;
+use endpoint::{BadMaking, Endpoint};
+use numbered::Numbered;
 use receiving::{Answer, Content, Heard, Reply};
 use sending::{Report, Sent};
 use terms::{Term, Value};
@@ -91,18 +92,19 @@ pub fn fbdp_lookup(client: &[u8], defaults: &[u8], key: &[u8], slots: &mut [u64;
 }
 
 // Keeps what was made in a block of 64 bytes.
-fn keep(made: Made, block: &mut [u8]) -> u32
+fn keep(made: Result<Endpoint, BadMaking>, block: &mut [u8]) -> u32
     ensures { Kept made block.old result block.new }
 {
-    let next = made.next;
     if block.len() != 64 {
         return 1;
     }
-    if made.number != 0 {
-        return made.number as u32;
+    match made {
+        Ok(fresh) => {
+            fresh.store(block);
+            0
+        }
+        Err(bad) => bad.number() as u32,
     }
-    endpoint::store(next, block);
-    0
 }
 
 // Makes a fresh client of this flow and limit.
@@ -128,7 +130,7 @@ fn finish(sent: Sent, block: &mut [u8], written: &mut u64) -> u32
     if sent.number != 0 {
         return sent.number as u32;
     }
-    endpoint::store(next, block);
+    next.store(block);
     0
 }
 
@@ -160,7 +162,7 @@ pub fn fbdp_send_open(
 ) -> u32
     ensures { SendOnBlock (OPEN (offer_of name.now format.now)) block.old out.old result written.new block.new out.new }
 {
-    let e = endpoint::load(block);
+    let e = Endpoint::load(block);
     finish(sending::send_open(e, name, format, out), block, written)
 }
 
@@ -168,7 +170,7 @@ pub fn fbdp_send_open(
 pub fn fbdp_send_ready(block: &mut [u8], count: u16, out: &mut [u8], written: &mut u64) -> u32
     ensures { SendOnBlock (READY count) block.old out.old result written.new block.new out.new }
 {
-    let e = endpoint::load(block);
+    let e = Endpoint::load(block);
     finish(sending::send_ready(e, count, out), block, written)
 }
 
@@ -183,7 +185,7 @@ pub fn fbdp_send_data(
 ) -> u32
     ensures { SendOnBlock (DATA (datum_of (report_of type_data how) body.now)) block.old out.old result written.new block.new out.new }
 {
-    let e = endpoint::load(block);
+    let e = Endpoint::load(block);
     let report = report_of(type_data, how);
     finish(sending::send_data(e, report, body, out), block, written)
 }
@@ -198,7 +200,7 @@ pub fn fbdp_send_noop(
 ) -> u32
     ensures { SendOnBlock (NOOP type_data (is_chosen asking how)) block.old out.old result written.new block.new out.new }
 {
-    let e = endpoint::load(block);
+    let e = Endpoint::load(block);
     let ask = is_chosen(1, how);
     finish(sending::send_noop(e, type_data, ask, out), block, written)
 }
@@ -207,7 +209,7 @@ pub fn fbdp_send_noop(
 pub fn fbdp_send_close(block: &mut [u8], code: u16, out: &mut [u8], written: &mut u64) -> u32
     ensures { SendOnBlock (CLOSE code) block.old out.old result written.new block.new out.new }
 {
-    let e = endpoint::load(block);
+    let e = Endpoint::load(block);
     finish(sending::send_close(e, code, out), block, written)
 }
 
@@ -320,7 +322,7 @@ pub fn fbdp_receive(
 ) -> u32
     ensures { ReceiveOnBlock message.now (offer_of name.now format.now) block.old out.old result heard.new block.new out.new }
 {
-    let e = endpoint::load(block);
+    let e = Endpoint::load(block);
     let received = receiving::receive(e, message, name, format, out);
     let next = received.next;
     let answer = received.answer;
@@ -330,6 +332,6 @@ pub fn fbdp_receive(
     if is_staying(answer) {
         return number as u32;
     }
-    endpoint::store(next, block);
+    next.store(block);
     number as u32
 }

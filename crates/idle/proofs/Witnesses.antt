@@ -11,7 +11,7 @@ use Rattle.control.specs.declared.MessageType.TheVariants.{Open}
 use Rattle.control.specs.Frame.{ack_reply, ack_request, type_of}
 use Rattle.double.specs.Limit.{most_limit}
 use Rattle.open.specs.Offer.{no_offer}
-use Rattle.endpoint.specs.Record.{fresh, opening, offer, batch, producer, consumer, fresh_client, fresh_server, fresh_of, given_of, made_of}
+use Rattle.endpoint.specs.Record.{fresh, opening, offer, batch, producer, consumer, fresh_client, fresh_server, fresh_of, made_of}
 use Rattle.endpoint.specs.Block.{load_of}
 use Rattle.sending.specs.Calls.{OPEN, READY, NOOP}
 use Rattle.machine.proofs.Computing.{computing}
@@ -28,11 +28,11 @@ abbrev pub made_server : List ℕ
 made_server = stored (fresh_server consumer) (replicate 64 0)
 
 pub client_made : MakeAnswer (fresh_client producer most_limit) (replicate 64 0) 0 made_client
-unfolding fresh_of make_number made_of given_of
+unfolding fresh_of make_number made_of
 client_made = record { numbered = refl; kept = refl }
 
 pub server_made : MakeAnswer (fresh_server consumer) (replicate 64 0) 0 made_server
-unfolding fresh_of make_number made_of given_of
+unfolding fresh_of make_number made_of
 server_made = record { numbered = refl; kept = refl }
 
 -- an output with room for the longest message, which is the OPEN

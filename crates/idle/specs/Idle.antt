@@ -3,7 +3,7 @@
 -- Each is rejected for its vice alone, whatever else it does; and for each there is a program that has it.
 -- A program is what the C entries could be: it gives a result for every making, every send and every receive on a block (`Entries` of `entries`). The
 -- tables are one that meets the contracts, and any other that meets them gives the same.
-use Rattle.std.specs.Prelude.{ℕ, ◌≤◌, ◌<◌, ◌≡◌, List, ◌∷◌, cond, length, replicate, leb, eqb}
+use Rattle.std.specs.Prelude.{ℕ, ◌≤◌, ◌<◌, ◌≡◌, List, ◌∷◌, cond, length, replicate, leb, eqb, Err}
 use Rattle.bytes_be.specs.Number.{to_bytes}
 use Rattle.bytes_be.specs.Part.{part, put_at}
 use Rattle.control.specs.declared.MessageType.TheVariants.{Noop}
@@ -12,7 +12,7 @@ use Rattle.open.specs.Offer.{Offer}
 use Rattle.endpoint.specs.Record.{opening}
 use Rattle.endpoint.specs.Block.{load_of}
 use Rattle.sending.specs.Calls.{Call}
-use Rattle.table.specs.declared.Row.TheVariants.{NotAllowed}
+use Rattle.table.specs.declared.Refusal.TheVariants.{NotAllowed}
 use Rattle.table.specs.Table.{send_number}
 use Rattle.machine.specs.Good.{Fits}
 use Rattle.fbdp.specs.Slots.{slots_in}
@@ -129,7 +129,7 @@ echoing =
     record {
       makes = by_tables.makes;
       sends = λ call block out.
-          cond (leb (load_of block).phase opening) (by_tables.sends call block out) (refused_call (send_number NotAllowed) block out);
+          cond (leb (load_of block).phase opening) (by_tables.sends call block out) (refused_call (send_number (Err NotAllowed)) block out);
       receives = λ s pipe block out.
           cond (leb (load_of block).phase opening) (by_tables.receives s pipe block out) (echo s block out);
     }

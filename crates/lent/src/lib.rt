@@ -2,14 +2,15 @@
 // was, and a refused send record and output.
 #![tactic(auto)]
 
-ghost use Rattle.std.specs.Prelude.{◌≡◌, cond, eqb};
+ghost use Rattle.std.specs.Prelude.{◌≡◌};
 ghost use Rattle.open.specs.Offer.{offer_of};
-ghost use Rattle.endpoint.specs.Record.{fresh_client, fresh_server, made_of};
+ghost use Rattle.endpoint.specs.Record.{fresh_client, fresh_server, given_number, made_or};
 ghost use Rattle.sending.specs.Calls.{datum_of, OPEN, READY, DATA, NOOP, CLOSE};
 ghost use Rattle.lent.specs.Making.{MakeOnLent};
 ghost use Rattle.lent.specs.Lent.{SendOnLent, ReceiveOnLent};
 
-use endpoint::{Endpoint, Made};
+use endpoint::{BadMaking, Endpoint};
+use numbered::Numbered;
 use receiving::{Answer, Reply};
 use sending::Report;
 
@@ -29,47 +30,32 @@ pub struct Outcome {
     pub reply: Reply,
 }
 
-// What was made, or the record as it was where nothing was.
-fn remade(e: Endpoint, made: Made) -> Made
-    ensures { result ≡ cond (eqb made.number 0) made (record { number = made.number; next = e }) }
+// Keeps what was made, or the record as it was where nothing was.
+fn remake(e: &mut Endpoint, made: Result<Endpoint, BadMaking>) -> u8
+    ensures answered { result ≡ given_number made }
+    ensures changed { e.new ≡ made_or e.old made }
 {
-    if made.number != 0 {
-        return Made {
-            number: made.number,
-            next: e,
-        };
+    match made {
+        Ok(fresh) => {
+            *e = fresh;
+            0
+        }
+        Err(bad) => bad.number(),
     }
-    made
-}
-
-fn remade_client(e: Endpoint, flow: u8, limit: u32) -> Made
-    ensures { result ≡ made_of e (fresh_client flow limit) }
-{
-    remade(e, endpoint::make_client(flow, limit))
-}
-
-fn remade_server(e: Endpoint, flow: u8) -> Made
-    ensures { result ≡ made_of e (fresh_server flow) }
-{
-    remade(e, endpoint::make_server(flow))
 }
 
 // Makes a client of this flow and limit.
 pub fn make_client(e: &mut Endpoint, flow: u8, limit: u32) -> u8
     ensures { MakeOnLent e.old (fresh_client flow limit) result e.new }
 {
-    let made = remade_client(*e, flow, limit);
-    *e = made.next;
-    made.number
+    remake(e, endpoint::make_client(flow, limit))
 }
 
 // Makes a server of this flow.
 pub fn make_server(e: &mut Endpoint, flow: u8) -> u8
     ensures { MakeOnLent e.old (fresh_server flow) result e.new }
 {
-    let made = remade_server(*e, flow);
-    *e = made.next;
-    made.number
+    remake(e, endpoint::make_server(flow))
 }
 
 // Sends OPEN for this pipe name and this format.

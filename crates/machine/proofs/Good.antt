@@ -15,8 +15,7 @@ use Rattle.endpoint.specs.declared.Endpoint.{Endpoint}
 use Rattle.endpoint.specs.declared.Entry.{Entry}
 use Rattle.endpoint.specs.Record.{asked, awaitable, producer, confirmed}
 use Rattle.endpoint.proofs.StaysGood.{asked_good, asked_sized, confirmed_good, confirmed_sized, limited_good, limited_sized}
-use Rattle.table.specs.declared.Row.{Row}
-use Rattle.table.specs.Table.{moved, not_allowed, other}
+use Rattle.table.specs.Table.{Row, moved, not_allowed, other}
 use Rattle.receiving.specs.declared.Carried.TheVariants.{Content as Carried-as-Content}
 use Rattle.receiving.specs.declared.Content.{Content}
 use Rattle.receiving.specs.declared.Content.TheVariants.{Nothing, Opening, Body as Content-as-Body}

@@ -17,8 +17,7 @@ use Rattle.message.specs.declared.Message.{Message}
 use Rattle.message.specs.Reading.{reading_of}
 use Rattle.endpoint.specs.declared.Endpoint.{Endpoint}
 use Rattle.endpoint.specs.Record.{shut}
-use Rattle.table.specs.declared.Row.TheVariants.{To}
-use Rattle.table.specs.Table.{other}
+use Rattle.table.specs.Table.{To, other}
 use Rattle.receiving.specs.declared.Carried.TheVariants.{Content as Carried-as-Content}
 use Rattle.receiving.specs.declared.Content.{Content}
 use Rattle.receiving.specs.Hearing.{accepted, forbidden, hear_content, hear_message, hear_of, hear_row, too_large, carried_by, unmatched, moves_as}

@@ -2,8 +2,7 @@
 use mathlib.Core.Path.{◌≡◌, refl}
 use mathlib.Core.Bool.{Bool, true, false, cond}
 use lib.Dec.{eqb}
-use Rattle.table.specs.declared.Row.{Row}
-use Rattle.table.specs.Table.{moved}
+use Rattle.table.specs.Table.{Row, moved}
 use Rattle.receiving.specs.declared.Received.{Received}
 use Rattle.receiving.specs.Hearing.{accepted}
 use Rattle.receiving.specs.Refusing.{refused, unchanged}

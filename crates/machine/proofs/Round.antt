@@ -19,8 +19,7 @@ use Rattle.message.specs.Reading.{strange_flags}
 use Rattle.endpoint.specs.declared.Endpoint.{Endpoint}
 use Rattle.endpoint.specs.Record.{limited, good}
 use Rattle.endpoint.proofs.Told.{good_told}
-use Rattle.table.specs.declared.Row.TheVariants.{To}
-use Rattle.table.specs.Table.{at_row}
+use Rattle.table.specs.Table.{To, at_row}
 use Rattle.receiving.specs.declared.Carried.TheVariants.{Content as Carried-as-Content}
 use Rattle.receiving.specs.declared.Content.{Content}
 use Rattle.receiving.specs.declared.Content.TheVariants.{Nothing, Opening as Content-as-Opening, Body as Content-as-Body}

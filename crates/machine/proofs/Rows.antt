@@ -5,6 +5,7 @@ use mathlib.Core.Bool.{Bool, ◌&&◌, ◌||◌, cond, false, true}
 use native.Mathlib.Omega.{arith}
 use lib.Dec.{eqb, leb}
 use borrow.Author.Tests.{eqb-false, eqb-true, le-leb, leb-true, ne_eqb}
+use Rattle.std.specs.Prelude.{Err}
 use Rattle.bytes_be.proofs.Tests.{both_true, clash, either_way}
 use Rattle.control.specs.declared.MessageType.{MessageType}
 use Rattle.control.specs.declared.MessageType.TheVariants.{Open, Ready, Noop, Data, Close}
@@ -12,9 +13,8 @@ use Rattle.endpoint.specs.declared.Endpoint.{Endpoint}
 use Rattle.endpoint.specs.Record.{at_phase, batch, client, closed, count_fits, fresh, idle, offer, opening, producer, shut, wait_fits}
 use Rattle.endpoint.proofs.StaysGood.{closed_good, closed_sized, phase_good, phase_sized}
 use Rattle.endpoint.proofs.Told.{good_told}
-use Rattle.table.specs.declared.Row.{Row}
-use Rattle.table.specs.declared.Row.TheVariants.{NotAllowed, To}
-use Rattle.table.specs.Table.{allowed, at_row, begun, close_row, data_row, moved, noop_row, not_allowed, open_row, ready_row, row_of, up_to}
+use Rattle.table.specs.declared.Refusal.TheVariants.{NotAllowed}
+use Rattle.table.specs.Table.{Row, To, allowed, at_row, begun, close_row, data_row, moved, noop_row, not_allowed, open_row, ready_row, row_of, up_to}
 use Rattle.machine.specs.Good.{Sound}
 
 -- the endpoint in another phase, with another n
@@ -152,14 +152,14 @@ module _ (e : Endpoint) (sound : Sound e) where
 
 -- no row leads on from phase 5
 
-never : (t : Bool) (row : Row) → cond (t && false) row NotAllowed ≡ NotAllowed
+never : (t : Bool) (row : Row) → cond (t && false) row (Err NotAllowed) ≡ Err NotAllowed
 never true row = refl
 never false row = refl
 
-shut_barred : (role flow n : ℕ) (message : MessageType) (type-data : ℕ) → row_of role flow shut n message type-data ≡ NotAllowed
+shut_barred : (role flow n : ℕ) (message : MessageType) (type-data : ℕ) → row_of role flow shut n message type-data ≡ Err NotAllowed
 unfolding open_row ready_row data_row noop_row close_row
 shut_barred role flow n Open type-data = never (eqb role client) (To opening 0)
-shut_barred role flow n Ready type-data = either_way (eqb role client) NotAllowed
+shut_barred role flow n Ready type-data = either_way (eqb role client) (Err NotAllowed)
 shut_barred role flow n Noop type-data = refl
 shut_barred role flow n Data type-data = never (eqb flow producer) (begun batch (n - 1))
 shut_barred role flow n Close type-data = refl
@@ -169,5 +169,5 @@ row_alive role flow phase n message type-data next count leads = ne_eqb phase sh
   where
     still : phase ≡ shut → ⊥
     still is-shut =
-        let same : NotAllowed ≡ To next count = sym (shut_barred role flow n message type-data) ∙ ap (λ (p : ℕ). row_of role flow p n message type-data) (sym is-shut) ∙ leads in
+        let same : Err NotAllowed ≡ To next count = sym (shut_barred role flow n message type-data) ∙ ap (λ (p : ℕ). row_of role flow p n message type-data) (sym is-shut) ∙ leads in
         clash cc

@@ -7,21 +7,22 @@ use native.Mathlib.Omega.{arith}
 use lib.Dec.{eqb, leb, ltb}
 use lib.ListN.{drop}
 use borrow.Author.Tests.{eq-eqb, eqb-true, leb-false, leb-true, lt-ltb, ltb-true, ne_eqb, not-false}
+use Rattle.std.specs.Prelude.{Result, Ok, Err}
 use Rattle.bytes_be.proofs.Tests.{both_true, clash}
 use Rattle.control.specs.declared.MessageType.{MessageType}
 use Rattle.control.specs.declared.MessageType.TheVariants.{Open, Ready, Noop, Data, Close}
 use Rattle.control.specs.Frame.{ack_reply, type_of}
 use Rattle.open.specs.Offer.{Offer}
 use Rattle.message.specs.declared.Message.{Message}
+use Rattle.double.specs.Limit.{in_limits}
+use Rattle.endpoint.specs.declared.BadMaking.{BadMaking}
 use Rattle.endpoint.specs.declared.Endpoint.{Endpoint}
 use Rattle.endpoint.specs.declared.Entry.{Entry}
-use Rattle.endpoint.specs.Record.{asked, at_phase, awaited, batch, capacity, client, closed, confirmed, entry_at, fresh_of, given_number, given_of, idle, limited, made_of, offer, oldest, opening, producer, fresh, shut, unconfirmed_with, unconfirmed_without}
+use Rattle.endpoint.specs.Record.{asked, at_phase, awaited, batch, capacity, client, closed, confirmed, entry_at, fresh_of, given_number, good_flow, idle, limited, made_of, made_or, offer, oldest, opening, producer, fresh, shut, unconfirmed_with, unconfirmed_without}
 use Rattle.endpoint.proofs.Awaited.{oldest_awaited}
 use Rattle.endpoint.proofs.Reports.{reports, reports_few}
 use Rattle.endpoint.proofs.Told.{good_told}
-use Rattle.table.specs.declared.Row.{Row}
-use Rattle.table.specs.declared.Row.TheVariants.{To}
-use Rattle.table.specs.Table.{allowed, at_row, begun, close_row, data_row, moved, noop_row, not_allowed, open_row, other, ready_row, row_of}
+use Rattle.table.specs.Table.{Row, To, allowed, at_row, begun, close_row, data_row, moved, noop_row, not_allowed, open_row, other, ready_row, row_of}
 use Rattle.receiving.specs.declared.Content.{Content}
 use Rattle.receiving.specs.declared.Content.TheVariants.{Nothing, Opening, Body as Content-as-Body}
 use Rattle.receiving.specs.declared.Received.{Received}
@@ -167,14 +168,14 @@ fresh_none (AsServer flow) = refl
 
 pub making_leaves : MakingLeaves
 unfolding made_of
-making_leaves e making = go (eqb number 0) refl
+making_leaves e making = go (good_flow (fresh_by making).flow && in_limits (fresh_by making).limit)
   where
-    number : ℕ
-    number = given_number (given_of (fresh_by making).flow (fresh_by making).limit)
+    made : Bool → Result Endpoint BadMaking
+    made t = cond t (Ok (fresh_by making)) (Err (record {}))
 
-    go : (t : Bool) → eqb number 0 ≡ t → Leaves (if_accepted number Cleared) e.unconfirmed (cond t (fresh_by making) e).unconfirmed
-    go true accepts = subst (λ (t : Bool). Leaves (cond t Cleared Same) e.unconfirmed (fresh_by making).unconfirmed) (sym accepts) (fresh_none making)
-    go false refuses = refused_leaves number e.unconfirmed Cleared refuses
+    go : (t : Bool) → Leaves (if_accepted (given_number (made t)) Cleared) e.unconfirmed (made_or e (made t)).unconfirmed
+    go true = fresh_none making
+    go false = refl
 
 -- ---- receives
 

@@ -1,11 +1,11 @@
 -- A program that makes, sends and receives: what it answers, tells and writes, over states and outputs of any type. `tables` is the program that the
 -- contracts of `endpoint`, `sending` and `receiving` describe.
-use Rattle.std.specs.Prelude.{ℕ, List, [], ◌∷◌}
+use Rattle.std.specs.Prelude.{ℕ, Result, List, [], ◌∷◌}
 use Rattle.control.specs.Frame.{type_of}
 use Rattle.open.specs.Offer.{Offer}
 use Rattle.endpoint.specs.declared.Endpoint.{Endpoint}
-use Rattle.endpoint.specs.Record.{fresh_client, fresh_server, made_of}
-use Rattle.endpoint.specs.declared.Made.{Made}
+use Rattle.endpoint.specs.Record.{fresh_client, fresh_server, given_number, made_of, made_or}
+use Rattle.endpoint.specs.declared.BadMaking.{BadMaking}
 use Rattle.receiving.specs.declared.Answer.{Answer}
 use Rattle.receiving.specs.declared.Answer.TheVariants.{Heard, Stays, Closes}
 use Rattle.receiving.specs.declared.Reply.{Reply}
@@ -97,16 +97,16 @@ outcome_of s received =
       next = received.next;
     }
 
--- what came of a making
-abbrev pub made_as : Made → MakeOutcome Endpoint
-made_as made = record { number = made.number; next = made.next }
+-- what came of a making over the record before
+abbrev pub made_as : Endpoint → Result Endpoint BadMaking → MakeOutcome Endpoint
+made_as before made = record { number = given_number made; next = made_or before made }
 
 -- outputs are told by their lengths
 abbrev pub tables : Program Endpoint ℕ
 tables =
     record {
       room = λ out. out;
-      make = λ e making. made_as (made_of e (fresh_by making));
+      make = λ e making. made_as e (made_of (fresh_by making));
       send = λ e call out. record { number = (send_of e call out).number; bytes = written e call; next = (send_of e call out).next };
       receive = λ e m pipe out. outcome_of m.bytes (received_of e m.bytes pipe out);
     }

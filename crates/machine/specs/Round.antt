@@ -15,8 +15,7 @@ use Rattle.message.specs.declared.Message.{Message}
 use Rattle.message.specs.Reading.{body_place, reading_of}
 use Rattle.endpoint.specs.declared.Endpoint.{Endpoint}
 use Rattle.endpoint.specs.Record.{confirmed, limited}
-use Rattle.table.specs.declared.Row.TheVariants.{To}
-use Rattle.table.specs.Table.{at_row}
+use Rattle.table.specs.Table.{To, at_row}
 use Rattle.receiving.specs.declared.Content.{Content}
 use Rattle.receiving.specs.declared.Content.TheVariants.{Nothing, Opening as Content-as-Opening, Body as Content-as-Body}
 use Rattle.receiving.specs.declared.Answer.TheVariants.{Heard}

@@ -10,8 +10,7 @@ use Rattle.control.specs.declared.MessageType.{MessageType}
 use Rattle.control.specs.declared.MessageType.TheVariants.{Open, Ready, Noop, Data, Close}
 use Rattle.endpoint.specs.declared.Endpoint.{Endpoint}
 use Rattle.endpoint.specs.Record.{client, server, producer, consumer, shut, capacity, good_flow, in_ranges}
-use Rattle.table.specs.declared.Row.{Row}
-use Rattle.table.specs.Table.{open_row, ready_row, data_row, noop_row, close_row, row_of, other}
+use Rattle.table.specs.Table.{Row, open_row, ready_row, data_row, noop_row, close_row, row_of, other}
 use Rattle.receiving.specs.Hearing.{confirms, moves_as, hear_row}
 use Rattle.receiving.specs.Rows.{open_heard, ready_at_client, ready_at_server, data_heard, noop_heard, close_heard, heard_as, RowsAreMirrored}
 

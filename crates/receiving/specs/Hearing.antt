@@ -13,9 +13,8 @@ use Rattle.message.specs.declared.Refusal.{Refusal as Refusal-of-message}
 use Rattle.message.specs.Reading.{body_place, reading_of, reading_number, said_in}
 use Rattle.endpoint.specs.declared.Endpoint.{Endpoint}
 use Rattle.endpoint.specs.Record.{shut, oldest, confirmed, limited}
-use Rattle.table.specs.declared.Row.{Row}
-use Rattle.table.specs.declared.Row.TheVariants.{NotAllowed, AboveOffer}
-use Rattle.table.specs.Table.{row_of, hear_number, not_allowed, above_offer, other, moved}
+use Rattle.table.specs.declared.Refusal.TheVariants.{NotAllowed, AboveOffer}
+use Rattle.table.specs.Table.{Row, row_of, hear_number, not_allowed, above_offer, other, moved}
 use Rattle.receiving.specs.declared.Content.{Content}
 use Rattle.receiving.specs.declared.Content.TheVariants.{Nothing, Opening, Body as Content-as-Body}
 use Rattle.receiving.specs.declared.Carried.{Carried}
@@ -153,7 +152,7 @@ if_read (Err refusal) refuse next = refuse (reading_number (Err refusal)) (said_
 unfoldable pub hear_content : Endpoint → List ℕ → Offer → Message → Received
 hear_content e s pipe m =
     if_carried (carried_by e s pipe m) (λ number. refused e number (type_of m.message)) (λ content.
-    cond (above_offer (hear_row e m)) (refused e (hear_number AboveOffer) (type_of m.message))
+    cond (above_offer (hear_row e m)) (refused e (hear_number (Err AboveOffer)) (type_of m.message))
     (cond (unmatched e m) (refused e 24 (type_of m.message))
     (accepted e m (hear_row e m) content)))
 
@@ -161,7 +160,7 @@ hear_content e s pipe m =
 unfoldable pub hear_message : Endpoint → List ℕ → Offer → Message → Received
 hear_message e s pipe m =
     cond (too_large e m) (refused e 16 (type_of m.message))
-    (cond (forbidden e m) (refused e (hear_number NotAllowed) (type_of m.message))
+    (cond (forbidden e m) (refused e (hear_number (Err NotAllowed)) (type_of m.message))
     (hear_content e s pipe m))
 
 -- 3, 10 to 15

@@ -6,9 +6,7 @@ use Rattle.control.specs.declared.MessageType.TheVariants.{Open, Ready, Noop, Da
 use Rattle.message.specs.declared.Message.{Message}
 use Rattle.endpoint.specs.declared.Endpoint.{Endpoint}
 use Rattle.endpoint.specs.Record.{client, server, consumer, fresh, opening, idle, offer, batch, shut, in_ranges}
-use Rattle.table.specs.declared.Row.{Row}
-use Rattle.table.specs.declared.Row.TheVariants.{To}
-use Rattle.table.specs.Table.{allowed, up_to, begun}
+use Rattle.table.specs.Table.{Row, To, allowed, up_to, begun}
 use Rattle.receiving.specs.Hearing.{confirms, hear_row}
 
 -- "OPEN: server in phase 0; becomes 1"; its limit by `limited_by`

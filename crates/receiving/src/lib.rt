@@ -13,7 +13,7 @@ use control::MessageType;
 use endpoint::Endpoint;
 use message::Message;
 use open::{Open, Opening};
-use table::Row;
+use table::{Refusal, Step};
 
 // What is heard beside type, flags and type-data.
 #[derive(Clone, Copy)]
@@ -117,7 +117,7 @@ fn refuse(e: Endpoint, number: u8, said: u8) -> Received
     ensures { result ≡ refused e number said }
 {
     let silent = is_silent(e, number, said);
-    let next = endpoint::closed(e);
+    let next = e.closed();
     if silent {
         return Received {
             answer: Answer::Closes(number),
@@ -185,7 +185,7 @@ fn moves_as(message: MessageType, flags: u8) -> MessageType
     message
 }
 
-fn hear_row(e: Endpoint, m: Message) -> Row
+fn hear_row(e: Endpoint, m: Message) -> Result<Step, Refusal>
     ensures { result ≡ hear_row e m }
 {
     let message = m.message;
@@ -268,7 +268,7 @@ fn carried_number(carried: Carried) -> u8
 fn matches_oldest(e: Endpoint, message: MessageType, type_data: u16) -> bool
     ensures { result ≡ matches_oldest e message type_data }
 {
-    let oldest = endpoint::oldest(e);
+    let oldest = e.oldest();
     (0 < e.w) & (oldest.message == u8::from(message)) & (oldest.type_data == type_data)
 }
 
@@ -286,7 +286,7 @@ fn confirmed_by(e: Endpoint, m: Message) -> Endpoint
     let message = m.message;
     let quiet = confirms(message, m.flags);
     if quiet {
-        return endpoint::confirmed(e);
+        return e.confirmed();
     }
     e
 }
@@ -299,7 +299,7 @@ fn limited_by(e: Endpoint, content: Content) -> Endpoint
         Content::Nothing => e,
         Content::Opening(opening) => {
             let announced = opening.announced;
-            endpoint::limited(e, terms::announced_limit(announced))
+            e.limited(terms::announced_limit(announced))
         }
         Content::Body(_) => e,
     }
@@ -321,7 +321,7 @@ fn reply_to(m: Message) -> Reply
 }
 
 // A message that is heard.
-fn accept(e: Endpoint, m: Message, row: Row, content: Content) -> Received
+fn accept(e: Endpoint, m: Message, row: Result<Step, Refusal>, content: Content) -> Received
     ensures { result ≡ accepted e m row content }
 {
     let message = m.message;
@@ -340,7 +340,14 @@ fn accept(e: Endpoint, m: Message, row: Row, content: Content) -> Received
 
 // 18 to 22 by what the message carries, 23, 24, and else it is heard; `row` is what the table says of it.
 #[tactic(auto, unfolding(crate::specs::Hearing::hear_content))]
-fn hear_content(e: Endpoint, s: &[u8], name: &[u8], format: &[u8], m: Message, row: Row) -> Received
+fn hear_content(
+    e: Endpoint,
+    s: &[u8],
+    name: &[u8],
+    format: &[u8],
+    m: Message,
+    row: Result<Step, Refusal>,
+) -> Received
     requires inside { (body_place m.body).at + (body_place m.body).length ≤ length s.now }
     requires rowed { row ≡ hear_row e m }
     ensures { result ≡ hear_content e s.now (offer_of name.now format.now) m }
@@ -416,7 +423,7 @@ pub fn write_reply(out: &mut [u8], reply: Reply)
 pub fn receive(e: Endpoint, s: &[u8], name: &[u8], format: &[u8], out: &mut [u8]) -> Received
     ensures { ReceiveAnswer e s.now (offer_of name.now format.now) out.old result out.new }
 {
-    if !endpoint::good(e) {
+    if !e.good() {
         return stay(e, 1);
     }
     if out.len() < 14 {

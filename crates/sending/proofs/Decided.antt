@@ -15,8 +15,7 @@ use Rattle.control.specs.Frame.{bytes_of}
 use Rattle.control.proofs.Round.{length_control}
 use Rattle.endpoint.specs.declared.Endpoint.{Endpoint}
 use Rattle.endpoint.specs.Record.{good, shut, capacity}
-use Rattle.table.specs.declared.Row.{Row}
-use Rattle.table.specs.Table.{above_offer, moved, not_allowed, row_of}
+use Rattle.table.specs.Table.{Row, above_offer, moved, not_allowed, row_of}
 use Rattle.sending.specs.declared.Outgoing.{Outgoing}
 use Rattle.sending.specs.declared.Sent.{Sent}
 use Rattle.sending.specs.Calls.{bundle_with, flags_for, number_if}

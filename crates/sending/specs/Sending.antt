@@ -1,13 +1,12 @@
 -- "Sends test 1, 3, 30, 31, 32, 33, 34, 35, 2." "An accepted send or reply writes its own bytes from the start of the output and nothing
 -- behind them."
-use Rattle.std.specs.Prelude.{ℕ, ◌≡◌, List, Bool, cond, not, ◌&&◌, length, ltb, leb, eqb}
+use Rattle.std.specs.Prelude.{ℕ, ◌≡◌, List, Bool, cond, not, ◌&&◌, length, ltb, leb, eqb, Err}
 use Rattle.bytes_be.specs.Part.{put_at}
 use Rattle.control.specs.Frame.{type_of}
 use Rattle.endpoint.specs.declared.Endpoint.{Endpoint}
 use Rattle.endpoint.specs.Record.{good, shut, capacity, asked}
-use Rattle.table.specs.declared.Row.{Row}
-use Rattle.table.specs.declared.Row.TheVariants.{NotAllowed, AboveOffer}
-use Rattle.table.specs.Table.{row_of, send_number, not_allowed, above_offer, moved}
+use Rattle.table.specs.declared.Refusal.TheVariants.{NotAllowed, AboveOffer}
+use Rattle.table.specs.Table.{Row, row_of, send_number, not_allowed, above_offer, moved}
 use Rattle.sending.specs.declared.Outgoing.{Outgoing}
 use Rattle.sending.specs.declared.Sent.{Sent}
 use Rattle.sending.specs.Calls.{Call, outgoing, written}
@@ -26,8 +25,8 @@ unfoldable pub number_for : Endpoint → Outgoing → Row → ℕ → ℕ
 number_for e o row room =
     cond (not (good e)) 1
     (cond (eqb e.phase shut) 3
-    (cond (not_allowed row) (send_number NotAllowed)
-    (cond (above_offer row) (send_number AboveOffer)
+    (cond (not_allowed row) (send_number (Err NotAllowed))
+    (cond (above_offer row) (send_number (Err AboveOffer))
     (cond (is_full e o) 32
     (cond (not (eqb o.own 0)) o.own
     (cond (ltb room o.length) 2

@@ -11,7 +11,7 @@ ghost use Rattle.sending.specs.Sending.{send_row, is_full, number_for, asked_by,
 use control::MessageType;
 use endpoint::{Endpoint, Entry};
 use open_write::Given;
-use table::Row;
+use table::{Refusal, Step};
 
 // What a send of DATA is told beside the body.
 #[derive(Clone, Copy)]
@@ -46,7 +46,7 @@ pub struct Sent {
     pub written: usize,
 }
 
-fn send_row(e: Endpoint, o: Outgoing) -> Row
+fn send_row(e: Endpoint, o: Outgoing) -> Result<Step, Refusal>
     ensures { result ≡ send_row e o }
 {
     let message = o.message;
@@ -55,10 +55,10 @@ fn send_row(e: Endpoint, o: Outgoing) -> Row
 
 // The first test that refuses, or 0.
 #[tactic(auto, unfolding(crate::specs::Sending::number_for))]
-fn number_for(e: Endpoint, o: Outgoing, row: Row, room: usize) -> u8
+fn number_for(e: Endpoint, o: Outgoing, row: Result<Step, Refusal>, room: usize) -> u8
     ensures { result ≡ number_for e o row room }
 {
-    if !endpoint::good(e) {
+    if !e.good() {
         return 1;
     }
     if e.phase == 5 {
@@ -98,12 +98,12 @@ fn asked_by(e: Endpoint, o: Outgoing) -> Endpoint
         type_data: o.type_data,
     };
     if o.ask {
-        return endpoint::asked(e, entry);
+        return e.asked(entry);
     }
     e
 }
 
-fn sent_if(number: u8, e: Endpoint, o: Outgoing, row: Row) -> Sent
+fn sent_if(number: u8, e: Endpoint, o: Outgoing, row: Result<Step, Refusal>) -> Sent
     ensures { result ≡ sent_if number e o row }
 {
     if number == 0 {

@@ -4,10 +4,10 @@ use Prim.Native.Nat.{ℕ, ◌≤◌, ◌<◌, ◌^◌}
 use mathlib.Core.List.{List, [], flat_map, ◌∷◌, ◌++◌, map, map-append}
 use mathlib.Core.Bool.{true, ◌&&◌, Bool, false, cond}
 use native.Mathlib.Omega.{arith}
+use Rattle.std.specs.Prelude.{Ok}
 use Rattle.bytes_be.proofs.Tests.{took_first, clash}
 use Rattle.double.specs.Limit.{in_limits, most_limit}
 use Rattle.endpoint.specs.declared.Entry.{Entry}
-use Rattle.endpoint.specs.declared.Given.TheVariants.{Good}
 use Rattle.endpoint.specs.Record.{client, server, fresh, good_flow, given_of, fresh_of, opening, batch, shut, closed}
 use Rattle.endpoint.proofs.StaysGood.{fresh_good, fresh_sized}
 use Rattle.control.specs.declared.MessageType.{MessageType}
@@ -53,12 +53,12 @@ nothing_offered Client = record { each = tt; answered = []; open_offer = λ is. 
 nothing_offered Server = record { each = tt; answered = []; open_offer = λ is. absurd (omega (arith, is)); no_offer = λ low other. refl }
 
 -- what making accepts
-given_well : (flow limit : ℕ) → given_of flow limit ≡ Good → good_flow flow && in_limits limit ≡ true
+given_well : (flow limit : ℕ) → given_of flow limit ≡ Ok tt → good_flow flow && in_limits limit ≡ true
 unfolding given_of
 given_well flow limit given = (took_first (good_flow flow && in_limits limit) (λ same. clash cc) given).0
 
 -- a fresh endpoint is good
-pub fresh_sound : (making : Making) → given_of (fresh_by making).flow (fresh_by making).limit ≡ Good → Sound (fresh_by making)
+pub fresh_sound : (making : Making) → given_of (fresh_by making).flow (fresh_by making).limit ≡ Ok tt → Sound (fresh_by making)
 unfolding fresh_of
 fresh_sound (AsClient flow limit) given =
     record { sized = fresh_sized client flow limit; is-good = fresh_good client flow limit refl (given_well flow limit given) }
@@ -83,8 +83,8 @@ module _ {A : Type 0} (makings : Makings) (model : Model A) where
       }
 
   -- a fresh client and a fresh server
-  fresh_linked : given_of (fresh_by (making_of makings Client)).flow (fresh_by (making_of makings Client)).limit ≡ Good
-      → given_of (fresh_by (making_of makings Server)).flow (fresh_by (making_of makings Server)).limit ≡ Good
+  fresh_linked : given_of (fresh_by (making_of makings Client)).flow (fresh_by (making_of makings Client)).limit ≡ Ok tt
+      → given_of (fresh_by (making_of makings Server)).flow (fresh_by (making_of makings Server)).limit ≡ Ok tt
       → Linked makings model.rules Client (made (fresh_by (making_of makings Client))) (made (fresh_by (making_of makings Server))) [] []
       nothing_due nothing_due
   unfolding fresh_of

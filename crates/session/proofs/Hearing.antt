@@ -21,8 +21,7 @@ use Rattle.endpoint.specs.declared.Endpoint.{Endpoint}
 use Rattle.endpoint.specs.declared.Entry.{Entry}
 use Rattle.endpoint.specs.Record.{producer, idle, batch, capacity, reports_in, shut, closed}
 use Rattle.endpoint.proofs.Reports.{reports_append}
-use Rattle.table.specs.declared.Row.TheVariants.{To}
-use Rattle.table.specs.Table.{other, row_of}
+use Rattle.table.specs.Table.{To, other, row_of}
 use Rattle.sending.specs.Calls.{Call, OPEN, READY, DATA, NOOP, CLOSE, ask_of, message_of, type_data_of}
 use Rattle.machine.specs.Programs.{Queued, nothing_told, ReceiveOutcome}
 use Rattle.machine.specs.Runs.{as_reply}

@@ -6,6 +6,7 @@ use mathlib.Core.Bool.{Bool, true, false, cond, ◌&&◌}
 use native.Mathlib.Omega.{arith}
 use lib.Dec.{eqb, leb, ltb}
 use borrow.Author.Tests.{eqb-true, leb-false, ne_eqb}
+use Rattle.std.specs.Prelude.{Err, Ok}
 use Rattle.bytes_be.proofs.Tests.{clash}
 use Rattle.control.specs.declared.MessageType.{MessageType}
 use Rattle.control.specs.declared.MessageType.TheVariants.{Open, Ready, Noop, Data, Close}
@@ -14,9 +15,8 @@ use Rattle.endpoint.specs.declared.Endpoint.{Endpoint}
 use Rattle.endpoint.specs.declared.Entry.{Entry}
 use Rattle.endpoint.specs.Record.{asked, at_phase, awaited, capacity, closed, one_more, shut}
 use Rattle.endpoint.proofs.Awaited.{asked_awaited, phase_awaited}
-use Rattle.table.specs.declared.Row.{Row}
-use Rattle.table.specs.declared.Row.TheVariants.{NotAllowed, AboveOffer, To}
-use Rattle.table.specs.Table.{above_offer, at_row, moved, not_allowed, row_of}
+use Rattle.table.specs.declared.Refusal.TheVariants.{NotAllowed, AboveOffer}
+use Rattle.table.specs.Table.{Row, To, above_offer, at_row, moved, not_allowed, row_of}
 use Rattle.sending.specs.declared.Outgoing.{Outgoing}
 use Rattle.sending.specs.declared.Sent.{Sent}
 use Rattle.sending.specs.Calls.{Call, OPEN, READY, DATA, NOOP, CLOSE, message_of, type_data_of, ask_of, outgoing}
@@ -96,9 +96,9 @@ record LeadsOn (row : Row) : Type 0 where
   leads : row ≡ To phase n
 
 leads_on : (row : Row) → not_allowed row ≡ false → above_offer row ≡ false → LeadsOn row
-leads_on NotAllowed barred below = clash cc
-leads_on AboveOffer passes above = clash cc
-leads_on (To phase n) passes below = record { phase = phase; n = n; leads = refl }
+leads_on (Err NotAllowed) barred below = clash cc
+leads_on (Err AboveOffer) passes above = clash cc
+leads_on (Ok step) passes below = record { phase = step.phase; n = step.n; leads = refl }
 
 module _ (e after : Endpoint) (phase n limit : ℕ) (comes : Comes e phase n limit after) (entry : Entry) where
   -- an ask changes the confirmations awaited alone

@@ -20,7 +20,8 @@ use Rattle.open_write.specs.Frame.{socket_of}
 use Rattle.open_write.specs.Round.{answer_to}
 use Rattle.open_write.proofs.Round.{read_back}
 use Rattle.endpoint.specs.declared.Endpoint.{Endpoint}
-use Rattle.endpoint.specs.Record.{entry_at, shut, given_number, fresh_of, made_of}
+use Rattle.endpoint.specs.Record.{entry_at, shut, fresh_of}
+use Rattle.endpoint.proofs.Made.{made_accepted}
 use Rattle.endpoint.proofs.Told.{good_told}
 use Rattle.table.specs.Table.{other}
 use Rattle.receiving.specs.Hearing.{carried_by, forbidden, hear_content, hear_message, hear_of, open_at}
@@ -31,8 +32,6 @@ use Rattle.machine.proofs.Round.{reads_back, well_given}
 use Rattle.machine.proofs.Rows.{closed_sound, row_alive}
 use Rattle.machine.specs.Programs.{outcome_of, Making, AsClient, AsServer, fresh_by}
 use Rattle.bytes_be.proofs.Parts.{length_tabulate}
-use Rattle.endpoint.specs.declared.Given.{Given}
-use Rattle.endpoint.specs.declared.Given.TheVariants.{Good, Bad}
 use Rattle.receiving.specs.declared.Received.{Received}
 use Rattle.receiving.specs.Receiving.{received_of}
 use Rattle.sending.specs.declared.Sent.{Sent}
@@ -174,10 +173,6 @@ may_sent e call may fits room enough =
 
 -- a making that is accepted leaves a fresh endpoint, which awaits nothing and owes nothing
 
-pub accepted_given : (given : Given) → given_number given ≡ 0 → given ≡ Good
-accepted_given Good accepts = refl
-accepted_given Bad accepts = absurd (omega (arith, accepts))
-
 pub fresh_due : (making : Making) → prompt_ledger (fresh_by making) ≡ nothing_due
 unfolding fresh_of
 fresh_due (AsClient flow limit) = refl
@@ -187,12 +182,13 @@ pub fresh_records : FreshRecords
 fresh_records making given = record { given = given; holds = refl; none_due = fresh_due making }
 
 pub tables_laws : TablesLaws
-unfolding unchanged made_of
+unfolding unchanged
 tables_laws =
     record {
       begins = λ e making fresh. subst Sound (sym fresh.holds) (fresh_sound making fresh.given);
       makes = λ e making accepts.
-          record { given = accepted_given _ accepts; holds = rw accepts refl; none_due = rw accepts (fresh_due making) };
+          let made = made_accepted (fresh_by making) accepts in
+          record { given = made.0; holds = rw made.1 refl; none_due = rw made.1 (fresh_due making) };
       moves = λ e call room sound fits number. sent_on e call room sound fits number;
       stays = λ e call room sound fits refused. ap (λ (s : Sent). s.next) (refused_send_stays e call room refused);
       hears = λ makings end e m pipe room phase n rest sound enough may.

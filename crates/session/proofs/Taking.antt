@@ -22,8 +22,7 @@ use Rattle.endpoint.proofs.StaysGood.{confirmed_good, confirmed_sized, limited_g
 use Rattle.endpoint.proofs.Told.{good_told}
 use Rattle.open_write.specs.Frame.{frame_for}
 use Rattle.open_write.proofs.Fields.{frame_short}
-use Rattle.table.specs.declared.Row.TheVariants.{To}
-use Rattle.table.specs.Table.{at_row, other, row_of}
+use Rattle.table.specs.Table.{To, at_row, other, row_of}
 use Rattle.receiving.specs.declared.Content.{Content}
 use Rattle.receiving.specs.declared.Answer.{Answer}
 use Rattle.receiving.specs.declared.Received.{Received}

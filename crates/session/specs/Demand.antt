@@ -1,13 +1,12 @@
 -- Demand 3: "Whatever is called and delivered, in any order, neither end refuses the other's message, except an OPEN for a pipe, socket or data format
 -- not offered, or a message arriving after its own close. The data accepted is at every moment a leading part of the data sent, and never more than
 -- the batches agreed. While neither has closed and nothing is in transit, one end may still send a message other than NOOP and CLOSE."
-use Rattle.std.specs.Prelude.{ℕ, ◌+◌, ◌≤◌, ◌<◌, ◌≡◌, Bool, true, false, cond, ◌||◌, length, eqb}
+use Rattle.std.specs.Prelude.{ℕ, Ok, ◌+◌, ◌≤◌, ◌<◌, ◌≡◌, Bool, true, false, cond, ◌||◌, length, eqb}
 use mathlib.Core.List.{List, [], ◌∷◌, ◌++◌, IsPrefix}
 use Rattle.open.specs.Offer.{Offer, offer_of}
 use Rattle.open_write.specs.Round.{same_pipe, same_format}
 use Rattle.endpoint.specs.declared.Endpoint.{Endpoint}
 use Rattle.endpoint.specs.declared.Entry.{Entry}
-use Rattle.endpoint.specs.declared.Given.TheVariants.{Good}
 use Rattle.endpoint.specs.Record.{awaited, reports_in, producer, fresh, offer, batch, shut, good, given_of}
 use Rattle.sending.specs.Calls.{Given, Datum, Call, OPEN, READY, DATA, NOOP, CLOSE, written}
 use Rattle.machine.specs.Good.{Fits}
@@ -39,7 +38,7 @@ nothing_due = record { waits = λ line. []; owes = λ line. [] }
 
 -- a fresh end: it was made with a flow and a limit that 34 does not refuse, and holds what that gives
 pub record Fresh {A : Type 0} (view : View A) (making : Making) (self : A) : Type 0 where
-  pub given : given_of (fresh_by making).flow (fresh_by making).limit ≡ Good
+  pub given : given_of (fresh_by making).flow (fresh_by making).limit ≡ Ok tt
   pub holds : view.endpoint self ≡ fresh_by making
   pub none_due : view.ledger self ≡ nothing_due
 
@@ -205,4 +204,4 @@ Demand = DemandOf tables as_records
 
 -- every endpoint that making gives is fresh
 abbrev pub FreshRecords : Type 0
-FreshRecords = (making : Making) → given_of (fresh_by making).flow (fresh_by making).limit ≡ Good → Fresh as_records making (fresh_by making)
+FreshRecords = (making : Making) → given_of (fresh_by making).flow (fresh_by making).limit ≡ Ok tt → Fresh as_records making (fresh_by making)

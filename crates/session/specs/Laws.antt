@@ -7,8 +7,7 @@ use Rattle.open.specs.Offer.{Offer}
 use Rattle.endpoint.specs.declared.Endpoint.{Endpoint}
 use Rattle.endpoint.specs.declared.Entry.{Entry}
 use Rattle.endpoint.specs.Record.{awaited, capacity, closed, reports_in, server, shut}
-use Rattle.table.specs.declared.Row.TheVariants.{To}
-use Rattle.table.specs.Table.{other, row_of}
+use Rattle.table.specs.Table.{To, other, row_of}
 use Rattle.sending.specs.Calls.{Call, OPEN, READY, DATA, NOOP, CLOSE, message_of, type_data_of, ask_of, own_number, written}
 use Rattle.sending.specs.Options.{how_of}
 use Rattle.sending.specs.Sending.{send_of}

@@ -6,8 +6,7 @@ use Rattle.control.specs.declared.MessageType.{MessageType}
 use Rattle.control.specs.declared.MessageType.TheVariants.{Open, Ready, Noop, Data, Close}
 use Rattle.endpoint.specs.declared.Endpoint.{Endpoint}
 use Rattle.endpoint.specs.Record.{client, server, producer, opening, idle, batch}
-use Rattle.table.specs.declared.Row.TheVariants.{To}
-use Rattle.table.specs.Table.{row_of}
+use Rattle.table.specs.Table.{To, row_of}
 use Rattle.session.specs.World.{End, Client, Server, across, Ending, Going, HeardClose, WroteClose, Side}
 use Rattle.session.specs.Packets.{Packet, row_message, type_data_in}
 use Rattle.session.specs.Demand.{turn}

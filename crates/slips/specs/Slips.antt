@@ -2,7 +2,7 @@
 -- Two slips of document 01 demand 3 does not see: "Replying to a CLOSE that passes 10..13.", as the reply reaches an end that has itself closed and
 -- passes it over, and "Matching a confirmation to any entry and not the oldest.", as in a session the oldest is the one that comes. The contract of
 -- `fbdp_receive` sees both (`fbdp/specs/Blocks: ReceiveOnBlock`).
-use Rattle.std.specs.Prelude.{ℕ, ◌+◌, List, [], reverse, Bool, cond, not, ◌&&◌, eqb, leb, pos, Float}
+use Rattle.std.specs.Prelude.{ℕ, ◌+◌, List, [], reverse, Bool, cond, not, ◌&&◌, eqb, leb, pos, Float, Err}
 use Rattle.std.specs.Float.{binary64}
 use Rattle.std.specs.Float.Ieee.{div, lt, mul, of_bits, of_int}
 use Rattle.bytes_be.specs.Part.{part, put_at}
@@ -12,7 +12,7 @@ use Rattle.control.specs.Frame.{ack_reply, type_of}
 use Rattle.open.specs.Offer.{Offer}
 use Rattle.endpoint.specs.declared.Endpoint.{Endpoint}
 use Rattle.endpoint.specs.Record.{batch, producer, at_phase, closed}
-use Rattle.table.specs.declared.Row.TheVariants.{AboveOffer}
+use Rattle.table.specs.declared.Refusal.TheVariants.{AboveOffer}
 use Rattle.table.specs.Table.{data_row, hear_number, moved, send_number}
 use Rattle.receiving.specs.Refusing.{refused}
 use Rattle.sending.specs.Calls.{Body, Missing, Given, is_missing, body_size, Call, OPEN, READY, DATA, NOOP, CLOSE}
@@ -159,9 +159,9 @@ raised_if test e = cond test (at_phase e e.phase 65535) e
 
 abbrev pub agreeing_above_offer : Program Endpoint ℕ
 agreeing_above_offer =
-    slipping (λ e call out. tables.send (raised_if (eqb (tables.send e call out).number (send_number AboveOffer)) e) call out)
+    slipping (λ e call out. tables.send (raised_if (eqb (tables.send e call out).number (send_number (Err AboveOffer))) e) call out)
     (λ e m pipe out.
-    tables.receive (raised_if (eqb (tables.receive e m pipe out).number (hear_number AboveOffer)) e) m pipe out)
+    tables.receive (raised_if (eqb (tables.receive e m pipe out).number (hear_number (Err AboveOffer))) e) m pipe out)
 
 abbrev pub AgreeingAboveOfferFails : Type 0
 AgreeingAboveOfferFails = Fails agreeing_above_offer

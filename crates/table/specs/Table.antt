@@ -1,20 +1,29 @@
 -- "Sending": the table, row by row. It is the table of what is heard too: what an end may hear, and what it then becomes, is the row of a sender of
 -- the other role and the other flow, in the hearer's phase and with the hearer's n; `receiving/specs/Rows` has that in the words of "Receiving".
-use Rattle.std.specs.Prelude.{ℕ, ◌-◌, Bool, true, false, cond, ◌&&◌, ◌||◌, leb, eqb}
+use Rattle.std.specs.Prelude.{ℕ, ◌-◌, Result, Ok, Err, Bool, true, false, cond, ◌&&◌, ◌||◌, leb, eqb}
 use Rattle.control.specs.declared.MessageType.{MessageType}
 use Rattle.control.specs.declared.MessageType.TheVariants.{Open, Ready, Noop, Data, Close}
 use Rattle.endpoint.specs.declared.Endpoint.{Endpoint}
 use Rattle.endpoint.specs.Record.{client, producer, fresh, opening, idle, offer, batch, shut, closed, at_phase}
-use Rattle.table.specs.declared.Row.{Row}
-use Rattle.table.specs.declared.Row.TheVariants.{NotAllowed, AboveOffer, To}
+use Rattle.table.specs.declared.Refusal.{Refusal}
+use Rattle.table.specs.declared.Refusal.TheVariants.{NotAllowed, AboveOffer}
+use Rattle.table.specs.declared.Step.{Step}
+
+-- what the table says of a message
+abbrev pub Row : Type 0
+Row = Result Step Refusal
+
+-- "After it"
+abbrev pub To : ℕ → ℕ → Row
+To phase n = Ok (record { phase = phase; n = n })
 
 -- "Allowed"
 abbrev pub allowed : Bool → Row → Row
-allowed test row = cond test row NotAllowed
+allowed test row = cond test row (Err NotAllowed)
 
 -- "k at most n"
 abbrev pub up_to : Bool → Row → Row
-up_to test row = cond test row AboveOffer
+up_to test row = cond test row (Err AboveOffer)
 
 -- READY: "k=0: 2; else .., n=k"; DATA: "n less 1; at 0, phase 2"
 unfoldable pub begun : ℕ → ℕ → Row
@@ -54,25 +63,25 @@ row_of role flow phase n Close type-data = close_row phase
 
 -- "17 role, flow or phase doesn't allow it", "23 READY above the offer"
 abbrev pub hear_number : Row → ℕ
-hear_number NotAllowed = 17
-hear_number AboveOffer = 23
-hear_number (To phase n) = 0
+hear_number (Err NotAllowed) = 17
+hear_number (Err AboveOffer) = 23
+hear_number (Ok step) = 0
 
 -- "30 send not allowed now", "31 READY above the offer, own send"
 abbrev pub send_number : Row → ℕ
-send_number NotAllowed = 30
-send_number AboveOffer = 31
-send_number (To phase n) = 0
+send_number (Err NotAllowed) = 30
+send_number (Err AboveOffer) = 31
+send_number (Ok step) = 0
 
 abbrev pub not_allowed : Row → Bool
-not_allowed NotAllowed = true
-not_allowed AboveOffer = false
-not_allowed (To phase n) = false
+not_allowed (Err NotAllowed) = true
+not_allowed (Err AboveOffer) = false
+not_allowed (Ok step) = false
 
 abbrev pub above_offer : Row → Bool
-above_offer NotAllowed = false
-above_offer AboveOffer = true
-above_offer (To phase n) = false
+above_offer (Err NotAllowed) = false
+above_offer (Err AboveOffer) = true
+above_offer (Ok step) = false
 
 -- the other role, or the other flow; any number but 1 counts as 2
 abbrev pub other : ℕ → ℕ
@@ -83,6 +92,5 @@ unfoldable pub at_row : Endpoint → ℕ → ℕ → Endpoint
 at_row e phase n = cond (eqb phase shut) (closed e) (at_phase e phase n)
 
 abbrev pub moved : Endpoint → Row → Endpoint
-moved e NotAllowed = e
-moved e AboveOffer = e
-moved e (To phase n) = at_row e phase n
+moved e (Err refusal) = e
+moved e (Ok step) = at_row e step.phase step.n

@@ -1,98 +1,102 @@
 // The table of messages: who may send which, in which phase, and which phase and n follow.
 #![tactic(auto)]
 
-ghost use Rattle.std.specs.Prelude.{◌≡◌, ◌-◌};
-ghost use Rattle.table.specs.Table.{allowed as Table·allowed, up_to, begun as Table·begun, open_row, ready_row, data_row, noop_row, close_row, row_of, not_allowed, above_offer, other as Table·other, at_row, moved as Table·moved};
+ghost use Rattle.std.specs.Prelude.{◌≡◌, Ok, Err, cond};
+ghost use Rattle.table.specs.Table.{begun as Table·begun, open_row, ready_row, data_row, noop_row, close_row, row_of, not_allowed, above_offer, other as Table·other, at_row, moved as Table·moved};
 
 use control::MessageType;
 use endpoint::Endpoint;
 
-// What the table says of a message.
-#[derive(Clone, Copy)]
-pub enum Row {
+// The phase and the n that follow a message.
+#[derive(Clone, Copy, Debug, PartialEq, Eq)]
+pub struct Step {
+    pub phase: u8,
+    pub n: u16,
+}
+
+// Why the table has no step for a message. One that is heard is refused by another number than one that is sent, so a refusal has none of its own.
+#[derive(Clone, Copy, Debug, PartialEq, Eq)]
+pub enum Refusal {
     // 17 for one that is received, 30 for an own one.
     NotAllowed,
     // 23, or 31.
     AboveOffer,
-    // The phase and the n that follow.
-    To { phase: u8, n: u16 },
 }
 
-fn allowed(test: bool, row: Row) -> Row
-    ensures { result ≡ Table·allowed test row }
+fn demand(test: bool, refusal: Refusal) -> Result<(), Refusal>
+    ensures { result ≡ cond test (Ok tt) (Err refusal) }
 {
     if test {
-        return row;
+        return Ok(());
     }
-    Row::NotAllowed
-}
-
-fn up_to(test: bool, row: Row) -> Row
-    ensures { result ≡ up_to test row }
-{
-    if test {
-        return row;
-    }
-    Row::AboveOffer
+    Err(refusal)
 }
 
 // Idle with a count of 0, else this phase with the count.
-fn begun(phase: u8, count: u16) -> Row
-    ensures { result ≡ Table·begun phase count }
+#[tactic(auto, unfolding(crate::specs::Table::begun))]
+fn begun(phase: u8, count: u16) -> Step
+    ensures { Ok result ≡ Table·begun phase count }
 {
     if count == 0 {
-        return Row::To { phase: 2, n: 0 };
+        return Step { phase: 2, n: 0 };
     }
-    Row::To {
-        phase: phase,
-        n: count,
-    }
+    Step { phase, n: count }
 }
 
-fn open_row(role: u8, phase: u8) -> Row
+#[tactic(auto, unfolding(crate::specs::Table::open_row))]
+fn open_row(role: u8, phase: u8) -> Result<Step, Refusal>
     ensures { result ≡ open_row role phase }
 {
-    allowed((role == 1) & (phase == 0), Row::To { phase: 1, n: 0 })
+    demand((role == 1) & (phase == 0), Refusal::NotAllowed)?;
+    Ok(Step { phase: 1, n: 0 })
 }
 
-fn ready_row(role: u8, phase: u8, n: u16, count: u16) -> Row
+#[tactic(auto, unfolding(crate::specs::Table::ready_row))]
+fn ready_row(role: u8, phase: u8, n: u16, count: u16) -> Result<Step, Refusal>
     ensures { result ≡ ready_row role phase n count }
 {
     if role == 1 {
-        return allowed(phase == 3, up_to(count <= n, begun(4, count)));
+        demand(phase == 3, Refusal::NotAllowed)?;
+        demand(count <= n, Refusal::AboveOffer)?;
+        return Ok(begun(4, count));
     }
-    allowed((phase == 1) | (phase == 2), begun(3, count))
+    demand((phase == 1) | (phase == 2), Refusal::NotAllowed)?;
+    Ok(begun(3, count))
 }
 
-fn less_one(n: u16) -> u16
-    ensures { result ≡ n - 1 }
-{
-    if n == 0 {
-        return 0;
-    }
-    n - 1
-}
-
-fn data_row(flow: u8, phase: u8, n: u16) -> Row
+#[tactic(auto, unfolding(crate::specs::Table::data_row))]
+fn data_row(flow: u8, phase: u8, n: u16) -> Result<Step, Refusal>
     ensures { result ≡ data_row flow phase n }
 {
-    allowed((flow == 1) & (phase == 4), begun(4, less_one(n)))
+    demand((flow == 1) & (phase == 4), Refusal::NotAllowed)?;
+    Ok(begun(4, n.saturating_sub(1)))
 }
 
-fn noop_row(phase: u8, n: u16) -> Row
+#[tactic(auto, unfolding(crate::specs::Table::noop_row))]
+fn noop_row(phase: u8, n: u16) -> Result<Step, Refusal>
     ensures { result ≡ noop_row phase n }
 {
-    allowed((2 <= phase) & (phase <= 4), Row::To { phase: phase, n: n })
+    demand((2 <= phase) & (phase <= 4), Refusal::NotAllowed)?;
+    Ok(Step { phase, n })
 }
 
-fn close_row(phase: u8) -> Row
+#[tactic(auto, unfolding(crate::specs::Table::close_row))]
+fn close_row(phase: u8) -> Result<Step, Refusal>
     ensures { result ≡ close_row phase }
 {
-    allowed((1 <= phase) & (phase <= 4), Row::To { phase: 5, n: 0 })
+    demand((1 <= phase) & (phase <= 4), Refusal::NotAllowed)?;
+    Ok(Step { phase: 5, n: 0 })
 }
 
 // The row for a message that an end of this role and flow sends in this phase with this n; only READY looks at the type-data.
-pub fn row_of(role: u8, flow: u8, phase: u8, n: u16, message: MessageType, type_data: u16) -> Row
+pub fn row_of(
+    role: u8,
+    flow: u8,
+    phase: u8,
+    n: u16,
+    message: MessageType,
+    type_data: u16,
+) -> Result<Step, Refusal>
     ensures { result ≡ row_of role flow phase n message type_data }
 {
     match message {
@@ -104,24 +108,16 @@ pub fn row_of(role: u8, flow: u8, phase: u8, n: u16, message: MessageType, type_
     }
 }
 
-pub fn not_allowed(row: Row) -> bool
+pub fn not_allowed(row: Result<Step, Refusal>) -> bool
     ensures { result ≡ not_allowed row }
 {
-    match row {
-        Row::NotAllowed => true,
-        Row::AboveOffer => false,
-        Row::To { phase: _, n: _ } => false,
-    }
+    matches!(row, Err(Refusal::NotAllowed))
 }
 
-pub fn above_offer(row: Row) -> bool
+pub fn above_offer(row: Result<Step, Refusal>) -> bool
     ensures { result ≡ above_offer row }
 {
-    match row {
-        Row::NotAllowed => false,
-        Row::AboveOffer => true,
-        Row::To { phase: _, n: _ } => false,
-    }
+    matches!(row, Err(Refusal::AboveOffer))
 }
 
 // The other role, or the other flow.
@@ -134,22 +130,22 @@ pub fn other(number: u8) -> u8
     1
 }
 
-fn at_row(e: Endpoint, phase: u8, n: u16) -> Endpoint
-    ensures { result ≡ at_row e phase n }
+#[tactic(auto, unfolding(crate::specs::Table::at_row))]
+fn at_row(e: Endpoint, step: Step) -> Endpoint
+    ensures { result ≡ at_row e step.phase step.n }
 {
-    if phase == 5 {
-        return endpoint::closed(e);
+    if step.phase == 5 {
+        return e.closed();
     }
-    endpoint::at_phase(e, phase, n)
+    e.at_phase(step.phase, step.n)
 }
 
 // The endpoint after a message of this row.
-pub fn moved(e: Endpoint, row: Row) -> Endpoint
+pub fn moved(e: Endpoint, row: Result<Step, Refusal>) -> Endpoint
     ensures { result ≡ Table·moved e row }
 {
     match row {
-        Row::NotAllowed => e,
-        Row::AboveOffer => e,
-        Row::To { phase, n } => at_row(e, phase, n),
+        Ok(step) => at_row(e, step),
+        Err(_) => e,
     }
 }

@@ -11,19 +11,16 @@ use Rattle.bytes_be.proofs.Filled.{copy_more}
 use Rattle.endpoint.specs.Record.{no_entries}
 use Rattle.endpoint.proofs.entries_in.Goals as goal
 
-pub loop-i-init : goal.loop-i-init
-loop-i-init c = (search rules, search rules, search rules, c.no_entries-entries.ensures)
-
 pub loop-i-preserved : goal.loop-i-preserved
 loop-i-preserved c =
     let loop = c.loop-i in
     let block = c.args.block.now in
     let more = copy_more no_entries block 16 loop.i 0 (search rules) (omega arith) in
-    (search rules, loop.invariant.1, simp length-set loop.invariant.2, rw loop.invariant.3 more)
+    (loop.invariant.0, simp length-set loop.invariant.1, rw loop.invariant.2 more)
 
 pub returns : goal.returns
 returns c =
     let loop = c.loop-i in
     let block = c.args.block.now in
     let all : loop.i ≡ 48 = omega arith in
-    loop.invariant.3 ∙ ap (λ (k : ℕ). part block 16 k ++ drop k no_entries) all ∙ append-nil (part block 16 48)
+    loop.invariant.2 ∙ ap (λ (k : ℕ). part block 16 k ++ drop k no_entries) all ∙ append-nil (part block 16 48)
