@@ -1,7 +1,7 @@
 -- `params::find` meets its contract: no entry that the loop has passed has the key. Assumes nothing.
 use Rattle.std.specs.Prelude.{Some}
 use mathlib.Core.Path.{sym, ap, ◌∙◌}
-use Rattle.wire.specs.Left.{fields_left}
+use Rattle.wire.specs.Fields.{fields_left}
 use Rattle.params.specs.Keys.{value_place, find_in}
 use Rattle.params.proofs.Finds.{search_done, search_refused, search_here, search_on}
 use Rattle.params.proofs.find.Goals as goal
