@@ -1,5 +1,6 @@
 -- A search for the first field of a kind, over the fields that are left; what is found lies in the bytes. Assumes nothing.
 use Rattle.std.specs.Prelude.{Option, Some, None, Ok, Err}
+use Rattle.std.specs.Result.{result_ok}
 use Prim.Native.Nat.{ℕ, zero, suc, ◌+◌, ◌-◌, ◌≤◌}
 use mathlib.Core.Path.{◌≡◌, refl, sym, ◌∙◌, subst}
 use mathlib.Core.List.{List, [], ◌∷◌}
@@ -8,6 +9,7 @@ use lib.ListN.{length}
 use lib.Dec.{ltb}
 use native.Mathlib.Omega.{arith}
 use Rattle.bytes_be.specs.declared.Place.{Place}
+use Rattle.bytes_be.proofs.Tests.{clash}
 use Rattle.wire.specs.declared.Field.{Field}
 use Rattle.wire.specs.Fields.{Reading, field_at, and_behind, fields_within, fields_of}
 use Rattle.wire.proofs.Readings.{Within, field_within}
@@ -38,6 +40,16 @@ module _ {A : Type 0} (test : Field → Bool) (answer : Field → A) (none : A) 
       pub search_on : test field ≡ false → whole ≡ first_of test answer none rest
       unfolding first_of
       search_on e = known ∙ rw (is, ok, e)
+
+-- ---- a field that was read, or none, as an option
+
+pub field_read : (read : Reading) (field : Field) → result_ok read ≡ Some field → read ≡ Ok field
+field_read (Ok here) field e = cc
+field_read (Err why) field e = clash cc
+
+pub no_field_read : (read : Reading) → result_ok read ≡ None → (field : Field) → read ≡ Ok field → ⊥
+no_field_read (Ok here) e field is = clash cc
+no_field_read (Err why) e field is = clash cc
 
 -- ---- what is found lies in the bytes
 

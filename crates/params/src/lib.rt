@@ -61,9 +61,7 @@ pub fn find(s: &[u8], from: usize, to: usize, key: &[u8]) -> Option<Place>
     ensures { result ≡ find_in s.now from to key.now }
 {
     for read in wire::fields_of(s, from, to) {
-        let Ok(field) = read else {
-            break;
-        };
+        let field = read.ok()?;
         if has_key(s, field.at, field.next, key) {
             return Some(place_in(s, field.at, field.next, 2));
         }

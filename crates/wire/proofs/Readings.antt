@@ -188,13 +188,6 @@ module _ (s : List ℕ) (at end : ℕ) (inside : at < end) (r : Reading) (is : r
   pub first_fault : (why : Fault) → r ≡ Err why → fields_of s at end ≡ Err why ∷ []
   first_fault why e = some_fields ∙ ap (and_behind (λ next. fields_within (end - at - 1) s end next)) e
 
--- behind a field that was read less of its message is left
-pub less_left : (s : List ℕ) (at end : ℕ) (r : Reading) (field : Field) → r ≡ field_at s at end → r ≡ Ok field → at < end → end - field.next < end - at
-less_left s at end r field is e more =
-    let w = field_within s at end field (sym is ∙ e) in
-    let b = w.behind in let l = w.ends in let i = w.inside in
-    omega arith
-
 -- ---- of the fields of a message, each that was read lies in the bytes
 
 abbrev pub Lying : List ℕ → List Reading → Type 0

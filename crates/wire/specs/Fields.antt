@@ -5,6 +5,7 @@ use Rattle.wire.specs.declared.Kind.{Kind}
 use Rattle.wire.specs.declared.Kind.TheVariants.{CutShort, BadVarint, WireType}
 use Rattle.wire.specs.declared.Varint.{Varint}
 use Rattle.wire.specs.declared.Field.{Field}
+use Rattle.wire.specs.declared.Fields.{Fields}
 use Rattle.wire.specs.declared.Fault.{Fault}
 use Rattle.wire.specs.Varint.{Said, varint_at}
 
@@ -72,3 +73,7 @@ fields_within (suc left) s end at = cond (ltb at end) (and_behind (fields_within
 -- no field is shorter than a byte, so there are no more of them than bytes
 unfoldable pub fields_of : List ℕ → ℕ → ℕ → List Reading
 fields_of s from to = fields_within (to - from) s to from
+
+-- those that a loop over them has not been given yet
+abbrev pub fields_left : Fields → List Reading
+fields_left it = fields_of it.s.now it.at it.to

@@ -1,5 +1,4 @@
 -- Protobuf's varints and fields, as document 01 narrows them.
 pub mod Varint
 pub mod Fields
-pub mod Left
 pub mod Written

@@ -4,8 +4,7 @@
 ghost use Rattle.std.specs.Prelude.{◌≡◌, cond, ◌≤◌, ◌+◌, ◌%◌, ltb, length, take};
 ghost use Rattle.bytes_be.specs.Part.{put_at};
 ghost use Rattle.wire.specs.Varint.{bounded, said_at, varint_at, varint_length, shortest_of};
-ghost use Rattle.wire.specs.Fields.{fault_number, of_field, sized, payload_at, field_at, fields_of};
-ghost use Rattle.wire.specs.Left.{fields_left};
+ghost use Rattle.wire.specs.Fields.{fault_number, of_field, sized, payload_at, field_at, fields_of, fields_left};
 
 use numbered::Numbered;
 
@@ -227,7 +226,7 @@ pub fn fields_of(s: &[u8], from: usize, to: usize) -> Fields<'_>
 
 impl<'a> Iterator for Fields<'a> {
     ghost use Rattle.std.specs.Iterator.{YieldsFirst, item_count};
-    ghost use Rattle.wire.specs.Left.{fields_left};
+    ghost use Rattle.wire.specs.Fields.{fields_left};
 
     type Item = Result<Field, Fault>;
 

@@ -1,7 +1,7 @@
 -- `open::readable` meets its contract: the fields that the loop has passed are good, and kept. Assumes nothing.
 use mathlib.Core.Path.{sym, ap, ◌∙◌}
 use borrow.Author.Rules.{rules}
-use Rattle.wire.specs.Left.{fields_left}
+use Rattle.wire.specs.Fields.{fields_left}
 use Rattle.wire.proofs.Readings.{fields_lie, field_lies_in, rest_lie}
 use Rattle.params.proofs.Walks.{walk_done, walk_refused, walk_stopped, walk_on}
 use Rattle.open.specs.Frame.{frame_check, parts_of}

@@ -1,6 +1,6 @@
 -- `open::readable` meets its contract: the fields that the loop has passed are good, and kept. Assumes nothing.
 use mathlib.Core.Path.{◌≡◌}
-use Rattle.wire.specs.Left.{fields_left}
+use Rattle.wire.specs.Fields.{fields_left}
 use Rattle.wire.proofs.Readings.{Lying}
 use Rattle.params.specs.Message.{walk}
 use Rattle.open.specs.Frame.{frame_field, keep, kept, frame_done, frame_check, parts_of}

@@ -3,7 +3,7 @@
 use mathlib.Core.Path.{ap, ◌∙◌}
 use borrow.Author.Rules.{rules}
 use borrow.Author.Tests.{lt-ltb, le-ltb, eq-eqb, ne_eqb}
-use Rattle.wire.specs.Left.{fields_left}
+use Rattle.wire.specs.Fields.{fields_left}
 use Rattle.wire.proofs.Readings.{fields_lie, field_lies_in, rest_lie}
 use Rattle.params.specs.Rules.{value_field, value_check, entry_field, entry_check, item_field, items_check}
 use Rattle.params.proofs.Walks.{walk_done, walk_refused, walk_stopped, walk_on, inside_none, inside_more, passed}

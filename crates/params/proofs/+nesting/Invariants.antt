@@ -2,7 +2,7 @@
 -- Assumes nothing.
 use Prim.Native.Nat.{◌+◌, ◌*◌}
 use mathlib.Core.Path.{◌≡◌}
-use Rattle.wire.specs.Left.{fields_left}
+use Rattle.wire.specs.Fields.{fields_left}
 use Rattle.wire.proofs.Readings.{Lying}
 use Rattle.params.specs.Message.{walk}
 use Rattle.params.specs.Rules.{value_field, value_move, value_done, value_check, entry_field, entry_move, entry_done, entry_check, item_judge, item_move, item_done, items_check, inside}

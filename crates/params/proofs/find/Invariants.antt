@@ -1,7 +1,7 @@
 -- `params::find` meets its contract: no entry that the loop has passed has the key. Assumes nothing.
 use Rattle.std.specs.Prelude.{None}
 use mathlib.Core.Path.{◌≡◌}
-use Rattle.wire.specs.Left.{fields_left}
+use Rattle.wire.specs.Fields.{fields_left}
 use Rattle.params.specs.Message.{first_of}
 use Rattle.params.specs.Keys.{has_key, value_found, find_in}
 use Rattle.params.proofs.find.Given as goal

@@ -1,7 +1,7 @@
 -- `params::place_in` meets its contract: no field that the loop has passed has the number. Assumes nothing.
 use mathlib.Core.Path.{ap, ◌∙◌}
 use borrow.Author.Tests.{eq-eqb, ne_eqb}
-use Rattle.wire.specs.Left.{fields_left}
+use Rattle.wire.specs.Fields.{fields_left}
 use Rattle.wire.proofs.Readings.{fields_lie, field_lies_in, rest_lie}
 use Rattle.params.specs.Message.{place_in}
 use Rattle.params.proofs.Finds.{search_done, search_refused, search_here, search_on}

@@ -1,7 +1,7 @@
 -- `params::place_in` meets its contract: no field that the loop has passed has the number. Assumes nothing.
 use mathlib.Core.Path.{◌≡◌}
 use Rattle.wire.specs.Fields.{fields_of}
-use Rattle.wire.specs.Left.{fields_left}
+use Rattle.wire.specs.Fields.{fields_left}
 use Rattle.wire.proofs.Readings.{Lying}
 use Rattle.params.specs.Message.{first_of, has_number, place_of, nowhere, place_in}
 use Rattle.params.proofs.place_in.Given as goal
