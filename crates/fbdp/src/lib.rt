@@ -13,9 +13,11 @@ ghost use Rattle.fbdp.specs.Entries.{InterfaceAnswer, frame_slots, FrameAnswer, 
 
 use bundle::BadBundle;
 use bytes_be::Place;
+use control::Control;
 use endpoint::{BadMaking, Endpoint};
 use numbered::Numbered;
-use receiving::{Answer, Content, Heard, Reply};
+use open::Offer;
+use receiving::{Answer, Content, Heard};
 use sending::{Report, Sent};
 use terms::{Term, Value};
 use wire::Fault;
@@ -163,7 +165,11 @@ pub fn fbdp_send_open(
     ensures { SendOnBlock (OPEN (offer_of name.now format.now)) block.old out.old result written.new block.new out.new }
 {
     let e = Endpoint::load(block);
-    finish(sending::send_open(e, name, format, out), block, written)
+    finish(
+        sending::send_open(e, Offer { name, format }, out),
+        block,
+        written,
+    )
 }
 
 // Sends READY with this count.
@@ -218,21 +224,16 @@ fn answer_number(answer: Answer) -> u8
 {
     match answer {
         Answer::Heard(_) => 0,
-        Answer::Stays(number) => number,
-        Answer::Closes(number) => number,
+        Answer::Stays(number) | Answer::Closes(number) => number,
     }
 }
 
-fn reply_length(reply: Reply) -> u64
+fn reply_length(reply: Option<Control>) -> u64
     ensures { result ≡ reply_length reply }
 {
     match reply {
-        Reply::Nothing => 0,
-        Reply::Frame {
-            message: _,
-            flags: _,
-            type_data: _,
-        } => 14,
+        Some(_) => 14,
+        None => 0,
     }
 }
 
@@ -260,11 +261,9 @@ fn content_slots(content: Content) -> [u64; 9]
 fn heard_slots(heard: Heard, reply: u64) -> [u64; 16]
     ensures { result ≡ in_order (heard_slots heard reply) }
 {
-    let message = heard.message;
-    let content = heard.content;
-    let said = content_slots(content);
+    let said = content_slots(heard.content);
     [
-        u8::from(message) as u64,
+        u8::from(heard.message) as u64,
         heard.flags as u64,
         heard.type_data as u64,
         reply,
@@ -295,8 +294,7 @@ fn answer_slots(answer: Answer, reply: u64) -> [u64; 16]
 {
     match answer {
         Answer::Heard(heard) => heard_slots(heard, reply),
-        Answer::Stays(_) => refused_slots(reply),
-        Answer::Closes(_) => refused_slots(reply),
+        Answer::Stays(_) | Answer::Closes(_) => refused_slots(reply),
     }
 }
 
@@ -304,11 +302,7 @@ fn answer_slots(answer: Answer, reply: u64) -> [u64; 16]
 fn is_staying(answer: Answer) -> bool
     ensures { result ≡ stays answer }
 {
-    match answer {
-        Answer::Heard(_) => false,
-        Answer::Stays(_) => true,
-        Answer::Closes(_) => false,
-    }
+    matches!(answer, Answer::Stays(_))
 }
 
 // Receives a message.
@@ -323,15 +317,12 @@ pub fn fbdp_receive(
     ensures { ReceiveOnBlock message.now (offer_of name.now format.now) block.old out.old result heard.new block.new out.new }
 {
     let e = Endpoint::load(block);
-    let received = receiving::receive(e, message, name, format, out);
-    let next = received.next;
-    let answer = received.answer;
-    let reply = received.reply;
-    *heard = answer_slots(answer, reply_length(reply));
-    let number = answer_number(answer);
-    if is_staying(answer) {
-        return number as u32;
+    let received = receiving::receive(e, message, Offer { name, format }, out);
+    *heard = answer_slots(received.answer, reply_length(received.reply));
+    let number = answer_number(received.answer) as u32;
+    if is_staying(received.answer) {
+        return number;
     }
-    next.store(block);
-    number as u32
+    received.next.store(block);
+    number
 }

@@ -3,16 +3,18 @@
 #![tactic(auto)]
 
 ghost use Rattle.std.specs.Prelude.{◌≡◌};
-ghost use Rattle.open.specs.Offer.{offer_of};
+ghost use Rattle.open.specs.Offer.{offer_in};
 ghost use Rattle.endpoint.specs.Record.{fresh_client, fresh_server, given_number, made_or};
 ghost use Rattle.sending.specs.Calls.{datum_of, OPEN, READY, DATA, NOOP, CLOSE};
 ghost use Rattle.lent.specs.Making.{MakeOnLent};
 ghost use Rattle.lent.specs.Lent.{SendOnLent, ReceiveOnLent};
 
+use control::Control;
 use endpoint::{BadMaking, Endpoint};
 use numbered::Numbered;
-use receiving::{Answer, Reply};
-use sending::Report;
+use open::Offer;
+use receiving::Answer;
+use sending::{Report, Sent};
 
 // What a send answers, beside the record and the output.
 #[derive(Clone, Copy)]
@@ -27,7 +29,7 @@ pub struct Told {
 #[derive(Clone, Copy)]
 pub struct Outcome {
     pub answer: Answer,
-    pub reply: Reply,
+    pub reply: Option<Control>,
 }
 
 // Keeps what was made, or the record as it was where nothing was.
@@ -58,16 +60,24 @@ pub fn make_server(e: &mut Endpoint, flow: u8) -> u8
     remake(e, endpoint::make_server(flow))
 }
 
-// Sends OPEN for this pipe name and this format.
-pub fn send_open(e: &mut Endpoint, name: &[u8], format: &[u8], out: &mut [u8]) -> Told
-    ensures { SendOnLent e.old (OPEN (offer_of name.now format.now)) out.old result e.new out.new }
+// Keeps the record that a send leaves, and tells the rest.
+fn keep(e: &mut Endpoint, sent: Sent) -> Told
+    ensures kept { e.new ≡ sent.next }
+    ensures told { result ≡ record { number = sent.number; written = sent.written } }
 {
-    let sent = sending::send_open(*e, name, format, out);
     *e = sent.next;
     Told {
         number: sent.number,
         written: sent.written,
     }
+}
+
+// Sends OPEN for this pipe name and this format.
+pub fn send_open(e: &mut Endpoint, offer: Offer, out: &mut [u8]) -> Told
+    ensures { SendOnLent e.old (OPEN (offer_in offer.entry)) out.old result e.new out.new }
+{
+    let sent = sending::send_open(*e, offer, out);
+    keep(e, sent)
 }
 
 // Sends READY with this count.
@@ -75,11 +85,7 @@ pub fn send_ready(e: &mut Endpoint, count: u16, out: &mut [u8]) -> Told
     ensures { SendOnLent e.old (READY count) out.old result e.new out.new }
 {
     let sent = sending::send_ready(*e, count, out);
-    *e = sent.next;
-    Told {
-        number: sent.number,
-        written: sent.written,
-    }
+    keep(e, sent)
 }
 
 // Sends DATA with this body, or without one.
@@ -87,11 +93,7 @@ pub fn send_data(e: &mut Endpoint, report: Report, body: &[u8], out: &mut [u8]) 
     ensures { SendOnLent e.old (DATA (datum_of report body.now)) out.old result e.new out.new }
 {
     let sent = sending::send_data(*e, report, body, out);
-    *e = sent.next;
-    Told {
-        number: sent.number,
-        written: sent.written,
-    }
+    keep(e, sent)
 }
 
 // Sends NOOP, with an ask for confirmation or without.
@@ -99,11 +101,7 @@ pub fn send_noop(e: &mut Endpoint, type_data: u16, ask: bool, out: &mut [u8]) ->
     ensures { SendOnLent e.old (NOOP type_data ask) out.old result e.new out.new }
 {
     let sent = sending::send_noop(*e, type_data, ask, out);
-    *e = sent.next;
-    Told {
-        number: sent.number,
-        written: sent.written,
-    }
+    keep(e, sent)
 }
 
 // Sends CLOSE with this code.
@@ -111,18 +109,14 @@ pub fn send_close(e: &mut Endpoint, code: u16, out: &mut [u8]) -> Told
     ensures { SendOnLent e.old (CLOSE code) out.old result e.new out.new }
 {
     let sent = sending::send_close(*e, code, out);
-    *e = sent.next;
-    Told {
-        number: sent.number,
-        written: sent.written,
-    }
+    keep(e, sent)
 }
 
-// Receives a message where this pipe name and this format are offered, with the reply at the start of the output.
-pub fn receive(e: &mut Endpoint, s: &[u8], name: &[u8], format: &[u8], out: &mut [u8]) -> Outcome
-    ensures { ReceiveOnLent e.old s.now (offer_of name.now format.now) out.old result e.new out.new }
+// Receives a message where this is offered, with the reply at the start of the output.
+pub fn receive(e: &mut Endpoint, s: &[u8], offer: Offer, out: &mut [u8]) -> Outcome
+    ensures { ReceiveOnLent e.old s.now (offer_in offer.entry) out.old result e.new out.new }
 {
-    let received = receiving::receive(*e, s, name, format, out);
+    let received = receiving::receive(*e, s, offer, out);
     *e = received.next;
     Outcome {
         answer: received.answer,
