@@ -2,8 +2,11 @@
 -- Assumes nothing.
 use mathlib.Core.Path.{◌∙◌, ◌≡◌, ap, sym}
 use mathlib.Core.Bool.{false}
+use Rattle.std.specs.Prelude.{Result}
 use Rattle.message.proofs.Tests.{passed, failed}
-use Rattle.table.specs.Table.{Row, above_offer}
+use Rattle.table.specs.declared.Refusal.{Refusal}
+use Rattle.table.specs.declared.Step.{Step}
+use Rattle.table.specs.Table.{above_offer}
 use Rattle.receiving.specs.Hearing.{carried_number, hear_row, hear_content, accepted}
 use Rattle.receiving.proofs.hear_content.Goals as goal
 
@@ -29,4 +32,4 @@ returns c =
     let within : above_offer (hear_row c.args.e c.args.m) ≡ false = ap above_offer (sym c.requires.rowed) ∙ passed c.above_offer.ensures c.test_of.ensures c.in-Passes.is in
     let a = c.args in
     let content = c.in-Content.content in
-    simp (sym c.carried_by-carried.ensures ∙ c.in-Content.is, within, passed c.is_unmatched.ensures c.test_of-2.ensures c.in-Passes-test_of.is) (c.accept.ensures ∙ ap (λ (row : Row). accepted a.e a.m row content) c.requires.rowed)
+    simp (sym c.carried_by-carried.ensures ∙ c.in-Content.is, within, passed c.is_unmatched.ensures c.test_of-2.ensures c.in-Passes-test_of.is) (c.accept.ensures ∙ ap (λ (row : Result Step Refusal). accepted a.e a.m row content) c.requires.rowed)
