@@ -5,6 +5,7 @@ use mathlib.Core.List.{List}
 use mathlib.Core.Bool.{Bool, cond, false, true}
 use lib.Dec.{eqb}
 use borrow.Author.Tests.{eq-eqb, eqb-true}
+use Rattle.std.specs.Prelude.{Result}
 use Rattle.bytes_be.proofs.Numbers.{Bytes}
 use Rattle.control.specs.declared.MessageType.TheVariants.{Open, Ready, Close}
 use Rattle.terms.specs.Announced.{announced_limit}
@@ -15,7 +16,9 @@ use Rattle.endpoint.specs.declared.Endpoint.{Endpoint}
 use Rattle.endpoint.specs.declared.Entry.{Entry}
 use Rattle.endpoint.specs.Record.{asked, awaitable, producer, confirmed}
 use Rattle.endpoint.proofs.StaysGood.{asked_good, asked_sized, confirmed_good, confirmed_sized, limited_good, limited_sized}
-use Rattle.table.specs.Table.{Row, moved, not_allowed, other}
+use Rattle.table.specs.declared.Refusal.{Refusal}
+use Rattle.table.specs.declared.Step.{Step}
+use Rattle.table.specs.Table.{moved, not_allowed, other}
 use Rattle.receiving.specs.declared.Content.{Content}
 use Rattle.receiving.specs.declared.Content.TheVariants.{Nothing, Opening, Body as Content-as-Body}
 use Rattle.receiving.specs.declared.Received.{Received}
@@ -59,7 +62,7 @@ module _ (e : Endpoint) (sound : Sound e) where
   unfolding sent_by
   sent_sound call fits room = go (eqb (number_for e (outgoing e call) row room) 0) refl
     where
-      row : Row
+      row : Result Step Refusal
       row = send_row e (outgoing e call)
 
       go : (t : Bool) → eqb (number_for e (outgoing e call) row room) 0 ≡ t →

@@ -2,7 +2,10 @@
 use mathlib.Core.Path.{◌≡◌, refl}
 use mathlib.Core.Bool.{Bool, true, false, cond}
 use lib.Dec.{eqb}
-use Rattle.table.specs.Table.{Row, moved}
+use Rattle.std.specs.Prelude.{Result}
+use Rattle.table.specs.declared.Refusal.{Refusal}
+use Rattle.table.specs.declared.Step.{Step}
+use Rattle.table.specs.Table.{moved}
 use Rattle.receiving.specs.declared.Received.{Received}
 use Rattle.receiving.specs.Hearing.{accepted}
 use Rattle.receiving.specs.Refusing.{refused, unchanged}
@@ -23,7 +26,7 @@ unfolding sent_by
 refused_send_stays e call room =
     go (eqb (number_for e (outgoing e call) row room) 0) refl
   where
-    row : Row
+    row : Result Step Refusal
     row = send_row e (outgoing e call)
 
     accepted_sent : Sent

@@ -5,7 +5,7 @@ use mathlib.Core.Bool.{Bool, ◌&&◌, ◌||◌, cond, false, true}
 use native.Mathlib.Omega.{arith}
 use lib.Dec.{eqb, leb}
 use borrow.Author.Tests.{eqb-false, eqb-true, le-leb, leb-true, ne_eqb}
-use Rattle.std.specs.Prelude.{Err}
+use Rattle.std.specs.Prelude.{Err, Result}
 use Rattle.bytes_be.proofs.Tests.{both_true, clash, either_way}
 use Rattle.control.specs.declared.MessageType.{MessageType}
 use Rattle.control.specs.declared.MessageType.TheVariants.{Open, Ready, Noop, Data, Close}
@@ -14,7 +14,9 @@ use Rattle.endpoint.specs.Record.{at_phase, batch, client, closed, count_fits, f
 use Rattle.endpoint.proofs.StaysGood.{closed_good, closed_sized, phase_good, phase_sized}
 use Rattle.endpoint.proofs.Told.{good_told}
 use Rattle.table.specs.declared.Refusal.TheVariants.{NotAllowed}
-use Rattle.table.specs.Table.{Row, To, allowed, at_row, begun, close_row, data_row, moved, noop_row, not_allowed, open_row, ready_row, row_of, up_to}
+use Rattle.table.specs.declared.Refusal.{Refusal}
+use Rattle.table.specs.declared.Step.{Step}
+use Rattle.table.specs.Table.{To, allowed, at_row, begun, close_row, data_row, moved, noop_row, not_allowed, open_row, ready_row, row_of, up_to}
 use Rattle.machine.specs.Good.{Sound}
 
 -- the endpoint in another phase, with another n
@@ -28,11 +30,11 @@ closed_sound e sound = record { sized = closed_sized e; is-good = closed_good e 
 -- what holds of an endpoint, and of it where a row leads, holds where the row leads if it is allowed
 
 module _ (Holds : Endpoint → Type 0) (e : Endpoint) (itself : Holds e) where
-  pub allowed_holds : (t : Bool) (row : Row) → (t ≡ true → Holds (moved e row)) → Holds (moved e (allowed t row))
+  pub allowed_holds : (t : Bool) (row : Result Step Refusal) → (t ≡ true → Holds (moved e row)) → Holds (moved e (allowed t row))
   allowed_holds true row there = there refl
   allowed_holds false row there = itself
 
-  up_to_holds : (t : Bool) (row : Row) → Holds (moved e row) → Holds (moved e (up_to t row))
+  up_to_holds : (t : Bool) (row : Result Step Refusal) → Holds (moved e row) → Holds (moved e (up_to t row))
   up_to_holds true row there = there
   up_to_holds false row there = itself
 
@@ -109,7 +111,7 @@ module _ (e : Endpoint) (sound : Sound e) where
       simp (ne_eqb e.phase shut (λ same. omega arith))
       (record { sound = at_sound e sound e.phase e.n told.phases told.counted told.waiting; early = early; late = late; same = refl })
 
-  allowed_sound : (t : Bool) (row : Row) → (t ≡ true → Sound (moved e row)) → Sound (moved e (allowed t row))
+  allowed_sound : (t : Bool) (row : Result Step Refusal) → (t ≡ true → Sound (moved e row)) → Sound (moved e (allowed t row))
   allowed_sound = allowed_holds Sound e sound
 
   -- where the row of DATA or NOOP allows it, the endpoint may ask
@@ -152,7 +154,7 @@ module _ (e : Endpoint) (sound : Sound e) where
 
 -- no row leads on from phase 5
 
-never : (t : Bool) (row : Row) → cond (t && false) row (Err NotAllowed) ≡ Err NotAllowed
+never : (t : Bool) (row : Result Step Refusal) → cond (t && false) row (Err NotAllowed) ≡ Err NotAllowed
 never true row = refl
 never false row = refl
 

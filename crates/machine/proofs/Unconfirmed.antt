@@ -22,7 +22,9 @@ use Rattle.endpoint.specs.Record.{asked, at_phase, awaited, batch, capacity, cli
 use Rattle.endpoint.proofs.Awaited.{oldest_awaited}
 use Rattle.endpoint.proofs.Reports.{reports, reports_few}
 use Rattle.endpoint.proofs.Told.{good_told}
-use Rattle.table.specs.Table.{Row, To, allowed, at_row, begun, close_row, data_row, moved, noop_row, not_allowed, open_row, other, ready_row, row_of}
+use Rattle.table.specs.declared.Refusal.{Refusal}
+use Rattle.table.specs.declared.Step.{Step}
+use Rattle.table.specs.Table.{To, allowed, at_row, begun, close_row, data_row, moved, noop_row, not_allowed, open_row, other, ready_row, row_of}
 use Rattle.receiving.specs.declared.Content.{Content}
 use Rattle.receiving.specs.declared.Content.TheVariants.{Nothing, Opening, Body as Content-as-Body}
 use Rattle.receiving.specs.declared.Received.{Received}
@@ -62,7 +64,7 @@ module _ (e : Endpoint) where
       go true = at_kept idle 0 refl
       go false = at_kept phase count goes
 
-  allowed_kept : (t : Bool) (row : Row) → (t ≡ true → Keeps e (moved e row)) → Keeps e (moved e (allowed t row))
+  allowed_kept : (t : Bool) (row : Result Step Refusal) → (t ≡ true → Keeps e (moved e row)) → Keeps e (moved e (allowed t row))
   allowed_kept = allowed_holds (Keeps e) e itself
 
   open_kept : (role : ℕ) → Keeps e (moved e (open_row role e.phase))

@@ -5,12 +5,15 @@ use mathlib.Core.Bool.{Bool, true, false, cond, ◌&&◌}
 use native.Mathlib.Omega.{arith}
 use lib.Dec.{eqb, leb}
 use borrow.Author.Tests.{eqb-false, eqb-true, leb-true}
+use Rattle.std.specs.Prelude.{Result}
 use Rattle.bytes_be.proofs.Tests.{both_true}
 use Rattle.control.specs.declared.MessageType.{MessageType}
 use Rattle.control.specs.declared.MessageType.TheVariants.{Open, Ready, Noop, Data, Close}
 use Rattle.endpoint.specs.declared.Endpoint.{Endpoint}
 use Rattle.endpoint.specs.Record.{client, server, producer, consumer, shut, capacity, good_flow, in_ranges}
-use Rattle.table.specs.Table.{Row, open_row, ready_row, data_row, noop_row, close_row, row_of, other}
+use Rattle.table.specs.declared.Refusal.{Refusal}
+use Rattle.table.specs.declared.Step.{Step}
+use Rattle.table.specs.Table.{open_row, ready_row, data_row, noop_row, close_row, row_of, other}
 use Rattle.receiving.specs.Hearing.{confirms, moves_as, hear_row}
 use Rattle.receiving.specs.Rows.{open_heard, ready_at_client, ready_at_server, data_heard, noop_heard, close_heard, heard_as, RowsAreMirrored}
 
@@ -25,7 +28,7 @@ other_first number low high = go (eqb number 1) refl
         rw is refl
 
 -- so a choice by the one is the choice by the other, turned around
-turned : (number : ℕ) → 1 ≤ number → number ≤ 2 → (one two : Row) → cond (eqb number 2) one two ≡ cond (eqb number 1) two one
+turned : (number : ℕ) → 1 ≤ number → number ≤ 2 → (one two : Result Step Refusal) → cond (eqb number 2) one two ≡ cond (eqb number 1) two one
 turned number low high one two = go (eqb number 1) refl
   where
     go : (t : Bool) → eqb number 1 ≡ t → cond (eqb number 2) one two ≡ cond t two one

@@ -17,7 +17,9 @@ use Rattle.message.specs.Reading.{body_place, reading_of, reading_number, said_i
 use Rattle.endpoint.specs.declared.Endpoint.{Endpoint}
 use Rattle.endpoint.specs.Record.{shut, oldest, confirmed, limited}
 use Rattle.table.specs.declared.Refusal.TheVariants.{NotAllowed, AboveOffer}
-use Rattle.table.specs.Table.{Row, row_of, hear_number, not_allowed, above_offer, other, moved}
+use Rattle.table.specs.declared.Refusal.{Refusal}
+use Rattle.table.specs.declared.Step.{Step}
+use Rattle.table.specs.Table.{row_of, hear_number, not_allowed, above_offer, other, moved}
 use Rattle.receiving.specs.declared.Content.{Content}
 use Rattle.receiving.specs.declared.Content.TheVariants.{Nothing, Opening as Content-as-Opening, Body as Content-as-Body}
 use Rattle.receiving.specs.declared.Answer.TheVariants.{Heard}
@@ -46,7 +48,7 @@ unfoldable pub moves_as : MessageType → ℕ → MessageType
 moves_as message flags = cond (confirms message flags) Noop message
 
 -- what may be heard is what the other end may send
-unfoldable pub hear_row : Endpoint → Message → Row
+unfoldable pub hear_row : Endpoint → Message → Result Step Refusal
 hear_row e m =
     row_of (other e.role) (other e.flow) e.phase e.n (moves_as m.message m.flags) m.type_data
 
@@ -118,7 +120,7 @@ unfoldable pub reply_to : Message → Option Control
 reply_to m = cond (asks m.message m.flags) (replying m.message ack_reply m.type_data) None
 
 -- "Heard with any message are its type, flags and type-data."
-unfoldable pub accepted : Endpoint → Message → Row → Content → Received
+unfoldable pub accepted : Endpoint → Message → Result Step Refusal → Content → Received
 accepted e m row content =
     record {
       answer =

@@ -7,6 +7,7 @@ use native.Mathlib.Omega.{arith}
 use lib.Dec.{eqb, lit<, ltb, leb}
 use lib.ListN.{length}
 use borrow.Author.Tests.{eq-eqb, eqb-false, eqb-true, le-ltb, ltb-false, ne_eqb, not-false}
+use Rattle.std.specs.Prelude.{Result}
 use Rattle.bytes_be.specs.Part.{put_at}
 use Rattle.bytes_be.proofs.Tests.{took_second}
 use Rattle.bundle.proofs.Outputs.{one_long, two_long}
@@ -15,7 +16,9 @@ use Rattle.control.specs.Frame.{bytes_of}
 use Rattle.control.proofs.Round.{length_control}
 use Rattle.endpoint.specs.declared.Endpoint.{Endpoint}
 use Rattle.endpoint.specs.Record.{good, shut, capacity}
-use Rattle.table.specs.Table.{Row, above_offer, moved, not_allowed, row_of}
+use Rattle.table.specs.declared.Refusal.{Refusal}
+use Rattle.table.specs.declared.Step.{Step}
+use Rattle.table.specs.Table.{above_offer, moved, not_allowed, row_of}
 use Rattle.sending.specs.declared.Outgoing.{Outgoing}
 use Rattle.sending.specs.declared.Sent.{Sent}
 use Rattle.sending.specs.Calls.{bundle_with, flags_for, number_if}
@@ -43,7 +46,7 @@ unfolding number_if
 not_applies t k some e = (passed t k 0 some e).0
 
 -- what a send of number 0 has passed
-pub record Passed (e : Endpoint) (o : Outgoing) (row : Row) (room : ℕ) : Type 0 where
+pub record Passed (e : Endpoint) (o : Outgoing) (row : Result Step Refusal) (room : ℕ) : Type 0 where
   pub is-good : good e ≡ true
   pub alive : eqb e.phase shut ≡ false
   pub allowed : not_allowed row ≡ false
@@ -52,7 +55,7 @@ pub record Passed (e : Endpoint) (o : Outgoing) (row : Row) (room : ℕ) : Type 
   pub unrefused : o.own ≡ 0
   pub fits : o.length ≤ room
 
-module _ (e : Endpoint) (o : Outgoing) (row : Row) (room : ℕ) where
+module _ (e : Endpoint) (o : Outgoing) (row : Result Step Refusal) (room : ℕ) where
   pub all_passed : number_for e o row room ≡ 0 → Passed e o row room
   unfolding number_for
   all_passed none =
@@ -145,7 +148,7 @@ plain_decided e message ask type-data own room =
 pub refused_any : (e : Endpoint) (o : Outgoing) (room size : ℕ) → eqb o.own 0 ≡ false → sent_by e o room ≡ sent_by e (longer o size) room
 unfolding sent_by number_for is_full send_row
 refused_any e o room size refuses =
-    let row : Row = row_of e.role e.flow e.phase e.n o.message o.type_data in
+    let row : Result Step Refusal = row_of e.role e.flow e.phase e.n o.message o.type_data in
     let none : eqb (cond (not (good e)) 1 (cond (eqb e.phase shut) 3 (cond (not_allowed row) 30 (cond (above_offer row) 31 (cond (o.ask && leb capacity e.w) 32 o.own))))) 0 ≡ false =
     refused_if (not (good e)) 1 _ (lit< tt)
     (refused_if (eqb e.phase shut) 3 _ (lit< tt)

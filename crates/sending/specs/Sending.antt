@@ -1,18 +1,20 @@
 -- "Sends test 1, 3, 30, 31, 32, 33, 34, 35, 2." "An accepted send or reply writes its own bytes from the start of the output and nothing
 -- behind them."
-use Rattle.std.specs.Prelude.{ℕ, ◌≡◌, List, Bool, cond, not, ◌&&◌, length, ltb, leb, eqb, Err}
+use Rattle.std.specs.Prelude.{ℕ, ◌≡◌, List, Bool, cond, not, ◌&&◌, length, ltb, leb, eqb, Err, Result}
 use Rattle.bytes_be.specs.Part.{put_at}
 use Rattle.control.specs.Frame.{type_of}
 use Rattle.endpoint.specs.declared.Endpoint.{Endpoint}
 use Rattle.endpoint.specs.Record.{good, shut, capacity, asked}
 use Rattle.table.specs.declared.Refusal.TheVariants.{NotAllowed, AboveOffer}
-use Rattle.table.specs.Table.{Row, row_of, send_number, not_allowed, above_offer, moved}
+use Rattle.table.specs.declared.Refusal.{Refusal}
+use Rattle.table.specs.declared.Step.{Step}
+use Rattle.table.specs.Table.{row_of, send_number, not_allowed, above_offer, moved}
 use Rattle.sending.specs.declared.Outgoing.{Outgoing}
 use Rattle.sending.specs.declared.Sent.{Sent}
 use Rattle.sending.specs.Calls.{Call, outgoing, written}
 
 -- the row of the table for an own message
-unfoldable pub send_row : Endpoint → Outgoing → Row
+unfoldable pub send_row : Endpoint → Outgoing → Result Step Refusal
 send_row e o = row_of e.role e.flow e.phase e.n o.message o.type_data
 
 -- 32: "ask with W = 16"
@@ -21,7 +23,7 @@ is_full e o = o.ask && leb capacity e.w
 
 -- "1, 3, 30, 31, 32, 33, 34, 35, 2": the first that applies, or 0. 30 and 31 are the numbers of the row, and of 33, 34 and 35 a call has
 -- at most one, its own
-unfoldable pub number_for : Endpoint → Outgoing → Row → ℕ → ℕ
+unfoldable pub number_for : Endpoint → Outgoing → Result Step Refusal → ℕ → ℕ
 number_for e o row room =
     cond (not (good e)) 1
     (cond (eqb e.phase shut) 3
@@ -41,7 +43,7 @@ abbrev pub unsent : Endpoint → ℕ → Sent
 unsent e number = record { number = number; next = e; written = 0 }
 
 -- the number, the endpoint "After it", and how many bytes are written
-abbrev pub sent_if : ℕ → Endpoint → Outgoing → Row → Sent
+abbrev pub sent_if : ℕ → Endpoint → Outgoing → Result Step Refusal → Sent
 sent_if number e o row =
     cond (eqb number 0)
     (record { number = 0; next = asked_by (moved e row) o; written = o.length })

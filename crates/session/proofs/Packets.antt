@@ -6,7 +6,7 @@ use mathlib.Core.Bool.{Bool, true, false, cond, ◌&&◌}
 use native.Mathlib.Omega.{arith}
 use lib.Dec.{eqb, leb, ltb}
 use borrow.Author.Tests.{eqb-true, leb-false, ne_eqb}
-use Rattle.std.specs.Prelude.{Err, Ok}
+use Rattle.std.specs.Prelude.{Err, Ok, Result}
 use Rattle.bytes_be.proofs.Tests.{clash}
 use Rattle.control.specs.declared.MessageType.{MessageType}
 use Rattle.control.specs.declared.MessageType.TheVariants.{Open, Ready, Noop, Data, Close}
@@ -16,7 +16,9 @@ use Rattle.endpoint.specs.declared.Entry.{Entry}
 use Rattle.endpoint.specs.Record.{asked, at_phase, awaited, capacity, closed, one_more, shut}
 use Rattle.endpoint.proofs.Awaited.{asked_awaited, phase_awaited}
 use Rattle.table.specs.declared.Refusal.TheVariants.{NotAllowed, AboveOffer}
-use Rattle.table.specs.Table.{Row, To, above_offer, at_row, moved, not_allowed, row_of}
+use Rattle.table.specs.declared.Refusal.{Refusal}
+use Rattle.table.specs.declared.Step.{Step}
+use Rattle.table.specs.Table.{To, above_offer, at_row, moved, not_allowed, row_of}
 use Rattle.sending.specs.declared.Outgoing.{Outgoing}
 use Rattle.sending.specs.declared.Sent.{Sent}
 use Rattle.sending.specs.Calls.{Call, OPEN, READY, DATA, NOOP, CLOSE, message_of, type_data_of, ask_of, outgoing}
@@ -67,7 +69,7 @@ module _ (e : Endpoint) (sound : Sound e) (role flow : ℕ) (message : MessageTy
   -- an endpoint comes to the phase and n of its row, and stays the same in role, flow and limit
   pub row_comes : Comes e phase n e.limit (at_row e phase n)
   unfolding at_row closed at_phase
-  row_comes = go (eqb phase shut) refl (subst (λ (row : Row). Sound (moved e row)) leads (row_sound e sound role flow message type-data few))
+  row_comes = go (eqb phase shut) refl (subst (λ (row : Result Step Refusal). Sound (moved e row)) leads (row_sound e sound role flow message type-data few))
     where
       go : (t : Bool) → eqb phase shut ≡ t → Sound (cond t (closed e) (at_phase e phase n))
           → Comes e phase n e.limit (cond t (closed e) (at_phase e phase n))
@@ -90,12 +92,12 @@ module _ (e : Endpoint) (phase n : ℕ) (goes : phase ≡ shut → ⊥) where
 -- ---- a call that was accepted
 
 -- a row that no test refuses leads somewhere
-record LeadsOn (row : Row) : Type 0 where
+record LeadsOn (row : Result Step Refusal) : Type 0 where
   phase : ℕ
   n : ℕ
   leads : row ≡ To phase n
 
-leads_on : (row : Row) → not_allowed row ≡ false → above_offer row ≡ false → LeadsOn row
+leads_on : (row : Result Step Refusal) → not_allowed row ≡ false → above_offer row ≡ false → LeadsOn row
 leads_on (Err NotAllowed) barred below = clash cc
 leads_on (Err AboveOffer) passes above = clash cc
 leads_on (Ok step) passes below = record { phase = step.phase; n = step.n; leads = refl }
@@ -147,7 +149,7 @@ sent_on e call room sound fits zero_number =
     let on = leads_on (send_row e o) passed.allowed passed.below in
     let after : Endpoint = at_row e on.phase on.n in
     let next : (send_of e call room).next ≡ cond (ask_of call) (asked after entry) after =
-    ap (λ (s : Sent). s.next) (accepted_sent e o room zero_number) ∙ ap (λ (row : Row). asked_by (moved e row) o) on.leads in
+    ap (λ (s : Sent). s.next) (accepted_sent e o room zero_number) ∙ ap (λ (row : Result Step Refusal). asked_by (moved e row) o) on.leads in
     let comes = row_comes e sound e.role e.flow (message_of call) (type_data_of call) on.phase on.n fits on.leads in
     let moves = row_moved e.role e.flow e.phase e.n (message_of call) (type_data_of call) on.phase on.n on.leads in
     record {

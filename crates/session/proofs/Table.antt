@@ -5,12 +5,14 @@ use mathlib.Core.Bool.{Bool, true, false, cond, ◌&&◌, ◌||◌}
 use native.Mathlib.Omega.{arith}
 use lib.Dec.{eqb, leb}
 use borrow.Author.Tests.{eq-eqb, eqb-false, eqb-true, le-leb, leb-true, ne_eqb}
-use Rattle.std.specs.Prelude.{Err, Ok}
+use Rattle.std.specs.Prelude.{Err, Ok, Result}
 use Rattle.bytes_be.proofs.Tests.{both_true, clash}
 use Rattle.control.specs.declared.MessageType.{MessageType}
 use Rattle.control.specs.declared.MessageType.TheVariants.{Open, Ready, Noop, Data, Close}
 use Rattle.endpoint.specs.Record.{client, producer, fresh, opening, idle, offer, batch, shut}
-use Rattle.table.specs.Table.{Row, To, allowed, begun, close_row, data_row, noop_row, open_row, other, ready_row, row_of, up_to}
+use Rattle.table.specs.declared.Refusal.{Refusal}
+use Rattle.table.specs.declared.Step.{Step}
+use Rattle.table.specs.Table.{To, allowed, begun, close_row, data_row, noop_row, open_row, other, ready_row, row_of, up_to}
 use Rattle.session.specs.World.{End, across, Ending, ended_by, Client, Server, Going}
 use Rattle.session.specs.Packets.{Packet, row_message, type_data_in}
 use Rattle.session.specs.Turns.{role_of, Kind, kind_of, Stage, Standing, Active, Alive, Leads, Hears, Moves, Stays, Ends, At, ClosedByOther}
@@ -33,16 +35,16 @@ pub data Moved (role flow phase n : ℕ) : MessageType → ℕ → ℕ → ℕ �
   closes : {type-data : ℕ} → opening ≤ phase → phase ≤ batch → Moved role flow phase n Close type-data shut 0
 
 -- what holds of where a row leads, if it leads on
-abbrev Where : (ℕ → ℕ → Type 0) → Row → Type 0
+abbrev Where : (ℕ → ℕ → Type 0) → Result Step Refusal → Type 0
 Where P (Err refusal) = Unit
 Where P (Ok step) = P step.phase step.n
 
 module _ (P : ℕ → ℕ → Type 0) where
-  allowed_where : (t : Bool) (row : Row) → (t ≡ true → Where P row) → Where P (allowed t row)
+  allowed_where : (t : Bool) (row : Result Step Refusal) → (t ≡ true → Where P row) → Where P (allowed t row)
   allowed_where true row there = there refl
   allowed_where false row there = tt
 
-  up_to_where : (t : Bool) (row : Row) → (t ≡ true → Where P row) → Where P (up_to t row)
+  up_to_where : (t : Bool) (row : Result Step Refusal) → (t ≡ true → Where P row) → Where P (up_to t row)
   up_to_where true row there = there refl
   up_to_where false row there = tt
 
