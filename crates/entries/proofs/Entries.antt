@@ -46,7 +46,7 @@ use Rattle.session.proofs.Tables.{fresh_due, tables_laws}
 use Rattle.entries.proofs.Told.{answer_told, reply_told}
 use Rattle.session.proofs.Demand.{laws_suffice}
 use Rattle.control.specs.declared.Control.{Control}
-use Rattle.std.specs.Prelude.{Option, None}
+use Rattle.std.specs.Prelude.{Option, None, Some}
 
 pub tables_meet : TablesMeet
 unfolding by_tables

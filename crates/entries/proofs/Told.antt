@@ -28,7 +28,7 @@ use Rattle.machine.specs.Programs.{told_of, replies}
 use Rattle.machine.proofs.Bodies.{frames_tell_body}
 use Rattle.entries.specs.Entries.{told_by, replies_by}
 use Rattle.control.specs.declared.Control.{Control}
-use Rattle.std.specs.Prelude.{Option, None}
+use Rattle.std.specs.Prelude.{Option, None, Some}
 use Rattle.receiving.specs.Refusing.{replying}
 
 -- a body that is told by the number of data frames is the one that was heard
@@ -60,9 +60,9 @@ reply_found : (reply : Option Control) (out : List ℕ) → 14 ≤ length out
     → cond (eqb (reply_length reply) 0) [] (take (reply_length reply) (replied reply out) ∷ []) ≡ replies reply
 unfolding replied
 reply_found None out room = refl
-reply_found (replying message flags type-data) out room =
-    let long = reply_long message flags type-data in
-    simp long (ap (λ (l : List ℕ). l ∷ []) (rw long at (part_put out 0 (reply_bytes (replying message flags type-data)) (omega (arith, long)))))
+reply_found (Some frame) out room =
+    let long = reply_long frame.message frame.flags frame.type_data in
+    simp long (ap (λ (l : List ℕ). l ∷ []) (rw long at (part_put out 0 (reply_bytes (Some frame)) (omega (arith, long)))))
 
 pub reply_told : (answer : Answer) (reply : Option Control) (out : List ℕ) → 14 ≤ length out
     → replies_by (answer_slots answer (reply_length reply)) (replied reply out) ≡ replies reply

@@ -37,17 +37,17 @@ module _ (s : List ℕ) where
   opening_lacks (Err refusal) = tt
 
   data_lacks : (flags frames : ℕ) (place : Place) → bad_frames Data flags frames ≡ false
-      → Lacks (not (not (eqb frames 0))) (body_carried (body_behind Data flags frames place))
+      → Lacks (not (not (eqb frames 0))) (Ok (body_carried (body_behind Data flags frames place)))
   data_lacks flags frames place passes = go (eqb flags ack_reply) (eqb frames 0) passes
     where
-      go : (confirms none : Bool) → cond confirms (not none) (leb 2 frames) ≡ false → Lacks (not (not none)) (body_carried (cond (not confirms && not none) (Some place) None))
+      go : (confirms none : Bool) → cond confirms (not none) (leb 2 frames) ≡ false → Lacks (not (not none)) (Ok (body_carried (cond (not confirms && not none) (Some place) None)))
       go true true passes = refl
       go true false passes = clash cc
       go false true passes = refl
       go false false passes = refl
 
   carried_lacks : (said : Result Opening Refusal) (message : MessageType) (flags frames : ℕ) (place : Place) → bad_frames message flags frames ≡ false
-      → Lacks (not (tells_body (type_of message) frames)) (carried_as message (open_carried said) (body_carried (body_behind message flags frames place)))
+      → Lacks (not (tells_body (type_of message) frames)) (carried_as message (open_carried said) (Ok (body_carried (body_behind message flags frames place))))
   carried_lacks said Open flags frames place passes = opening_lacks said
   carried_lacks said Ready flags frames place passes = refl
   carried_lacks said Noop flags frames place passes = refl
@@ -69,6 +69,6 @@ frames_tell_body e s pipe room heard is =
     let placed = read_placed s m passed.read in
     let place = body_place m.body in
     let said = heard_by s place.at (place.at + place.length) e.flow pipe in
-    let carries = ap (λ (body : Option Place). carried_as m.message (open_carried said) (body_carried body)) placed.there in
+    let carries = ap (λ (body : Option Place). carried_as m.message (open_carried said) (Ok (body_carried body))) placed.there in
     subst (Lacks s (not (tells_body (type_of m.message) m.frames))) (sym carries ∙ passed.carried)
     (carried_lacks s said m.message m.flags m.frames placed.place placed.passes)) room)

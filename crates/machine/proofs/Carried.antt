@@ -6,6 +6,7 @@ use native.Mathlib.Omega.{arith}
 use Rattle.bytes_be.specs.declared.Place.{Place}
 use Rattle.control.specs.declared.MessageType.{MessageType}
 use Rattle.control.specs.declared.MessageType.TheVariants.{Open, Ready, Noop, Data, Close}
+use Rattle.open.specs.declared.Opening.{Opening as Opening-as-Frame}
 use Rattle.open.specs.declared.Refusal.{Refusal}
 use Rattle.open.specs.declared.Refusal.TheVariants.{Unreadable, OutOfRange, UnknownSocket, OtherPipe, OtherFormat}
 use Rattle.open.specs.Open.{heard_by, refusal_number}
@@ -35,11 +36,11 @@ CarriedBounded (Ok (Opening opening)) = HeardBounded opening
 CarriedBounded (Ok (Content-as-Body place)) = Unit
 CarriedBounded (Err refusal) = WhileCarried (refusal_number refusal)
 
-open_carries : (said : Result Opening Refusal) → OfOpening HeardBounded said → CarriedBounded (open_carried said)
+open_carries : (said : Result Opening-as-Frame Refusal) → OfOpening HeardBounded said → CarriedBounded (open_carried said)
 open_carries (Ok opening) bounded = bounded
 open_carries (Err refusal) bounded = refusal_numbered refusal
 
-body_carries : (body : Option Place) → CarriedBounded (body_carried body)
+body_carries : (body : Option Place) → CarriedBounded (Ok (body_carried body))
 body_carries None = tt
 body_carries (Some place) = tt
 
@@ -50,7 +51,7 @@ carried_bounded e s pipe m = go m.message
     place : Place
     place = body_place m.body
 
-    go : (message : MessageType) → CarriedBounded (carried_as message (open_at e s pipe place) (body_carried m.body))
+    go : (message : MessageType) → CarriedBounded (carried_as message (open_at e s pipe place) (Ok (body_carried m.body)))
     go Open = open_carries (heard_by s place.at (place.at + place.length) e.flow pipe) (heard_bounded s place.at (place.at + place.length) e.flow pipe)
     go Ready = body_carries m.body
     go Noop = body_carries m.body

@@ -11,6 +11,8 @@ use Rattle.bytes_be.proofs.Tests.{took_second}
 use Rattle.control.specs.Frame.{type_of}
 use Rattle.open.specs.Offer.{Offer}
 use Rattle.message.specs.declared.Message.{Message}
+use Rattle.open.specs.declared.Refusal.{Refusal as Refusal-of-open}
+use Rattle.open.specs.Open.{refusal_number as refusal_number-of-open}
 use Rattle.message.specs.declared.Refusal.{Refusal}
 use Rattle.message.specs.Reading.{reading_of, refusal_number, said_in}
 use Rattle.message.proofs.Inside.{read_refused}
@@ -113,17 +115,17 @@ reading_coded e s refusal stops =
     coded e (refusal_number refusal) (said_by s) (omega (arith, among.0)) (omega (arith, among.1))
 
 carried_coded : (e : Endpoint) (s : List ℕ) (pipe : Offer) (m : Message) (refusal : Refusal-of-open) → carried_by e s pipe m ≡ Err refusal
-    → close_code e number (said_by s) ≡ 0 → ⊥
-carried_coded e s pipe m number stops =
+    → close_code e (refusal_number-of-open refusal) (said_by s) ≡ 0 → ⊥
+carried_coded e s pipe m refusal stops =
     let among = subst CarriedBounded stops (carried_bounded e s pipe m) in
-    coded e number (said_by s) (omega (arith, among.0)) (omega (arith, among.1))
+    coded e (refusal_number-of-open refusal) (said_by s) (omega (arith, among.0)) (omega (arith, among.1))
 
 module _ (Holds : Received → Type 0) (e : Endpoint) (s : List ℕ) (pipe : Offer) where
   by_test : (fails : Bool) (refusal next : Received) → Holds refusal → (fails ≡ false → Holds next) → Holds (cond fails refusal next)
   by_test true refusal next first second = first
   by_test false refusal next first second = second refl
 
-  by_content : (carried : Carried) (refuse : ℕ → Received) (next : Content → Received) → ((refusal : Refusal-of-open) → carried ≡ Err refusal → Holds (refuse (refusal_number refusal)))
+  by_content : (carried : Carried) (refuse : ℕ → Received) (next : Content → Received) → ((refusal : Refusal-of-open) → carried ≡ Err refusal → Holds (refuse (refusal_number-of-open refusal)))
       → ((content : Content) → carried ≡ Ok content → Holds (next content)) → Holds (if_carried carried refuse next)
   by_content (Err refusal) refuse next first second = first refusal refl
   by_content (Ok content) refuse next first second = second content refl
@@ -144,7 +146,7 @@ module _ (Holds : Received → Type 0) (e : Endpoint) (s : List ℕ) (pipe : Off
     message_holds alive m read =
         by_test (too_large e m) _ _ (read_closes m read 16 (coded e 16 (said_by s) (omega arith) (omega arith))) (λ small.
         by_test (forbidden e m) _ _ (read_closes m read 17 (coded e 17 (said_by s) (omega arith) (omega arith))) (λ allowed.
-        by_content (carried_by e s pipe m) _ _ (λ number stops. read_closes m read number (carried_coded e s pipe m number stops)) (λ content carried.
+        by_content (carried_by e s pipe m) _ _ (λ refusal stops. read_closes m read (refusal_number-of-open refusal) (carried_coded e s pipe m refusal stops)) (λ content carried.
         by_test (above_offer (hear_row e m)) _ _ (read_closes m read 23 (coded e 23 (said_by s) (omega arith) (omega arith))) (λ below.
         by_test (unmatched e m) _ _ (read_closes m read 24 (coded e 24 (said_by s) (omega arith) (omega arith))) (λ matched.
         accepts m content (record { alive = alive; read = read; small = small; allowed = allowed; carried = carried; below = below; matched = matched }))))))

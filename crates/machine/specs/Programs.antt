@@ -1,6 +1,6 @@
 -- A program that makes, sends and receives: what it answers, tells and writes, over states and outputs of any type. `tables` is the program that the
 -- contracts of `endpoint`, `sending` and `receiving` describe.
-use Rattle.std.specs.Prelude.{ℕ, Result, List, [], ◌∷◌, Option, None}
+use Rattle.std.specs.Prelude.{ℕ, Result, List, [], ◌∷◌, Option, None, Some}
 use Rattle.control.specs.Frame.{type_of}
 use Rattle.open.specs.Offer.{Offer}
 use Rattle.endpoint.specs.declared.Endpoint.{Endpoint}

@@ -6,5 +6,5 @@ use Rattle.control.proofs.Round.{length_control}
 use Rattle.control.specs.Frame.{bytes_of}
 use Rattle.fbdp.proofs.reply_length.Goals as goal
 
-pub returns-in-Frame : goal.returns-in-Frame
-returns-in-Frame c = simp c.in-Frame.is (sym (one_long (bytes_of _ _ _) (length_control _ _ _) []))
+pub returns-in-Some : goal.returns-in-Some
+returns-in-Some c = simp c.in-Some.is (sym (one_long (bytes_of _ _ _) (length_control _ _ _) []))
