@@ -21,11 +21,9 @@ use Rattle.endpoint.proofs.Round.{block_told, byte_six_counts, loaded_good, load
 use Rattle.endpoint.proofs.Stored.{length_block}
 use Rattle.receiving.specs.declared.Answer.{Answer}
 use Rattle.receiving.specs.declared.Answer.TheVariants.{Heard, Stays, Closes}
-use Rattle.receiving.specs.declared.Reply.{Reply}
-use Rattle.receiving.specs.declared.Reply.TheVariants.{Nothing, Frame}
 use Rattle.receiving.specs.declared.Received.{Received}
 use Rattle.receiving.specs.Receiving.{answer_number, received_of, replied}
-use Rattle.receiving.specs.Refusing.{unchanged}
+use Rattle.receiving.specs.Refusing.{unchanged, replying}
 use Rattle.sending.specs.declared.Sent.{Sent}
 use Rattle.sending.specs.Calls.{Call, outgoing, written}
 use Rattle.sending.specs.Sending.{left_by, send_of}
@@ -47,6 +45,8 @@ use Rattle.session.proofs.Ends.{fresh_sound}
 use Rattle.session.proofs.Tables.{fresh_due, tables_laws}
 use Rattle.entries.proofs.Told.{answer_told, reply_told}
 use Rattle.session.proofs.Demand.{laws_suffice}
+use Rattle.control.specs.declared.Control.{Control}
+use Rattle.std.specs.Prelude.{Option, None}
 
 pub tables_meet : TablesMeet
 unfolding by_tables
@@ -123,7 +123,7 @@ module _ (block : List ℕ) (call : Call) (out : List ℕ) (number count : ℕ) 
 
 -- a receive: what the entry told, wrote and left is what the record in its block came to
 
-received_back : (s block : List ℕ) (answer : Answer) (next : Endpoint) (reply : Reply)
+received_back : (s block : List ℕ) (answer : Answer) (next : Endpoint) (reply : Option Control)
     → DoesAs (load_of block) s (record { answer = answer; next = next; reply = reply }) answer → length block ≡ 64 → Sound next
     → load_of (cond (stays answer) block (stored next block)) ≡ next
 unfolding unchanged
@@ -138,13 +138,13 @@ ignored_stays e s received (Heard heard) does among = absurd (omega (arith, amon
 ignored_stays e s received (Stays number) does among = refl
 ignored_stays e s received (Closes number) does among = absurd (does.coded (uncoded e number (said_by s) (omega (arith, among.1))))
 
-no_reply : (answer : Answer) (reply : Reply) (out : List ℕ) → replies reply ≡ []
+no_reply : (answer : Answer) (reply : Option Control) (out : List ℕ) → replies reply ≡ []
     → replies_by (answer_slots answer (reply_length reply)) (replied reply out) ≡ []
 unfolding heard_slots
-no_reply (Heard heard) Nothing out none = refl
-no_reply (Stays number) Nothing out none = refl
-no_reply (Closes number) Nothing out none = refl
-no_reply answer (Frame message flags type-data) out none = clash cc
+no_reply (Heard heard) None out none = refl
+no_reply (Stays number) None out none = refl
+no_reply (Closes number) None out none = refl
+no_reply answer (Some frame) out none = clash cc
 
 module _ (s : List ℕ) (pipe : Offer) (block out : List ℕ) (number : ℕ) (slots block' out' : List ℕ)
     (answer : ReceiveOnBlock s pipe block out number slots block' out') where

@@ -19,8 +19,6 @@ use Rattle.receiving.specs.declared.Content.{Content}
 use Rattle.receiving.specs.declared.Content.TheVariants.{Nothing as Content-as-Nothing, Opening, Body}
 use Rattle.receiving.specs.declared.Answer.{Answer}
 use Rattle.receiving.specs.declared.Answer.TheVariants.{Heard as Answer-as-Heard, Stays, Closes}
-use Rattle.receiving.specs.declared.Reply.{Reply}
-use Rattle.receiving.specs.declared.Reply.TheVariants.{Nothing, Frame}
 use Rattle.receiving.specs.Receiving.{received_of, reply_bytes, replied}
 use Rattle.fbdp.specs.Slots.{answer_slots, carries_of, heard_slots}
 use Rattle.fbdp.specs.Blocks.{reply_length}
@@ -29,6 +27,9 @@ use Rattle.machine.specs.Bodies.{body_heard, tells_body}
 use Rattle.machine.specs.Programs.{told_of, replies}
 use Rattle.machine.proofs.Bodies.{frames_tell_body}
 use Rattle.entries.specs.Entries.{told_by, replies_by}
+use Rattle.control.specs.declared.Control.{Control}
+use Rattle.std.specs.Prelude.{Option, None}
+use Rattle.receiving.specs.Refusing.{replying}
 
 -- a body that is told by the number of data frames is the one that was heard
 body_told : (s : List ℕ) (tells : Bool) (content : Content) → is_missing (body_heard s content) ≡ not tells
@@ -52,18 +53,18 @@ module _ (e : Endpoint) (s : List ℕ) (pipe : Offer) (room reply : ℕ) where
 
 -- a reply has 14 bytes, which a host finds in an output that has room for it
 
-reply_long : (message : MessageType) (flags type-data : ℕ) → reply_length (Frame message flags type-data) ≡ 14
+reply_long : (message : MessageType) (flags type-data : ℕ) → reply_length (replying message flags type-data) ≡ 14
 reply_long message flags type-data = one_long (bytes_of message flags type-data) (length_control message flags type-data) []
 
-reply_found : (reply : Reply) (out : List ℕ) → 14 ≤ length out
+reply_found : (reply : Option Control) (out : List ℕ) → 14 ≤ length out
     → cond (eqb (reply_length reply) 0) [] (take (reply_length reply) (replied reply out) ∷ []) ≡ replies reply
 unfolding replied
-reply_found Nothing out room = refl
-reply_found (Frame message flags type-data) out room =
+reply_found None out room = refl
+reply_found (replying message flags type-data) out room =
     let long = reply_long message flags type-data in
-    simp long (ap (λ (l : List ℕ). l ∷ []) (rw long at (part_put out 0 (reply_bytes (Frame message flags type-data)) (omega (arith, long)))))
+    simp long (ap (λ (l : List ℕ). l ∷ []) (rw long at (part_put out 0 (reply_bytes (replying message flags type-data)) (omega (arith, long)))))
 
-pub reply_told : (answer : Answer) (reply : Reply) (out : List ℕ) → 14 ≤ length out
+pub reply_told : (answer : Answer) (reply : Option Control) (out : List ℕ) → 14 ≤ length out
     → replies_by (answer_slots answer (reply_length reply)) (replied reply out) ≡ replies reply
 unfolding heard_slots
 reply_told (Answer-as-Heard heard) reply out room = reply_found reply out room

@@ -1,6 +1,6 @@
 -- What each entry on a state block answers and leaves: making, the five sends and receive, each with an equation for the number, for every
 -- output of numbers, for the block and for the output. A call or a message is answered by the record in the block: 1 where it is not good.
-use Rattle.std.specs.Prelude.{ℕ, ◌≡◌, Result, Ok, Err, List, Bool, true, false, cond, length, replicate, eqb}
+use Rattle.std.specs.Prelude.{ℕ, ◌≡◌, Result, Ok, Err, List, Bool, true, false, cond, length, replicate, eqb, Option}
 use Rattle.bytes_be.specs.Part.{put_at}
 use Rattle.open.specs.Offer.{Offer}
 use Rattle.endpoint.specs.declared.BadMaking.{BadMaking}
@@ -9,7 +9,6 @@ use Rattle.endpoint.specs.Record.{given_number, made_of}
 use Rattle.endpoint.specs.Block.{bytes_of, is_good, load_of}
 use Rattle.receiving.specs.declared.Answer.{Answer}
 use Rattle.receiving.specs.declared.Answer.TheVariants.{Heard, Stays, Closes}
-use Rattle.receiving.specs.declared.Reply.{Reply}
 use Rattle.receiving.specs.declared.Received.{Received}
 use Rattle.receiving.specs.Receiving.{answer_number, reply_bytes, replied, received_of}
 use Rattle.sending.specs.declared.Report.{Report}
@@ -18,6 +17,7 @@ use Rattle.sending.specs.Calls.{Body, Missing, Given, Datum, datum_of, Call, DAT
 use Rattle.sending.specs.Options.{asking, without_body, is_chosen, how_of}
 use Rattle.sending.specs.Sending.{send_of, left_by}
 use Rattle.fbdp.specs.Slots.{answer_slots, in_order}
+use Rattle.control.specs.declared.Control.{Control}
 
 -- the block with the 64 bytes of a record
 unfoldable pub stored : Endpoint → List ℕ → List ℕ
@@ -85,7 +85,7 @@ abbrev pub received_on : List ℕ → List ℕ → Offer → ℕ → Received
 received_on block s pipe room = received_of (load_of block) s pipe room
 
 -- how many bytes of the output are the reply
-abbrev pub reply_length : Reply → ℕ
+abbrev pub reply_length : Option Control → ℕ
 reply_length reply = length (reply_bytes reply)
 
 -- "All others change no byte.": whether an answer does

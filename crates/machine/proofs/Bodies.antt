@@ -16,12 +16,10 @@ use Rattle.message.specs.Held.{body_behind}
 use Rattle.message.proofs.Bodies.{read_placed}
 use Rattle.receiving.specs.declared.Answer.{Answer}
 use Rattle.receiving.specs.declared.Answer.TheVariants.{Heard as Answer-as-Heard, Stays, Closes}
-use Rattle.receiving.specs.declared.Carried.{Carried}
-use Rattle.receiving.specs.declared.Carried.TheVariants.{Content as Carried-as-Content, Refused as Carried-as-Refused}
 use Rattle.receiving.specs.declared.Received.{Received}
 use Rattle.open.specs.declared.Opening.{Opening}
 use Rattle.open.specs.declared.Refusal.{Refusal}
-use Rattle.receiving.specs.Hearing.{accepted, body_carried, carried_as, carried_by, open_at, open_carried}
+use Rattle.receiving.specs.Hearing.{accepted, body_carried, carried_as, carried_by, open_at, open_carried, Carried}
 use Rattle.receiving.specs.Refusing.{refused, unchanged}
 use Rattle.sending.specs.Calls.{is_missing}
 use Rattle.machine.specs.Bodies.{FramesTellBody, body_heard, tells_body}
@@ -30,8 +28,8 @@ use Rattle.machine.proofs.Stages.{received_holds}
 module _ (s : List ℕ) where
   -- whether what is carried has no body; nothing is asked of what is refused
   abbrev Lacks : Bool → Carried → Type 0
-  Lacks none (Carried-as-Content content) = is_missing (body_heard s content) ≡ none
-  Lacks none (Carried-as-Refused number) = Unit
+  Lacks none (Ok content) = is_missing (body_heard s content) ≡ none
+  Lacks none (Err refusal) = Unit
 
   -- the frame of an OPEN is no body
   opening_lacks : (said : Result Opening Refusal) → Lacks true (open_carried said)

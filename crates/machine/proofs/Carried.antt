@@ -15,10 +15,8 @@ use Rattle.message.specs.declared.Message.{Message}
 use Rattle.message.specs.Reading.{body_place}
 use Rattle.open.specs.Offer.{Offer}
 use Rattle.endpoint.specs.declared.Endpoint.{Endpoint}
-use Rattle.receiving.specs.declared.Carried.{Carried}
-use Rattle.receiving.specs.declared.Carried.TheVariants.{Content as Carried-as-Content, Refused as Carried-as-Refused}
 use Rattle.receiving.specs.declared.Content.TheVariants.{Nothing, Opening, Body as Content-as-Body}
-use Rattle.receiving.specs.Hearing.{body_carried, carried_as, carried_by, open_at, open_carried}
+use Rattle.receiving.specs.Hearing.{body_carried, carried_as, carried_by, open_at, open_carried, Carried}
 
 -- the numbers that refuse what a message carries
 abbrev pub WhileCarried : ℕ → Type 0
@@ -32,10 +30,10 @@ refusal_numbered OtherPipe = (omega arith, omega arith)
 refusal_numbered OtherFormat = (omega arith, omega arith)
 
 abbrev pub CarriedBounded : Carried → Type 0
-CarriedBounded (Carried-as-Content Nothing) = Unit
-CarriedBounded (Carried-as-Content (Opening opening)) = HeardBounded opening
-CarriedBounded (Carried-as-Content (Content-as-Body place)) = Unit
-CarriedBounded (Carried-as-Refused number) = WhileCarried number
+CarriedBounded (Ok Nothing) = Unit
+CarriedBounded (Ok (Opening opening)) = HeardBounded opening
+CarriedBounded (Ok (Content-as-Body place)) = Unit
+CarriedBounded (Err refusal) = WhileCarried (refusal_number refusal)
 
 open_carries : (said : Result Opening Refusal) → OfOpening HeardBounded said → CarriedBounded (open_carried said)
 open_carries (Ok opening) bounded = bounded

@@ -16,7 +16,6 @@ use Rattle.endpoint.specs.declared.Entry.{Entry}
 use Rattle.endpoint.specs.Record.{asked, awaitable, producer, confirmed}
 use Rattle.endpoint.proofs.StaysGood.{asked_good, asked_sized, confirmed_good, confirmed_sized, limited_good, limited_sized}
 use Rattle.table.specs.Table.{Row, moved, not_allowed, other}
-use Rattle.receiving.specs.declared.Carried.TheVariants.{Content as Carried-as-Content}
 use Rattle.receiving.specs.declared.Content.{Content}
 use Rattle.receiving.specs.declared.Content.TheVariants.{Nothing, Opening, Body as Content-as-Body}
 use Rattle.receiving.specs.declared.Received.{Received}
@@ -31,6 +30,7 @@ use Rattle.machine.specs.Refusals.{said_by}
 use Rattle.machine.proofs.Carried.{CarriedBounded, carried_bounded}
 use Rattle.machine.proofs.Rows.{Acts, row_sound, sent_data_acts, sent_noop_acts, closed_sound}
 use Rattle.machine.proofs.Stages.{Passed, received_holds}
+use Rattle.std.specs.Prelude.{Ok, Err}
 
 module _ (e : Endpoint) (sound : Sound e) where
   -- an ask, or none
@@ -78,7 +78,7 @@ module _ (e : Endpoint) (sound : Sound e) where
   confirmed_sound false after good = good
 
   -- a limit, or none
-  limited_sound : (content : Content) (after : Endpoint) → CarriedBounded (Carried-as-Content content) → Sound after → Sound (limited_by after content)
+  limited_sound : (content : Content) (after : Endpoint) → CarriedBounded (Ok content) → Sound after → Sound (limited_by after content)
   limited_sound Nothing after bounded good = good
   limited_sound (Opening opening) after bounded good =
       let limit : ℕ = announced_limit opening.announced in

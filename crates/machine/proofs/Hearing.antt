@@ -1,5 +1,5 @@
 -- What an end that may hear a message makes of it, and of an OPEN that asks for what is offered. Assumes nothing.
-use Rattle.std.specs.Prelude.{Ok}
+use Rattle.std.specs.Prelude.{Ok, Err}
 use mathlib.Core.Path.{◌≡◌, refl}
 use Prim.Native.Nat.{ℕ}
 use mathlib.Core.List.{List}
@@ -18,7 +18,6 @@ use Rattle.message.specs.Reading.{reading_of}
 use Rattle.endpoint.specs.declared.Endpoint.{Endpoint}
 use Rattle.endpoint.specs.Record.{shut}
 use Rattle.table.specs.Table.{To, other}
-use Rattle.receiving.specs.declared.Carried.TheVariants.{Content as Carried-as-Content}
 use Rattle.receiving.specs.declared.Content.{Content}
 use Rattle.receiving.specs.Hearing.{accepted, forbidden, hear_content, hear_message, hear_of, hear_row, too_large, carried_by, unmatched, moves_as}
 use Rattle.machine.proofs.Rows.{row_alive}
@@ -29,7 +28,7 @@ module _ (r : Endpoint) (m : Message) (phase n : ℕ) (leads : hear_row r m ≡ 
   alive = row_alive (other r.role) (other r.flow) r.phase r.n (moves_as m.message m.flags) m.type_data phase n leads
 
   -- a message that none of the tests refuses is accepted
-  pub message_heard : (s : List ℕ) (pipe : Offer) (content : Content) → reading_of s ≡ Ok m → too_large r m ≡ false → carried_by r s pipe m ≡ Carried-as-Content content →
+  pub message_heard : (s : List ℕ) (pipe : Offer) (content : Content) → reading_of s ≡ Ok m → too_large r m ≡ false → carried_by r s pipe m ≡ Ok content →
       unmatched r m ≡ false → hear_of r s pipe ≡ accepted r m (To phase n) content
   unfolding hear_of hear_message hear_content forbidden
   message_heard s pipe content read small carried matched = simp (alive, read, small, leads, carried, matched)

@@ -16,20 +16,19 @@ use Rattle.message.specs.Reading.{strange_flags}
 use Rattle.message.proofs.Inside.{read_small}
 use Rattle.endpoint.specs.declared.Endpoint.{Endpoint}
 use Rattle.endpoint.specs.Record.{fresh, server}
-use Rattle.receiving.specs.declared.Carried.TheVariants.{Content as Carried-as-Content}
 use Rattle.receiving.specs.declared.Content.{Content}
 use Rattle.receiving.specs.declared.Content.TheVariants.{Nothing as Content-as-Nothing}
 use Rattle.receiving.specs.declared.Received.{Received}
-use Rattle.receiving.specs.declared.Reply.{Reply}
-use Rattle.receiving.specs.declared.Reply.TheVariants.{Nothing, Frame}
 use Rattle.receiving.specs.Hearing.{accepted, asks, hear_row, reply_to, carried_by, confirmed_by}
 use Rattle.receiving.specs.Receiving.{reply_bytes}
-use Rattle.receiving.specs.Refusing.{refused, unchanged, close_code, silent, version_code}
+use Rattle.receiving.specs.Refusing.{refused, unchanged, close_code, silent, version_code, replying}
 use Rattle.machine.specs.Refusals.{said_by}
 use Rattle.machine.specs.Round.{RepliesOnly, RepliesReadBack, is_reply, RepliesHeard, message_with}
 use Rattle.machine.proofs.Bundled.{plain_read}
 use Rattle.machine.proofs.Hearing.{message_heard}
 use Rattle.machine.proofs.Stages.{Passed, received_holds}
+use Rattle.control.specs.declared.Control.{Control}
+use Rattle.std.specs.Prelude.{Option, None, Ok, Err}
 
 -- each of them is read
 
@@ -43,9 +42,9 @@ replies_read_back Close flags type-data reply few = rw (eqb-true flags 0 reply) 
 
 -- and there are no others
 
-abbrev OfReply : Reply → Type 0
-OfReply Nothing = Unit
-OfReply (Frame message flags type-data) = (is_reply message flags ≡ true) × (type-data < 256 ^ 2)
+abbrev OfReply : Option Control → Type 0
+OfReply None = Unit
+OfReply (Some frame) = (is_reply frame.message frame.flags ≡ true) × (frame.type_data < 256 ^ 2)
 
 cond_small : (t : Bool) (a b : ℕ) → a < 256 ^ 2 → b < 256 ^ 2 → cond t a b < 256 ^ 2
 cond_small true a b first second = first
@@ -79,7 +78,7 @@ module _ (e : Endpoint) where
   unfolding refused
   refused_replied number said = go (silent e number said)
     where
-      go : (t : Bool) → OfReply (cond t Nothing (Frame Close 0 (close_code e number said)))
+      go : (t : Bool) → OfReply (cond t None (replying Close 0 (close_code e number said)))
       go true = tt
       go false = (refl, code_small e number said)
 
@@ -87,11 +86,11 @@ module _ (e : Endpoint) where
   unfolding reply_to
   asks_replied m few = go m.message m.flags
     where
-      chosen : (message : MessageType) (t : Bool) → is_reply message ack_reply ≡ true → OfReply (cond t (Frame message ack_reply m.type_data) Nothing)
+      chosen : (message : MessageType) (t : Bool) → is_reply message ack_reply ≡ true → OfReply (cond t (replying message ack_reply m.type_data) None)
       chosen message true reply = (reply, few)
       chosen message false reply = tt
 
-      go : (message : MessageType) (flags : ℕ) → OfReply (cond (asks message flags) (Frame message ack_reply m.type_data) Nothing)
+      go : (message : MessageType) (flags : ℕ) → OfReply (cond (asks message flags) (replying message ack_reply m.type_data) None)
       go Open flags = tt
       go Ready flags = tt
       go Noop flags = chosen Noop (eqb flags ack_request) refl
@@ -111,7 +110,7 @@ replies_only e s bytes pipe room message flags type-data reply =
 
 -- it carries nothing, and it does not ask
 bare : (message : MessageType) (flags type-data : ℕ) → is_reply message flags ≡ true → (r : Endpoint) (pipe : Offer) →
-    (carried_by r (reply_bytes (Frame message flags type-data)) pipe (message_with message flags type-data []) ≡ Carried-as-Content Content-as-Nothing) × (asks message flags ≡ false)
+    (carried_by r (reply_bytes (replying message flags type-data)) pipe (message_with message flags type-data []) ≡ Ok Content-as-Nothing) × (asks message flags ≡ false)
 unfolding carried_by
 bare Open flags type-data reply r pipe = clash cc
 bare Ready flags type-data reply r pipe = clash cc
@@ -124,5 +123,5 @@ unfolding accepted confirmed_by reply_to
 replies_heard message flags type-data reply few r pipe phase n may =
     let nothing = bare message flags type-data reply r pipe in
     let read = replies_read_back message flags type-data reply few in
-    message_heard r (message_with message flags type-data []) phase n may.leads (reply_bytes (Frame message flags type-data)) pipe Content-as-Nothing read may.small nothing.0 may.matched
+    message_heard r (message_with message flags type-data []) phase n may.leads (reply_bytes (replying message flags type-data)) pipe Content-as-Nothing read may.small nothing.0 may.matched
     ∙ simp nothing.1

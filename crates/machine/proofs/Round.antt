@@ -20,7 +20,6 @@ use Rattle.endpoint.specs.declared.Endpoint.{Endpoint}
 use Rattle.endpoint.specs.Record.{limited, good}
 use Rattle.endpoint.proofs.Told.{good_told}
 use Rattle.table.specs.Table.{To, at_row}
-use Rattle.receiving.specs.declared.Carried.TheVariants.{Content as Carried-as-Content}
 use Rattle.receiving.specs.declared.Content.{Content}
 use Rattle.receiving.specs.declared.Content.TheVariants.{Nothing, Opening as Content-as-Opening, Body as Content-as-Body}
 use Rattle.receiving.specs.declared.Received.{Received}
@@ -31,6 +30,7 @@ use Rattle.machine.specs.Good.{Fits}
 use Rattle.machine.specs.Round.{ReadBack, ReadsBack, ContentSent, HeardAsSent, after_hearing, confirmation, is_offered, message_sent}
 use Rattle.machine.proofs.Bundled.{frame_read, framed_read, plain_read}
 use Rattle.machine.proofs.Hearing.{message_heard, offered_heard}
+use Rattle.std.specs.Prelude.{Ok, Err}
 
 -- what 33 and 34 do not refuse
 
@@ -121,7 +121,7 @@ module _ (e : Endpoint) (call : Call) where
 record Carried (e : Endpoint) (call : Call) (r : Endpoint) (pipe : Offer) : Type 0 where
   content : Content
   sent : ContentSent e call (written e call) content
-  carried : carried_by r (written e call) pipe (message_sent e call) ≡ Carried-as-Content content
+  carried : carried_by r (written e call) pipe (message_sent e call) ≡ Ok content
   limits : (moved : Endpoint) → limited_by moved content ≡ after_hearing e call moved
 
 module _ (e : Endpoint) (is-good : good e ≡ true) (r : Endpoint) (pipe : Offer) where

@@ -17,11 +17,9 @@ use Rattle.message.proofs.Inside.{read_refused}
 use Rattle.endpoint.specs.declared.Endpoint.{Endpoint}
 use Rattle.endpoint.specs.Record.{fresh, good, server, shut}
 use Rattle.table.specs.Table.{above_offer}
-use Rattle.receiving.specs.declared.Carried.{Carried}
-use Rattle.receiving.specs.declared.Carried.TheVariants.{Content as Carried-as-Content, Refused as Carried-as-Refused}
 use Rattle.receiving.specs.declared.Content.{Content}
 use Rattle.receiving.specs.declared.Received.{Received}
-use Rattle.receiving.specs.Hearing.{accepted, forbidden, if_carried, if_read, carried_by, hear_content, hear_message, hear_of, hear_row, too_large, unmatched}
+use Rattle.receiving.specs.Hearing.{accepted, forbidden, if_carried, if_read, carried_by, hear_content, hear_message, hear_of, hear_row, too_large, unmatched, Carried}
 use Rattle.receiving.specs.Receiving.{received_of}
 use Rattle.receiving.specs.Refusing.{close_code, refused, unchanged, version_code}
 use Rattle.machine.specs.Refusals.{said_by}
@@ -33,7 +31,7 @@ pub record Passed (e : Endpoint) (s : List ℕ) (pipe : Offer) (m : Message) (co
   pub read : reading_of s ≡ Ok m
   pub small : too_large e m ≡ false
   pub allowed : forbidden e m ≡ false
-  pub carried : carried_by e s pipe m ≡ Carried-as-Content content
+  pub carried : carried_by e s pipe m ≡ Ok content
   pub below : above_offer (hear_row e m) ≡ false
   pub matched : unmatched e m ≡ false
 
@@ -114,7 +112,7 @@ reading_coded e s refusal stops =
     let among = read_refused s refusal stops in
     coded e (refusal_number refusal) (said_by s) (omega (arith, among.0)) (omega (arith, among.1))
 
-carried_coded : (e : Endpoint) (s : List ℕ) (pipe : Offer) (m : Message) (number : ℕ) → carried_by e s pipe m ≡ Carried-as-Refused number
+carried_coded : (e : Endpoint) (s : List ℕ) (pipe : Offer) (m : Message) (refusal : Refusal-of-open) → carried_by e s pipe m ≡ Err refusal
     → close_code e number (said_by s) ≡ 0 → ⊥
 carried_coded e s pipe m number stops =
     let among = subst CarriedBounded stops (carried_bounded e s pipe m) in
@@ -125,10 +123,10 @@ module _ (Holds : Received → Type 0) (e : Endpoint) (s : List ℕ) (pipe : Off
   by_test true refusal next first second = first
   by_test false refusal next first second = second refl
 
-  by_content : (carried : Carried) (refuse : ℕ → Received) (next : Content → Received) → ((number : ℕ) → carried ≡ Carried-as-Refused number → Holds (refuse number))
-      → ((content : Content) → carried ≡ Carried-as-Content content → Holds (next content)) → Holds (if_carried carried refuse next)
-  by_content (Carried-as-Refused number) refuse next first second = first number refl
-  by_content (Carried-as-Content content) refuse next first second = second content refl
+  by_content : (carried : Carried) (refuse : ℕ → Received) (next : Content → Received) → ((refusal : Refusal-of-open) → carried ≡ Err refusal → Holds (refuse (refusal_number refusal)))
+      → ((content : Content) → carried ≡ Ok content → Holds (next content)) → Holds (if_carried carried refuse next)
+  by_content (Err refusal) refuse next first second = first refusal refl
+  by_content (Ok content) refuse next first second = second content refl
 
   by_reading : (reading : Result Message Refusal) (refuse : ℕ → ℕ → Received) (next : Message → Received) → ((refusal : Refusal) → reading ≡ Err refusal → Holds (refuse (refusal_number refusal) refusal.said))
       → ((m : Message) → reading ≡ Ok m → Holds (next m)) → Holds (if_read reading refuse next)

@@ -1,6 +1,6 @@
 -- "A CLOSE that passes 10..13 is heard in phases 1 to 4 whatever its flags, frames or size. Phase becomes 5; n, W and entries zero. No reply. In
 -- phase 0 it is refused as 17, none of 14..16 being tested."
-use Rattle.std.specs.Prelude.{ℕ, ◌-◌, ◌≤◌, ◌≡◌, List, cond, eqb, Ok}
+use Rattle.std.specs.Prelude.{ℕ, ◌-◌, ◌≤◌, ◌≡◌, List, cond, eqb, Ok, None}
 use Rattle.bytes_be.specs.declared.Place.{Place}
 use Rattle.bytes_be.specs.Part.{part_at}
 use Rattle.bundle.specs.Reading.{contents_of}
@@ -12,7 +12,6 @@ use Rattle.endpoint.specs.Record.{fresh, shut, closed}
 use Rattle.receiving.specs.declared.Content.TheVariants.{Nothing}
 use Rattle.receiving.specs.declared.Answer.{Answer}
 use Rattle.receiving.specs.declared.Answer.TheVariants.{Heard as Answer-as-Heard, Closes}
-use Rattle.receiving.specs.declared.Reply.TheVariants.{Nothing as Reply-as-Nothing}
 use Rattle.receiving.specs.declared.Received.{Received}
 use Rattle.receiving.specs.Hearing.{hear_of}
 use Rattle.receiving.specs.Refusing.{unchanged}
@@ -31,7 +30,7 @@ pub record PassesAsClose (s : List ℕ) : Type 0 where
 
 -- "Phase becomes 5; n, W and entries zero. No reply."
 abbrev pub closing : Endpoint → Answer → Received
-closing e answer = record { answer = answer; next = closed e; reply = Reply-as-Nothing }
+closing e answer = record { answer = answer; next = closed e; reply = None }
 
 -- "Heard with any message are its type, flags and type-data."
 abbrev pub heard_close : {s : List ℕ} → PassesAsClose s → Answer

@@ -1,6 +1,6 @@
 -- A program that makes, sends and receives: what it answers, tells and writes, over states and outputs of any type. `tables` is the program that the
 -- contracts of `endpoint`, `sending` and `receiving` describe.
-use Rattle.std.specs.Prelude.{ℕ, Result, List, [], ◌∷◌}
+use Rattle.std.specs.Prelude.{ℕ, Result, List, [], ◌∷◌, Option, None}
 use Rattle.control.specs.Frame.{type_of}
 use Rattle.open.specs.Offer.{Offer}
 use Rattle.endpoint.specs.declared.Endpoint.{Endpoint}
@@ -8,13 +8,13 @@ use Rattle.endpoint.specs.Record.{fresh_client, fresh_server, given_number, made
 use Rattle.endpoint.specs.declared.BadMaking.{BadMaking}
 use Rattle.receiving.specs.declared.Answer.{Answer}
 use Rattle.receiving.specs.declared.Answer.TheVariants.{Heard, Stays, Closes}
-use Rattle.receiving.specs.declared.Reply.{Reply}
-use Rattle.receiving.specs.declared.Reply.TheVariants.{Nothing, Frame}
 use Rattle.receiving.specs.declared.Received.{Received}
 use Rattle.receiving.specs.Receiving.{answer_number, reply_bytes, received_of}
 use Rattle.sending.specs.Calls.{Body, Missing, Call, written}
 use Rattle.sending.specs.Sending.{send_of}
 use Rattle.machine.specs.Bodies.{body_heard}
+use Rattle.control.specs.declared.Control.{Control}
+use Rattle.receiving.specs.Refusing.{replying}
 
 -- "Making a client takes flow and limit; making a server takes flow, with limit 50,000,000."
 pub data Making : Type 0 where
@@ -83,9 +83,9 @@ told_of s (Stays number) = nothing_told
 told_of s (Closes number) = nothing_told
 
 -- the bundles of a reply
-abbrev pub replies : Reply → List (List ℕ)
-replies Nothing = []
-replies (Frame message flags type-data) = reply_bytes (Frame message flags type-data) ∷ []
+abbrev pub replies : Option Control → List (List ℕ)
+replies None = []
+replies (Some frame) = reply_bytes (Some frame) ∷ []
 
 -- what came of the bundle s
 abbrev pub outcome_of : List ℕ → Received → ReceiveOutcome Endpoint

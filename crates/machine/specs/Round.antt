@@ -19,13 +19,13 @@ use Rattle.table.specs.Table.{To, at_row}
 use Rattle.receiving.specs.declared.Content.{Content}
 use Rattle.receiving.specs.declared.Content.TheVariants.{Nothing, Opening as Content-as-Opening, Body as Content-as-Body}
 use Rattle.receiving.specs.declared.Answer.TheVariants.{Heard}
-use Rattle.receiving.specs.declared.Reply.{Reply}
-use Rattle.receiving.specs.declared.Reply.TheVariants.{Nothing as Reply-as-Nothing, Frame}
 use Rattle.receiving.specs.Hearing.{confirms, hear_row, too_large, unmatched, hear_of}
 use Rattle.receiving.specs.Receiving.{reply_bytes, received_of}
 use Rattle.sending.specs.Calls.{Body, Missing, Given, Call, OPEN, READY, DATA, NOOP, CLOSE, message_of, type_data_of, ask_of, flags_for, data_frames, written}
 use Rattle.sending.specs.Sending.{send_of}
 use Rattle.machine.specs.Good.{Fits}
+use Rattle.control.specs.declared.Control.{Control}
+use Rattle.receiving.specs.Refusing.{replying}
 
 -- the first of the data frames, empty where there is none: OPEN's, and the body of DATA
 abbrev pub first_frame : List (List ℕ) → List ℕ
@@ -116,8 +116,8 @@ after_hearing e (NOOP type-data ask) moved = moved
 after_hearing e (CLOSE code) moved = moved
 
 -- "the reply is the control frame with flags 2 for 1"
-abbrev pub confirmation : Call → Reply
-confirmation call = cond (ask_of call) (Frame (message_of call) ack_reply (type_data_of call)) Reply-as-Nothing
+abbrev pub confirmation : Call → Option Control
+confirmation call = cond (ask_of call) (replying (message_of call) ack_reply (type_data_of call)) None
 
 -- a call is heard with its type, flags, type-data, data frames and content, and confirmed where it asks for that
 pub record HeardBack (e : Endpoint) (call : Call) (r : Endpoint) (pipe : Offer) (phase n : ℕ) : Type 0 where
@@ -154,13 +154,13 @@ is_reply Close flags = eqb flags 0
 abbrev pub RepliesReadBack : Type 0
 RepliesReadBack =
     (message : MessageType) (flags type-data : ℕ) → is_reply message flags ≡ true → type-data < 256 ^ 2
-    → reading_of (reply_bytes (Frame message flags type-data)) ≡ Ok (message_with message flags type-data [])
+    → reading_of (reply_bytes (replying message flags type-data)) ≡ Ok (message_with message flags type-data [])
 
 -- and a receive makes no other
 abbrev pub RepliesOnly : Type 0
 RepliesOnly =
     (e : Endpoint) (s : List ℕ) → ((i : ℕ) → get_or s i 0 < 256) → (pipe : Offer) (room : ℕ) (message : MessageType) (flags type-data : ℕ)
-    → (received_of e s pipe room).reply ≡ Frame message flags type-data → (is_reply message flags ≡ true) × (type-data < 256 ^ 2)
+    → (received_of e s pipe room).reply ≡ replying message flags type-data → (is_reply message flags ≡ true) × (type-data < 256 ^ 2)
 
 -- an end may hear a reply: its row leads to this phase and n, it is not too large, and a confirmation is that of the oldest entry
 pub record MayHearReply (message : MessageType) (flags type-data : ℕ) (r : Endpoint) (phase n : ℕ) : Type 0 where
@@ -173,9 +173,9 @@ abbrev pub RepliesHeard : Type 0
 RepliesHeard =
     (message : MessageType) (flags type-data : ℕ) → is_reply message flags ≡ true → type-data < 256 ^ 2
     → (r : Endpoint) (pipe : Offer) (phase n : ℕ) → MayHearReply message flags type-data r phase n
-    → hear_of r (reply_bytes (Frame message flags type-data)) pipe ≡
+    → hear_of r (reply_bytes (replying message flags type-data)) pipe ≡
     record {
       answer = Heard (record { message = message; flags = flags; type_data = type-data; frames = 0; content = Nothing });
       next = cond (confirms message flags) (confirmed (at_row r phase n)) (at_row r phase n);
-      reply = Reply-as-Nothing;
+      reply = None;
     }

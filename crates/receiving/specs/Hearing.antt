@@ -2,12 +2,15 @@
 -- message.
 use Rattle.std.specs.Prelude.{ℕ, ◌+◌, List, Bool, true, false, cond, not, ◌&&◌, ◌||◌, ltb, eqb, Result, Ok, Err, Option, Some, None}
 use Rattle.bytes_be.specs.declared.Place.{Place}
+use Rattle.control.specs.declared.Control.{Control}
 use Rattle.control.specs.declared.MessageType.{MessageType}
 use Rattle.control.specs.declared.MessageType.TheVariants.{Open, Ready, Noop, Data, Close}
 use Rattle.control.specs.Frame.{ack_request, ack_reply, type_of}
 use Rattle.terms.specs.Announced.{announced_limit}
 use Rattle.open.specs.Offer.{Offer}
-use Rattle.open.specs.Open.{heard_by, open_number}
+use Rattle.open.specs.declared.Opening.{Opening}
+use Rattle.open.specs.declared.Refusal.{Refusal as Refusal-of-open}
+use Rattle.open.specs.Open.{heard_by, refusal_number}
 use Rattle.message.specs.declared.Message.{Message}
 use Rattle.message.specs.declared.Refusal.{Refusal as Refusal-of-message}
 use Rattle.message.specs.Reading.{body_place, reading_of, reading_number, said_in}
@@ -16,15 +19,10 @@ use Rattle.endpoint.specs.Record.{shut, oldest, confirmed, limited}
 use Rattle.table.specs.declared.Refusal.TheVariants.{NotAllowed, AboveOffer}
 use Rattle.table.specs.Table.{Row, row_of, hear_number, not_allowed, above_offer, other, moved}
 use Rattle.receiving.specs.declared.Content.{Content}
-use Rattle.receiving.specs.declared.Content.TheVariants.{Nothing, Opening, Body as Content-as-Body}
-use Rattle.receiving.specs.declared.Carried.{Carried}
-use Rattle.receiving.specs.declared.Carried.TheVariants.{Content as Carried-as-Content, Refused}
+use Rattle.receiving.specs.declared.Content.TheVariants.{Nothing, Opening as Content-as-Opening, Body as Content-as-Body}
 use Rattle.receiving.specs.declared.Answer.TheVariants.{Heard}
-use Rattle.receiving.specs.declared.Reply.{Reply}
-use Rattle.receiving.specs.declared.Reply.TheVariants.{Nothing as Reply-as-Nothing, Frame}
 use Rattle.receiving.specs.declared.Received.{Received}
-use Rattle.open.specs.declared.Refusal.{Refusal}
-use Rattle.receiving.specs.Refusing.{refused, unchanged}
+use Rattle.receiving.specs.Refusing.{replying, refused, unchanged}
 
 -- the types that ask for a confirmation, and are confirmed: 14 refuses ACK-REPLY on OPEN and READY, and a CLOSE stays a CLOSE "whatever its
 -- flags"
@@ -67,15 +65,19 @@ large_by Close above frame = false
 unfoldable pub too_large : Endpoint → Message → Bool
 too_large e m = large_by m.message (ltb e.limit m.size) (body_place m.body).length
 
+-- what a message carries beside type, flags and type-data, or which of 18 to 22 refuses it
+abbrev pub Carried : Type 0
+Carried = Result Content Refusal-of-open
+
 -- 18 to 22, or "its socket and the places of name, format and parameters"
-abbrev pub open_carried : Result Opening Refusal → Carried
-open_carried (Ok opening) = Carried-as-Content (Opening opening)
-open_carried (Err refusal) = Refused (open_number (Err refusal))
+abbrev pub open_carried : Result Opening Refusal-of-open → Carried
+open_carried (Ok opening) = Ok (Content-as-Opening opening)
+open_carried (Err refusal) = Err refusal
 
 -- "Heard too is the place of its body."
-abbrev pub body_carried : Option Place → Carried
-body_carried None = Carried-as-Content Nothing
-body_carried (Some place) = Carried-as-Content (Content-as-Body place)
+abbrev pub body_carried : Option Place → Content
+body_carried None = Nothing
+body_carried (Some place) = Content-as-Body place
 
 -- what the OPEN frame at a place says to this endpoint
 unfoldable pub open_at : Endpoint → List ℕ → Offer → Place → Carried
@@ -89,9 +91,8 @@ carried_as Noop frame body = body
 carried_as Data frame body = body
 carried_as Close frame body = body
 
--- what the message carries beside type, flags and type-data
 unfoldable pub carried_by : Endpoint → List ℕ → Offer → Message → Carried
-carried_by e s pipe m = carried_as m.message (open_at e s pipe (body_place m.body)) (body_carried m.body)
+carried_by e s pipe m = carried_as m.message (open_at e s pipe (body_place m.body)) (Ok (body_carried m.body))
 
 -- "ACK-REPLY must equal the oldest entry in type and type-data"
 unfoldable pub matches_oldest : Endpoint → MessageType → ℕ → Bool
@@ -109,12 +110,12 @@ confirmed_by e m = cond (confirms m.message m.flags) (confirmed e) e
 -- OPEN: "with the limit announced, or 50,000,000 where none is"
 abbrev pub limited_by : Endpoint → Content → Endpoint
 limited_by e Nothing = e
-limited_by e (Opening opening) = limited e (announced_limit opening.announced)
+limited_by e (Content-as-Opening opening) = limited e (announced_limit opening.announced)
 limited_by e (Content-as-Body place) = e
 
 -- "the reply is the control frame with flags 2 for 1"
-unfoldable pub reply_to : Message → Reply
-reply_to m = cond (asks m.message m.flags) (Frame m.message ack_reply m.type_data) Reply-as-Nothing
+unfoldable pub reply_to : Message → Option Control
+reply_to m = cond (asks m.message m.flags) (replying m.message ack_reply m.type_data) None
 
 -- "Heard with any message are its type, flags and type-data."
 unfoldable pub accepted : Endpoint → Message → Row → Content → Received
@@ -135,14 +136,14 @@ accepted e m row content =
 
 -- the number of what is carried: 0, or 18 to 22
 abbrev pub carried_number : Carried → ℕ
-carried_number (Carried-as-Content content) = 0
-carried_number (Refused number) = number
+carried_number (Ok content) = 0
+carried_number (Err refusal) = refusal_number refusal
 
 -- what follows what is carried, or what is read, or its refusal
 
 abbrev pub if_carried : Carried → (ℕ → Received) → (Content → Received) → Received
-if_carried (Carried-as-Content content) refuse next = next content
-if_carried (Refused number) refuse next = refuse (carried_number (Refused number))
+if_carried (Ok content) refuse next = next content
+if_carried (Err refusal) refuse next = refuse (carried_number (Err refusal))
 
 abbrev pub if_read : Result Message Refusal-of-message → (ℕ → ℕ → Received) → (Message → Received) → Received
 if_read (Ok m) refuse next = next m

@@ -1,12 +1,17 @@
 -- "Numbers 10..24 given by a receive set phase 5, clear n, W and the entries, and write the CLOSE reply; (flags 0); but a client in phase
 -- 0 writes no reply, as OPEN must be its first message, nor is one written to a type-5 message refused as 17. All others change no byte."
-use Rattle.std.specs.Prelude.{ℕ, Bool, cond, ◌&&◌, ◌||◌, eqb}
+use Rattle.std.specs.Prelude.{ℕ, Bool, cond, ◌&&◌, ◌||◌, eqb, Option, Some, None}
+use Rattle.control.specs.declared.Control.{Control}
+use Rattle.control.specs.declared.MessageType.{MessageType}
 use Rattle.control.specs.declared.MessageType.TheVariants.{Close}
 use Rattle.endpoint.specs.declared.Endpoint.{Endpoint}
 use Rattle.endpoint.specs.Record.{client, server, fresh, closed}
 use Rattle.receiving.specs.declared.Answer.TheVariants.{Stays, Closes}
-use Rattle.receiving.specs.declared.Reply.TheVariants.{Nothing, Frame}
 use Rattle.receiving.specs.declared.Received.{Received}
+
+-- "A reply is .. a single control frame."
+abbrev pub replying : MessageType → ℕ → ℕ → Option Control
+replying message flags type-data = Some (record { message = message; flags = flags; type_data = type-data })
 
 -- 12: "101 for type 1 at a server in phase 0, else 1"
 unfoldable pub version_code : Endpoint → ℕ → ℕ
@@ -42,9 +47,9 @@ refused e number said =
     record {
       answer = Closes number;
       next = closed e;
-      reply = cond (silent e number said) Nothing (Frame Close 0 (close_code e number said));
+      reply = cond (silent e number said) None (replying Close 0 (close_code e number said));
     }
 
 -- it stays: "All others change no byte."
 unfoldable pub unchanged : Endpoint → ℕ → Received
-unchanged e number = record { answer = Stays number; next = e; reply = Nothing }
+unchanged e number = record { answer = Stays number; next = e; reply = None }

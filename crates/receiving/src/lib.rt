@@ -2,18 +2,18 @@
 #![tactic(auto)]
 
 ghost use Rattle.std.specs.Prelude.{◌≡◌, ◌+◌, ◌≤◌, length};
-ghost use Rattle.open.specs.Offer.{offer_of};
+ghost use Rattle.open.specs.Offer.{offer_in};
 ghost use Rattle.message.specs.Reading.{body_place};
 ghost use Rattle.receiving.specs.Refusing.{version_code, close_code, silent, refused, unchanged};
-ghost use Rattle.receiving.specs.Hearing.{confirmable, confirms as Hearing·confirms, asks as Hearing·asks, moves_as, hear_row, too_large, open_carried, body_carried, open_at, carried_by, carried_number, matches_oldest, unmatched, confirmed_by, limited_by, reply_to, accepted, hear_content, hear_message, hear_of};
+ghost use Rattle.receiving.specs.Hearing.{confirmable, confirms as Hearing·confirms, asks as Hearing·asks, moves_as, hear_row, too_large, body_carried, open_at, carried_by, matches_oldest, unmatched, confirmed_by, limited_by, reply_to, accepted, hear_content, hear_message, hear_of};
 ghost use Rattle.receiving.specs.Receiving.{replied, ReceiveAnswer};
 
 use bytes_be::Place;
-use control::MessageType;
+use control::{Control, MessageType};
 use endpoint::Endpoint;
 use message::Message;
-use open::{Open, Opening};
-use table::{Refusal, Step};
+use open::{Offer, Opening};
+use table::Step;
 
 // What is heard beside type, flags and type-data.
 #[derive(Clone, Copy)]
@@ -46,28 +46,11 @@ pub enum Answer {
 }
 
 #[derive(Clone, Copy)]
-pub enum Reply {
-    Nothing,
-    // A single control frame.
-    Frame {
-        message: MessageType,
-        flags: u8,
-        type_data: u16,
-    },
-}
-
-#[derive(Clone, Copy)]
 pub struct Received {
     pub answer: Answer,
     pub next: Endpoint,
-    pub reply: Reply,
-}
-
-// What a message carries, or the number of 18 to 22 that refuses it.
-#[derive(Clone, Copy)]
-pub enum Carried {
-    Content(Content),
-    Refused(u8),
+    // A single control frame, if one is written.
+    pub reply: Option<Control>,
 }
 
 // The CLOSE code for a strange version.
@@ -122,17 +105,17 @@ fn refuse(e: Endpoint, number: u8, said: u8) -> Received
         return Received {
             answer: Answer::Closes(number),
             next: next,
-            reply: Reply::Nothing,
+            reply: None,
         };
     }
     Received {
         answer: Answer::Closes(number),
         next: next,
-        reply: Reply::Frame {
+        reply: Some(Control {
             message: MessageType::Close,
             flags: 0,
             type_data: close_code(e, number, said),
-        },
+        }),
     }
 }
 
@@ -143,7 +126,7 @@ fn stay(e: Endpoint, number: u8) -> Received
     Received {
         answer: Answer::Stays(number),
         next: e,
-        reply: Reply::Nothing,
+        reply: None,
     }
 }
 
@@ -185,7 +168,7 @@ fn moves_as(message: MessageType, flags: u8) -> MessageType
     message
 }
 
-fn hear_row(e: Endpoint, m: Message) -> Result<Step, Refusal>
+fn hear_row(e: Endpoint, m: Message) -> Result<Step, table::Refusal>
     ensures { result ≡ hear_row e m }
 {
     let message = m.message;
@@ -211,56 +194,37 @@ fn too_large(e: Endpoint, m: Message) -> bool
     }
 }
 
-fn open_carried(said: Open) -> Carried
-    ensures { result ≡ open_carried said }
-{
-    let number = open::open_number(said);
-    match said {
-        Open::Heard(opening) => Carried::Content(Content::Opening(opening)),
-        Open::Refused(_) => Carried::Refused(number),
-    }
-}
-
-fn body_carried(body: Option<Place>) -> Carried
+fn body_carried(body: Option<Place>) -> Content
     ensures { result ≡ body_carried body }
 {
     match body {
-        None => Carried::Content(Content::Nothing),
-        Some(place) => Carried::Content(Content::Body(place)),
+        None => Content::Nothing,
+        Some(place) => Content::Body(place),
     }
 }
 
 // What the OPEN frame at a place of the message says to this endpoint.
-fn open_at(e: Endpoint, s: &[u8], name: &[u8], format: &[u8], place: Place) -> Carried
+#[tactic(auto, unfolding(crate::specs::Hearing::open_at))]
+fn open_at(e: Endpoint, s: &[u8], offer: Offer, place: Place) -> Result<Content, open::Refusal>
     requires { place.at + place.length ≤ length s.now }
-    ensures { result ≡ open_at e s.now (offer_of name.now format.now) place }
+    ensures { result ≡ open_at e s.now (offer_in offer.entry) place }
 {
-    open_carried(open::hear(s, place.at, place.at + place.length, e.flow, name, format))
+    let opening = open::hear(s, place.at, place.at + place.length, e.flow, offer)?;
+    Ok(Content::Opening(opening))
 }
 
-// What a message carries.
-fn carried_by(e: Endpoint, s: &[u8], name: &[u8], format: &[u8], m: Message) -> Carried
+// What a message carries, or which of 18 to 22 refuses it.
+#[tactic(auto, unfolding(crate::specs::Hearing::carried_by))]
+fn carried_by(e: Endpoint, s: &[u8], offer: Offer, m: Message) -> Result<Content, open::Refusal>
     requires { (body_place m.body).at + (body_place m.body).length ≤ length s.now }
-    ensures { result ≡ carried_by e s.now (offer_of name.now format.now) m }
+    ensures { result ≡ carried_by e s.now (offer_in offer.entry) m }
 {
-    let message = m.message;
-    let body = m.body;
-    match message {
-        MessageType::Open => open_at(e, s, name, format, message::body_place(body)),
-        MessageType::Ready => body_carried(body),
-        MessageType::Noop => body_carried(body),
-        MessageType::Data => body_carried(body),
-        MessageType::Close => body_carried(body),
-    }
-}
-
-// The number of 01 for what a message carries: 0, or 18 to 22.
-fn carried_number(carried: Carried) -> u8
-    ensures { result ≡ carried_number carried }
-{
-    match carried {
-        Carried::Content(_) => 0,
-        Carried::Refused(number) => number,
+    match m.message {
+        MessageType::Open => open_at(e, s, offer, message::body_place(m.body)),
+        MessageType::Ready => Ok(body_carried(m.body)),
+        MessageType::Noop => Ok(body_carried(m.body)),
+        MessageType::Data => Ok(body_carried(m.body)),
+        MessageType::Close => Ok(body_carried(m.body)),
     }
 }
 
@@ -305,23 +269,22 @@ fn limited_by(e: Endpoint, content: Content) -> Endpoint
     }
 }
 
-fn reply_to(m: Message) -> Reply
+#[tactic(auto, unfolding(crate::specs::Hearing::reply_to))]
+fn reply_to(m: Message) -> Option<Control>
     ensures { result ≡ reply_to m }
 {
-    let message = m.message;
-    let asked = asks(message, m.flags);
-    if asked {
-        return Reply::Frame {
-            message: message,
+    if asks(m.message, m.flags) {
+        return Some(Control {
+            message: m.message,
             flags: 2,
             type_data: m.type_data,
-        };
+        });
     }
-    Reply::Nothing
+    None
 }
 
 // A message that is heard.
-fn accept(e: Endpoint, m: Message, row: Result<Step, Refusal>, content: Content) -> Received
+fn accept(e: Endpoint, m: Message, row: Result<Step, table::Refusal>, content: Content) -> Received
     ensures { result ≡ accepted e m row content }
 {
     let message = m.message;
@@ -343,20 +306,19 @@ fn accept(e: Endpoint, m: Message, row: Result<Step, Refusal>, content: Content)
 fn hear_content(
     e: Endpoint,
     s: &[u8],
-    name: &[u8],
-    format: &[u8],
+    offer: Offer,
     m: Message,
-    row: Result<Step, Refusal>,
+    row: Result<Step, table::Refusal>,
 ) -> Received
     requires inside { (body_place m.body).at + (body_place m.body).length ≤ length s.now }
     requires rowed { row ≡ hear_row e m }
-    ensures { result ≡ hear_content e s.now (offer_of name.now format.now) m }
+    ensures { result ≡ hear_content e s.now (offer_in offer.entry) m }
 {
     let message = m.message;
     let said = u8::from(message);
-    let carried = carried_by(e, s, name, format, m);
-    let Carried::Content(content) = carried else {
-        return refuse(e, carried_number(carried), said);
+    let carried = carried_by(e, s, offer, m);
+    let Ok(content) = carried else {
+        return refuse(e, numbered::number_of(&carried), said);
     };
     if table::above_offer(row) {
         return refuse(e, 23, said);
@@ -369,9 +331,9 @@ fn hear_content(
 
 // 16, 17, and then by what it carries.
 #[tactic(auto, unfolding(crate::specs::Hearing::hear_message, crate::specs::Hearing::forbidden))]
-fn hear_message(e: Endpoint, s: &[u8], name: &[u8], format: &[u8], m: Message) -> Received
+fn hear_message(e: Endpoint, s: &[u8], offer: Offer, m: Message) -> Received
     requires { (body_place m.body).at + (body_place m.body).length ≤ length s.now }
-    ensures { result ≡ hear_message e s.now (offer_of name.now format.now) m }
+    ensures { result ≡ hear_message e s.now (offer_in offer.entry) m }
 {
     let message = m.message;
     let said = u8::from(message);
@@ -382,14 +344,14 @@ fn hear_message(e: Endpoint, s: &[u8], name: &[u8], format: &[u8], m: Message) -
     if table::not_allowed(row) {
         return refuse(e, 17, said);
     }
-    hear_content(e, s, name, format, m, row)
+    hear_content(e, s, offer, m, row)
 }
 
-// What any endpoint that offers this name and this format makes of a message: 3, 10 to 24, or it is heard, with no byte of a body read and
+// What any endpoint with this offer makes of a message: 3, 10 to 24, or it is heard, with no byte of a body read and
 // nothing written.
 #[tactic(auto, using(message::proofs::Inside::read_within), unfolding(crate::specs::Hearing::hear_of))]
-pub fn hear(e: Endpoint, s: &[u8], name: &[u8], format: &[u8]) -> Received
-    ensures { result ≡ hear_of e s.now (offer_of name.now format.now) }
+pub fn hear(e: Endpoint, s: &[u8], offer: Offer) -> Received
+    ensures { result ≡ hear_of e s.now (offer_in offer.entry) }
 {
     if e.phase == 5 {
         return stay(e, 3);
@@ -400,28 +362,24 @@ pub fn hear(e: Endpoint, s: &[u8], name: &[u8], format: &[u8]) -> Received
         let said = message::said_in(reading);
         return refuse(e, number, said);
     };
-    hear_message(e, s, name, format, m)
+    hear_message(e, s, offer, m)
 }
 
 // Writes a reply at the start of the output.
-pub fn write_reply(out: &mut [u8], reply: Reply)
+pub fn write_reply(out: &mut [u8], reply: Option<Control>)
     ensures { out.new ≡ replied reply out.old }
 {
-    match reply {
-        Reply::Nothing => {}
-        Reply::Frame {
-            message,
-            flags,
-            type_data,
-        } => {
-            bundle::write_one(out, control::bytes_of(message, flags, type_data));
-        }
+    if let Some(frame) = reply {
+        bundle::write_one(
+            out,
+            control::bytes_of(frame.message, frame.flags, frame.type_data),
+        );
     }
 }
 
 // Receives a message: 1, 2, and then what `hear` makes of it, with the reply at the start of the output.
-pub fn receive(e: Endpoint, s: &[u8], name: &[u8], format: &[u8], out: &mut [u8]) -> Received
-    ensures { ReceiveAnswer e s.now (offer_of name.now format.now) out.old result out.new }
+pub fn receive(e: Endpoint, s: &[u8], offer: Offer, out: &mut [u8]) -> Received
+    ensures { ReceiveAnswer e s.now (offer_in offer.entry) out.old result out.new }
 {
     if !e.good() {
         return stay(e, 1);
@@ -429,8 +387,7 @@ pub fn receive(e: Endpoint, s: &[u8], name: &[u8], format: &[u8], out: &mut [u8]
     if out.len() < 14 {
         return stay(e, 2);
     }
-    let received = hear(e, s, name, format);
-    let reply = received.reply;
-    write_reply(out, reply);
+    let received = hear(e, s, offer);
+    write_reply(out, received.reply);
     received
 }

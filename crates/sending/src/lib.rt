@@ -3,14 +3,15 @@
 
 ghost use Rattle.std.specs.Prelude.{◌≡◌, []};
 ghost use Rattle.control.specs.Frame.{bytes_of};
-ghost use Rattle.open.specs.Offer.{offer_of};
+ghost use Rattle.open.specs.Offer.{offer_in};
 ghost use Rattle.sending.specs.Calls.{Given as Body-as-Given, datum_with, datum_of, OPEN, READY, DATA, NOOP, CLOSE, miscoded, number_if, flags_for, bundle_with};
 ghost use Rattle.sending.specs.Held.{plain, frame_size};
 ghost use Rattle.sending.specs.Sending.{send_row, is_full, number_for, asked_by, sent_if, sent_by, Answered, SendAnswer};
 
 use control::MessageType;
 use endpoint::{Endpoint, Entry};
-use open_write::Given;
+use open::Offer;
+use open_write::BadOffer;
 use table::{Refusal, Step};
 
 // What a send of DATA is told beside the body.
@@ -240,26 +241,23 @@ pub fn send_data(e: Endpoint, report: Report, body: &[u8], out: &mut [u8]) -> Se
 }
 
 // How many bytes the frame of an OPEN has; 0 where 34 refuses it.
-fn frame_size(given: Given) -> usize
+fn frame_size(given: Result<usize, BadOffer>) -> usize
     ensures { result ≡ frame_size given }
 {
-    match given {
-        Given::Good(size) => size,
-        Given::Bad => 0,
-    }
+    given.unwrap_or(0)
 }
 
 // Sends OPEN for this pipe name and this format.
-pub fn send_open(e: Endpoint, name: &[u8], format: &[u8], out: &mut [u8]) -> Sent
-    ensures { SendAnswer e (OPEN (offer_of name.now format.now)) out.old result out.new }
+pub fn send_open(e: Endpoint, offer: Offer, out: &mut [u8]) -> Sent
+    ensures { SendAnswer e (OPEN (offer_in offer.entry)) out.old result out.new }
 {
-    let given = open_write::given_of(e.flow, name, format, e.limit);
+    let given = open_write::given_of(e.flow, offer, e.limit);
     let frame = frame_size(given);
     let o = Outgoing {
         message: MessageType::Open,
         type_data: 0,
         ask: false,
-        own: open_write::given_number(given),
+        own: numbered::number_of(&given),
         length: 18 + frame,
     };
     let sent = decide(e, o, out.len());
@@ -269,7 +267,7 @@ pub fn send_open(e: Endpoint, name: &[u8], format: &[u8], out: &mut [u8]) -> Sen
             control_frame(MessageType::Open, false, 0),
             frame as u32,
         );
-        open_write::write(out, 18, e.flow, name, format, e.limit);
+        open_write::write(out, 18, e.flow, offer, e.limit);
     }
     sent
 }

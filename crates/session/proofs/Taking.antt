@@ -26,7 +26,6 @@ use Rattle.table.specs.Table.{To, at_row, other, row_of}
 use Rattle.receiving.specs.declared.Content.{Content}
 use Rattle.receiving.specs.declared.Answer.{Answer}
 use Rattle.receiving.specs.declared.Received.{Received}
-use Rattle.receiving.specs.declared.Reply.TheVariants.{Nothing as Reply-as-Nothing, Frame}
 use Rattle.receiving.specs.Hearing.{confirmable, confirms, hear_of, hear_row, matches_oldest, moves_as, too_large, unmatched}
 use Rattle.receiving.specs.Receiving.{answer_number}
 use Rattle.sending.specs.Calls.{Body, Missing, Given, as_frames, body_size, Call, OPEN, READY, DATA, NOOP, CLOSE, ask_of, message_of, outgoing, own_number, type_data_of, written}
@@ -43,6 +42,8 @@ use Rattle.session.specs.Demand.{prompt_ledger}
 use Rattle.session.specs.Confirmations.{asked_in, confirmed_in, entry_for}
 use Rattle.session.specs.Laws.{answers_in, on_records, Comes, limit_after, MayTake, HeardOn}
 use Rattle.session.proofs.Packets.{row_awaited, row_comes}
+use Rattle.std.specs.Prelude.{None}
+use Rattle.receiving.specs.Refusing.{replying}
 
 -- ---- a call
 
@@ -95,7 +96,7 @@ call_body e (CLOSE code) content sent = simp sent
 confirming_replies : (e : Endpoint) (call : Call) → replies (confirmation call) ≡ map bytes_in (answers_in (λ message. true) (Called e call))
 confirming_replies e call = go (ask_of call)
   where
-    go : (t : Bool) → replies (cond t (Frame (message_of call) ack_reply (type_data_of call)) Reply-as-Nothing)
+    go : (t : Bool) → replies (cond t (replying (message_of call) ack_reply (type_data_of call)) None)
         ≡ map bytes_in (cond t (Confirms (message_of call) (type_data_of call) ∷ []) [])
     go true = refl
     go false = refl
@@ -265,7 +266,7 @@ module _ (makings : Makings) (end : End) (r : Endpoint) (pipe : Offer) (phase n 
       (λ line goes. hearing_awaited e r in-limits after phase n comes call ∙ row_awaited r phase n goes ∙ may.awaits line)
 
   -- a reply is heard without a reply
-  reply_taken : (m : Packet) (answer : Answer) (next : Endpoint) → came m ≡ record { answer = answer; next = next; reply = Reply-as-Nothing }
+  reply_taken : (m : Packet) (answer : Answer) (next : Endpoint) → came m ≡ record { answer = answer; next = next; reply = None }
       → answer_number answer ≡ 0 → told_of (bytes_in m) answer ≡ told_in m → answers_in (λ message. true) m ≡ []
       → Comes r phase n (limit_after m r.limit) next → ((line : ℕ) → (phase ≡ shut → ⊥) → awaited next ≡ rest line) → Hears m
   reply_taken m answer next heard answered told silent comes awaits =

@@ -5,13 +5,13 @@ use Rattle.control.specs.declared.MessageType.{MessageType}
 use Rattle.control.specs.declared.MessageType.TheVariants.{Noop, Close}
 use Rattle.control.specs.Frame.{ack_reply, type_of}
 use Rattle.endpoint.specs.declared.Endpoint.{Endpoint}
-use Rattle.receiving.specs.declared.Reply.TheVariants.{Frame}
 use Rattle.receiving.specs.Receiving.{reply_bytes}
 use Rattle.sending.specs.Calls.{Body, Missing, Datum, Call, OPEN, READY, DATA, NOOP, CLOSE, message_of, type_data_of, ask_of, flags_for, written}
 use Rattle.sending.specs.Options.{how_of}
 use Rattle.machine.specs.Programs.{Queued, Told}
 use Rattle.machine.specs.Runs.{as_reply}
 use Rattle.session.specs.World.{data_sent, ready_count}
+use Rattle.receiving.specs.Refusing.{replying}
 
 -- a call with the record that it was made on; the confirmation of a message; the CLOSE of a refusal
 pub data Packet : Type 0 where
@@ -21,8 +21,8 @@ pub data Packet : Type 0 where
 
 abbrev pub queued_in : Packet → Queued
 queued_in (Called e call) = record { bytes = written e call; how = how_of call }
-queued_in (Confirms message type-data) = as_reply (reply_bytes (Frame message ack_reply type-data))
-queued_in (Closes code) = as_reply (reply_bytes (Frame Close 0 code))
+queued_in (Confirms message type-data) = as_reply (reply_bytes (replying message ack_reply type-data))
+queued_in (Closes code) = as_reply (reply_bytes (replying Close 0 code))
 
 abbrev pub bytes_in : Packet → List ℕ
 bytes_in m = (queued_in m).bytes

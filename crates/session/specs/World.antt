@@ -8,12 +8,12 @@ use Rattle.control.specs.declared.MessageType.TheVariants.{Open, Ready, Noop, Da
 use Rattle.control.specs.Frame.{ack_request, ack_reply, type_of}
 use Rattle.open.specs.Offer.{Offer}
 use Rattle.endpoint.specs.Record.{read_off}
-use Rattle.receiving.specs.declared.Reply.TheVariants.{Frame}
 use Rattle.receiving.specs.Receiving.{reply_bytes}
 use Rattle.sending.specs.Calls.{Datum, Call, OPEN, READY, DATA, NOOP, CLOSE, message_of, type_data_of}
 use Rattle.machine.specs.Good.{Fits}
 use Rattle.machine.specs.Programs.{Making, AsClient, AsServer, Queued, Told, Program}
 use Rattle.machine.specs.Runs.{Act, Makes, Sends, Receives, Done, is_kept, done_by, left_in, wrote_in, taken_in}
+use Rattle.receiving.specs.Refusing.{replying}
 
 pub data End : Type 0 where
   Client Server : End
@@ -113,7 +113,7 @@ brought_by told = record { carried = data_told told; readies = ready_told told; 
 abbrev pub confirms_by : Brought → List Queued → List ℕ
 confirms_by brought [] = []
 confirms_by brought (reply ∷ rest) =
-    read_off (λ type-data. same reply.bytes (reply_bytes (Frame Data ack_reply type-data))) (λ type-data. type-data) (asked_for brought.carried)
+    read_off (λ type-data. same reply.bytes (reply_bytes (replying Data ack_reply type-data))) (λ type-data. type-data) (asked_for brought.carried)
 
 -- the data of the newest batch, after an end wrote these READYs: the client's begin a new one
 abbrev pub recent_after : End → List ℕ → List Datum → List Datum

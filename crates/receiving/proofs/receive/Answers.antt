@@ -7,7 +7,7 @@ use mathlib.Core.Bool.{false, not}
 use lib.ListN.{length}
 use borrow.Author.Tests.{le-ltb, lt-ltb}
 use Rattle.bytes_be.proofs.Parts.{put_nothing}
-use Rattle.open.specs.Offer.{Offer, offer_of}
+use Rattle.open.specs.Offer.{Offer, offer_in}
 use Rattle.endpoint.specs.declared.Endpoint.{Endpoint}
 use Rattle.endpoint.specs.Record.{good}
 use Rattle.receiving.specs.declared.Received.{Received}
@@ -25,14 +25,14 @@ pub returns-then-not-good : goal.returns-then-not-good
 unfolding received_of
 returns-then-not-good c =
     let a = c.args in
-    stayed a.e a.s.now (offer_of a.name.now a.format.now) a.out.now 1 _ c.stay.ensures (simp (sym c.good.ensures, c.if-not-good.true))
+    stayed a.e a.s.now (offer_in a.offer) a.out.now 1 _ c.stay.ensures (simp (sym c.good.ensures, c.if-not-good.true))
 
 pub returns-then-out-lt14 : goal.returns-then-out-lt14
 unfolding received_of
 returns-then-out-lt14 c =
     let sound : not (good c.args.e) ≡ false = ap not (sym c.good.ensures) ∙ ap not c.if-not-good.false in
     let a = c.args in
-    stayed a.e a.s.now (offer_of a.name.now a.format.now) a.out.now 2 _ c.stay-then-out-lt14.ensures (simp (sound, lt-ltb (length a.out.now) 14 c.if-out-lt14.true))
+    stayed a.e a.s.now (offer_in a.offer) a.out.now 2 _ c.stay-then-out-lt14.ensures (simp (sound, lt-ltb (length a.out.now) 14 c.if-out-lt14.true))
 
 pub returns : goal.returns
 unfolding received_of
