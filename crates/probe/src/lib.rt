@@ -14,12 +14,12 @@ ghost use Rattle.utf8.specs.Text.{well_formed};
 ghost use Rattle.probe.specs.Entries.{contents_slots, ContentsAnswer, handed_slots, HandOutAnswer, control_slots, ControlAnswer, bodies, Wrote, kind_number, reading_number, reading_slots, FieldAnswer, Stored, check_of, check_slots, CheckAnswer, announced_slots, if_readable, LimitAnswer, flow_of, opening_slots, refusal_slots, open_slots, OpenAnswer, given_length, OpenFrameAnswer};
 
 use bundle::{BadBundle, Contents};
+use bytes_be::Place;
 use control::{Control, MessageType};
 use open::{Offer, Opening, Refusal};
 use open_write::BadOffer;
 use terms::BadLimit;
 use wire::{Fault, Field, Kind};
-use bytes_be::Place;
 
 #[unsafe(no_mangle)]
 pub extern "C" fn probe_read8(bytes: &[u8], at: usize) -> u8
