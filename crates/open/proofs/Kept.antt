@@ -9,9 +9,8 @@ use lib.Dec.{ltb, eqb}
 use native.Mathlib.Omega.{arith}
 use Rattle.bytes_be.specs.declared.Place.{Place}
 use Rattle.wire.specs.declared.Field.{Field}
-use Rattle.wire.specs.Fields.{Reading, field_at, and_behind, fields_within, fields_of}
+use Rattle.wire.specs.Fields.{place_of, Reading, field_at, and_behind, fields_within, fields_of}
 use Rattle.wire.proofs.Readings.{Within, field_within}
-use Rattle.params.specs.Message.{place_of}
 use Rattle.open.specs.declared.Parts.{Parts}
 use Rattle.open.specs.Open.{or_nowhere}
 use Rattle.open.specs.Frame.{nothing, place_if, keep, kept, parts_of}

@@ -7,8 +7,8 @@ use Rattle.bytes_be.specs.declared.Place.{Place}
 use Rattle.utf8.specs.Text.{well_formed}
 use Rattle.wire.specs.declared.Kind.TheVariants.{BadVarint, WireType, Repeated, BadText}
 use Rattle.wire.specs.declared.Field.{Field}
-use Rattle.wire.specs.Fields.{Reading, fields_of}
-use Rattle.params.specs.Message.{Check, good, refuse_if, and_then, walk, place_of}
+use Rattle.wire.specs.Fields.{place_of, Reading, fields_of}
+use Rattle.params.specs.Message.{Check, good, refuse_if, and_then, walk}
 use Rattle.params.specs.Rules.{struct_check}
 use Rattle.open.specs.declared.Parts.{Parts}
 

@@ -115,12 +115,11 @@ fn is_there(parts: Parts, number: u64) -> bool
 
 // Whether a field of the frame is text where it is a string.
 #[tactic(auto, unfolding(crate::specs::Frame::frame_text))]
-fn frame_text(s: &[u8], number: u64, at: usize, next: usize) -> bool
-    requires { (at ≤ next) × (next ≤ length s.now) }
-    ensures { result ≡ frame_text s.now number at next }
+fn frame_text(s: &[u8], field: Field) -> bool
+    ensures { result ≡ frame_text s.now field.number field.at field.next }
 {
-    if (number == 1) | (number == 3) {
-        return utf8::well_formed(&s[at..next]);
+    if (field.number == 1) | (field.number == 3) {
+        return utf8::well_formed(field.payload().part_of(s));
     }
     true
 }
@@ -128,7 +127,6 @@ fn frame_text(s: &[u8], number: u64, at: usize, next: usize) -> bool
 // What a field comes to before its inside is looked at, behind the parts that were there before it.
 #[tactic(auto, unfolding(crate::specs::Frame::frame_rule))]
 fn frame_rule(s: &[u8], parts: Parts, field: Field) -> Result<(), Fault>
-    requires { (field.at ≤ field.next) × (field.next ≤ length s.now) }
     ensures { result ≡ frame_rule s.now parts field }
 {
     let number = field.number;
@@ -136,13 +134,12 @@ fn frame_rule(s: &[u8], parts: Parts, field: Field) -> Result<(), Fault>
     params::refuse_if(oversized, Kind::BadVarint, field.tag)?;
     params::refuse_if(!frame_wire(number, field.wire), Kind::WireType, field.tag)?;
     params::refuse_if(is_there(parts, number), Kind::Repeated, field.tag)?;
-    let text = frame_text(s, number, field.at, field.next);
+    let text = frame_text(s, field);
     params::refuse_if(!text, Kind::BadText, field.tag)
 }
 
 #[tactic(auto, unfolding(crate::specs::Frame::frame_field))]
 fn frame_field(s: &[u8], parts: Parts, field: Field) -> Result<(), Fault>
-    requires { (field.at ≤ field.next) × (field.next ≤ length s.now) }
     ensures { result ≡ frame_field s.now parts field }
 {
     frame_rule(s, parts, field)?;
@@ -155,13 +152,9 @@ fn frame_field(s: &[u8], parts: Parts, field: Field) -> Result<(), Fault>
 // The parts after one field more.
 #[tactic(auto, unfolding(crate::specs::Frame::keep, crate::specs::Frame::place_if, crate::specs::Frame::socket_if))]
 fn keep(parts: Parts, field: Field) -> Parts
-    requires { field.at ≤ field.next }
     ensures { result ≡ Frame·keep parts field }
 {
-    let place = Place {
-        at: field.at,
-        length: field.next - field.at,
-    };
+    let place = field.payload();
     let mut next = parts;
     match field.number {
         1 => next.name = Some(place),

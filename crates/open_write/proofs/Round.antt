@@ -15,12 +15,12 @@ use Rattle.bytes_be.proofs.Tests.{both_true}
 use Rattle.bytes_be.proofs.Parts.{drop_past, part_put}
 use Rattle.utf8.specs.Text.{well_formed}
 use Rattle.wire.specs.declared.Field.{Field}
-use Rattle.wire.specs.Fields.{Reading, fields_of}
+use Rattle.wire.specs.Fields.{place_of, Reading, fields_of}
 use Rattle.wire.specs.Written.{bytes_field}
 use Rattle.wire.proofs.Readings.{no_fields}
 use Rattle.wire.proofs.Written.{bytes_field_at, varint_field_at, varint_first, bytes_stand, length_bytes_field}
 use Rattle.double.specs.Limit.{least_limit, most_limit}
-use Rattle.params.specs.Message.{good, walk, first_of, place_of}
+use Rattle.params.specs.Message.{good, walk, first_of}
 use Rattle.params.specs.Keys.{find_in}
 use Rattle.params.specs.Rules.{struct_check}
 use Rattle.terms.specs.Announced.{limit_in, announced_number, announced_limit}

@@ -17,10 +17,10 @@ use Rattle.wire.specs.declared.Kind.{Kind}
 use Rattle.wire.specs.declared.Kind.TheVariants.{WireType, Repeated, BadText, Other}
 use Rattle.wire.specs.declared.Fault.{Fault}
 use Rattle.wire.specs.declared.Field.{Field}
-use Rattle.wire.specs.Fields.{Reading, field_at, and_behind, fields_within, fields_of}
+use Rattle.wire.specs.Fields.{place_of, Reading, field_at, and_behind, fields_within, fields_of}
 use Rattle.wire.proofs.Readings.{Within, field_within}
 use Rattle.wire.proofs.Moved.{field_by, reading_by, fields_by}
-use Rattle.params.specs.Message.{Check, good, refuse_if, and_then, walk, first_of, has_number, place_of, nowhere, place_in}
+use Rattle.params.specs.Message.{Check, good, refuse_if, and_then, walk, first_of, has_number, nowhere, place_in}
 use Rattle.params.specs.Keys.{key_of, has_key, value_found, find_in, is_found}
 use Rattle.params.specs.declared.Seen.{Seen}
 use Rattle.params.specs.Rules.{value_wire, value_text, value_allowed, value_rule, value_field, value_move, value_done, value_check, bytes_rule, key_rule, seen_of, entry_field, entry_move, entry_done, entry_check, item_field, item_judge, item_move, item_done, items_check, inside}

@@ -11,9 +11,9 @@ use Rattle.bytes_be.specs.Part.{part_at, between, same}
 use Rattle.utf8.specs.Text.{well_formed}
 use Rattle.wire.specs.declared.Kind.TheVariants.{Repeated, BadText, Other}
 use Rattle.wire.specs.declared.Field.{Field}
-use Rattle.wire.specs.Fields.{Reading, fields_of}
+use Rattle.wire.specs.Fields.{place_of, Reading, fields_of}
 use Rattle.wire.proofs.Front.{fields_front}
-use Rattle.params.specs.Message.{Check, good, refuse_if, walk, first_of, place_of, place_in}
+use Rattle.params.specs.Message.{Check, good, refuse_if, walk, first_of, place_in}
 use Rattle.params.specs.Keys.{key_of, has_key, value_found, find_in, is_found}
 use Rattle.params.specs.declared.Seen.{Seen}
 use Rattle.params.specs.Rules.{value_check, bytes_rule, key_rule, seen_of, entry_field, entry_move, entry_done, entry_check, item_field, item_judge, item_move, item_done, items_check, struct_check, inside}

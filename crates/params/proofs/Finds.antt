@@ -11,9 +11,9 @@ use native.Mathlib.Omega.{arith}
 use Rattle.bytes_be.specs.declared.Place.{Place}
 use Rattle.bytes_be.proofs.Tests.{clash}
 use Rattle.wire.specs.declared.Field.{Field}
-use Rattle.wire.specs.Fields.{Reading, field_at, and_behind, fields_within, fields_of}
+use Rattle.wire.specs.Fields.{place_of, Reading, field_at, and_behind, fields_within, fields_of}
 use Rattle.wire.proofs.Readings.{Within, field_within}
-use Rattle.params.specs.Message.{first_of, has_number, place_of, nowhere, place_in}
+use Rattle.params.specs.Message.{first_of, has_number, nowhere, place_in}
 use Rattle.params.specs.Keys.{has_key, value_place, value_found, find_in}
 
 -- `whole` is what the search comes to, and is known to be what it comes to over the fields that are left

@@ -15,9 +15,9 @@ use Rattle.bytes_be.proofs.Tests.{both_true, clash}
 use Rattle.wire.specs.declared.Kind.{Kind}
 use Rattle.wire.specs.declared.Kind.TheVariants.{WireType, Repeated, BadText, Other}
 use Rattle.wire.specs.declared.Field.{Field}
-use Rattle.wire.specs.Fields.{Reading, field_at, and_behind, fields_within, fields_of}
+use Rattle.wire.specs.Fields.{place_of, Reading, field_at, and_behind, fields_within, fields_of}
 use Rattle.wire.proofs.Readings.{field_within}
-use Rattle.params.specs.Message.{Check, good, refuse_if, walk, first_of, place_of, place_in}
+use Rattle.params.specs.Message.{Check, good, refuse_if, walk, first_of, place_in}
 use Rattle.params.specs.Keys.{value_place, has_key, value_found, find_in, is_found}
 use Rattle.params.specs.declared.Seen.{Seen}
 use Rattle.params.specs.Rules.{value_wire, value_text, value_allowed, value_rule, value_field, value_move, value_done, value_check, bytes_rule, key_rule, seen_of, entry_field, entry_move, entry_done, entry_check, item_field, item_judge, item_move, item_done, items_check, inside, struct_check, alone_check}

@@ -1,12 +1,12 @@
 -- "Every breach of these rules or of those for Struct and Value below is refused as 18": a message is judged field by field, from left to
 -- right, and its first fault is the answer.
-use Rattle.std.specs.Prelude.{ℕ, ◌-◌, List, [], ◌∷◌, Bool, cond, not, eqb, Result, Ok, Err}
+use Rattle.std.specs.Prelude.{ℕ, List, [], ◌∷◌, Bool, cond, not, eqb, Result, Ok, Err}
 use Rattle.bytes_be.specs.declared.Place.{Place}
 use Rattle.wire.specs.declared.Kind.{Kind}
 use Rattle.wire.specs.declared.Kind.TheVariants.{Other}
 use Rattle.wire.specs.declared.Fault.{Fault}
 use Rattle.wire.specs.declared.Field.{Field}
-use Rattle.wire.specs.Fields.{Reading, fault_number}
+use Rattle.wire.specs.Fields.{Reading, fault_number, place_of}
 
 -- whether something is as it must be, and why and where it is not
 abbrev pub Check : Type 0
@@ -51,10 +51,6 @@ first_of test answer none (Ok field ∷ rest) = cond (test field) (answer field)
 
 abbrev pub has_number : ℕ → Field → Bool
 has_number number field = eqb field.number number
-
--- where a field has its payload
-abbrev pub place_of : Field → Place
-place_of field = record { at = field.at; length = field.next - field.at }
 
 abbrev pub nowhere : Place
 nowhere = record { at = 0; length = 0 }

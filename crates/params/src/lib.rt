@@ -1,7 +1,7 @@
 // Struct, Value and list: whether lent bytes are readable, why and where they are not, and the Value of a key.
 #![tactic(auto)]
 
-ghost use Rattle.std.specs.Prelude.{◌≡◌, ◌≤◌, length};
+ghost use Rattle.std.specs.Prelude.{◌≡◌};
 ghost use Rattle.bytes_be.specs.Part.{same};
 ghost use Rattle.wire.specs.Fields.{fields_of};
 ghost use Rattle.params.specs.Message.{good, refuse_if, lacking_of, place_in};
@@ -37,10 +37,7 @@ pub fn place_in(s: &[u8], from: usize, to: usize, number: u64) -> Place
             break;
         };
         if field.number == number {
-            return Place {
-                at: field.at,
-                length: field.next - field.at,
-            };
+            return field.payload();
         }
     }
     Place { at: 0, length: 0 }
@@ -85,14 +82,10 @@ fn value_wire(number: u64, wire: u64) -> bool
 
 // Whether a field of a Value is text where it is a string.
 #[tactic(auto, unfolding(crate::specs::Rules::value_text))]
-fn value_text(s: &[u8], number: u64, at: usize, next: usize) -> bool
-    requires { (at ≤ next) × (next ≤ length s.now) }
-    ensures { result ≡ value_text s.now number at next }
+fn value_text(s: &[u8], field: Field) -> bool
+    ensures { result ≡ value_text s.now field.number field.at field.next }
 {
-    if number == 3 {
-        return utf8::well_formed(&s[at..next]);
-    }
-    true
+    field.number != 3 || utf8::well_formed(field.payload().part_of(s))
 }
 
 // Whether a Value may hold what its field says, where it holds nothing yet.
@@ -110,17 +103,12 @@ fn value_allowed(number: u64, value: u64) -> bool
 // What a field of a Value comes to before its inside is looked at, behind the field `held`, or 0.
 #[tactic(auto, unfolding(crate::specs::Rules::value_rule))]
 fn value_rule(s: &[u8], held: u64, field: Field) -> Result<(), Fault>
-    requires { (field.at ≤ field.next) × (field.next ≤ length s.now) }
     ensures { result ≡ value_rule s.now held field }
 {
     let number = field.number;
     refuse_if(!value_wire(number, field.wire), Kind::WireType, field.tag)?;
     refuse_if(held == number, Kind::Repeated, field.tag)?;
-    refuse_if(
-        !value_text(s, number, field.at, field.next),
-        Kind::BadText,
-        field.tag,
-    )?;
+    refuse_if(!value_text(s, field), Kind::BadText, field.tag)?;
     let allowed = (held == 0) & value_allowed(number, field.value);
     refuse_if(!allowed, Kind::Other, field.tag)
 }
@@ -129,7 +117,6 @@ fn value_rule(s: &[u8], held: u64, field: Field) -> Result<(), Fault>
 #[cycle(nesting)]
 #[tactic(auto, unfolding(crate::specs::Rules::value_field))]
 fn value_field(s: &[u8], held: u64, field: Field, levels: u8) -> Result<(), Fault>
-    requires { (field.at ≤ field.next) × (field.next ≤ length s.now) }
     ensures { result ≡ value_field (inside levels s.now) s.now held field }
 {
     value_rule(s, held, field)?;
@@ -172,15 +159,12 @@ fn bytes_rule(field: Field, most: u64, repeated: bool) -> Result<(), Fault>
 // A key, in a Struct that begins at `from` and has the tag of the key's entry at `tag`.
 #[tactic(auto, unfolding(crate::specs::Rules::key_rule))]
 fn key_rule(s: &[u8], from: usize, tag: usize, field: Field) -> Result<(), Fault>
-    requires { (field.at ≤ field.next) × (field.next ≤ length s.now) }
     ensures { result ≡ key_rule s.now from tag field }
 {
-    let at = field.at;
-    let next = field.next;
-    let found = find(s, from, tag, &s[at..next]);
+    let key = field.payload().part_of(s);
+    let found = find(s, from, tag, key);
     refuse_if(found.is_some(), Kind::Repeated, field.tag)?;
-    let text = utf8::well_formed(&s[at..next]);
-    refuse_if(!text, Kind::BadText, field.tag)
+    refuse_if(!utf8::well_formed(key), Kind::BadText, field.tag)
 }
 
 // What an entry has had.
@@ -215,7 +199,6 @@ fn entry_field(
     field: Field,
     levels: u8,
 ) -> Result<(), Fault>
-    requires { (field.at ≤ field.next) × (field.next ≤ length s.now) }
     ensures { result ≡ entry_field (inside levels s.now) s.now from tag seen field }
 {
     bytes_rule(field, 2, seen.has(field.number))?;

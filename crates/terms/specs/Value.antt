@@ -6,9 +6,9 @@ use Rattle.std.specs.Float.Ieee.{of_bits}
 use Rattle.wire.specs.declared.Kind.TheVariants.{Other}
 use Rattle.wire.specs.declared.Fault.{Fault}
 use Rattle.wire.specs.declared.Field.{Field}
-use Rattle.wire.specs.Fields.{fault_number, Reading, field_at}
+use Rattle.wire.specs.Fields.{place_of, fault_number, Reading, field_at}
 use Rattle.double.specs.Double.{bits_at}
-use Rattle.params.specs.Message.{Check, place_of}
+use Rattle.params.specs.Message.{Check}
 use Rattle.params.specs.Rules.{by_kind, alone_check}
 use Rattle.terms.specs.declared.Value.{Value}
 use Rattle.terms.specs.declared.Value.TheVariants.{Null, Number, Text, Boolean, Struct, List as Value-as-List}

@@ -26,7 +26,6 @@ pub enum Value {
 // What the field of a Value holds.
 #[tactic(auto, unfolding(crate::specs::Value::held_by))]
 fn held_by(s: &[u8], field: Field) -> Result<Value, Fault>
-    requires { field.at ≤ field.next }
     ensures { result ≡ held_by s.now field }
 {
     match field.number {
@@ -38,10 +37,7 @@ fn held_by(s: &[u8], field: Field) -> Result<Value, Fault>
                 bits,
             })
         }
-        3 => Ok(Value::Text(Place {
-            at: field.at,
-            length: field.next - field.at,
-        })),
+        3 => Ok(Value::Text(field.payload())),
         4 => Ok(Value::Boolean(field.value == 1)),
         5 => Ok(Value::Struct),
         6 => Ok(Value::List),

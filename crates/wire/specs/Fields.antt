@@ -1,6 +1,7 @@
 -- "field 0, tags above 2^32-1, other wire types, a varint over 10 bytes or above 2^64-1, .. a length past the end": what is refused at a
 -- field of any message, with the place of its tag.
 use Rattle.std.specs.Prelude.{ℕ, zero, suc, ◌+◌, ◌-◌, ◌/◌, ◌%◌, List, [], ◌∷◌, cond, ◌&&◌, length, ltb, leb, eqb, Result, Ok, Err}
+use Rattle.bytes_be.specs.declared.Place.{Place}
 use Rattle.wire.specs.declared.Kind.{Kind}
 use Rattle.wire.specs.declared.Kind.TheVariants.{CutShort, BadVarint, WireType}
 use Rattle.wire.specs.declared.Varint.{Varint}
@@ -8,6 +9,10 @@ use Rattle.wire.specs.declared.Field.{Field}
 use Rattle.wire.specs.declared.Fields.{Fields}
 use Rattle.wire.specs.declared.Fault.{Fault}
 use Rattle.wire.specs.Varint.{Said, varint_at}
+
+-- where a field has its payload
+abbrev pub place_of : Field → Place
+place_of field = record { at = field.at; length = field.next - field.at }
 
 -- a field, or why and where it cannot be read
 abbrev pub Reading : Type 0

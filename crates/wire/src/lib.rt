@@ -4,8 +4,9 @@
 ghost use Rattle.std.specs.Prelude.{◌≡◌, cond, ◌≤◌, ◌+◌, ◌%◌, ltb, length, take};
 ghost use Rattle.bytes_be.specs.Part.{put_at};
 ghost use Rattle.wire.specs.Varint.{bounded, said_at, varint_at, varint_length, shortest_of};
-ghost use Rattle.wire.specs.Fields.{fault_number, of_field, sized, payload_at, field_at, fields_of, fields_left};
+ghost use Rattle.wire.specs.Fields.{place_of, fault_number, of_field, sized, payload_at, field_at, fields_of, fields_left};
 
+use bytes_be::Place;
 use numbered::Numbered;
 
 // Why a message cannot be read.
@@ -54,18 +55,24 @@ pub struct Field {
     pub next: usize,
 }
 
+impl Field {
+    // Where its payload stands.
+    pub fn payload(self) -> Place
+        ensures { result ≡ place_of self }
+    {
+        Place {
+            at: self.at,
+            length: self.next.saturating_sub(self.at),
+        }
+    }
+}
+
 impl Numbered for Fault {
     ghost number = { fault_number };
 
     fn number(&self) -> u8 {
         18
     }
-}
-
-fn wide(byte: u8) -> u64
-    ensures { result ≡ byte }
-{
-    byte as u64
 }
 
 // The varint at place `at` of a message that ends at `end`, where `left` bytes are the most it may have.
@@ -82,7 +89,7 @@ fn varint_within(s: &[u8], at: usize, end: usize, left: usize) -> Result<Varint,
     let byte = s[at];
     if byte < 128 {
         return Ok(Varint {
-            value: wide(byte),
+            value: u64::from(byte),
             next: at + 1,
         });
     }
@@ -91,7 +98,7 @@ fn varint_within(s: &[u8], at: usize, end: usize, left: usize) -> Result<Varint,
         return Err(Kind::BadVarint);
     }
     Ok(Varint {
-        value: behind.value * 128 + wide(byte % 128),
+        value: behind.value * 128 + u64::from(byte % 128),
         next: behind.next,
     })
 }
@@ -105,7 +112,7 @@ fn varint_at(s: &[u8], at: usize, end: usize) -> Result<Varint, Kind>
         let byte = s[at];
         if byte < 128 {
             return Ok(Varint {
-                value: wide(byte),
+                value: u64::from(byte),
                 next: at + 1,
             });
         }

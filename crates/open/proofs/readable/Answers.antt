@@ -2,7 +2,6 @@
 use mathlib.Core.Path.{sym, ap, ◌∙◌}
 use borrow.Author.Rules.{rules}
 use Rattle.wire.specs.Fields.{fields_left}
-use Rattle.wire.proofs.Readings.{fields_lie, field_lies_in, rest_lie}
 use Rattle.params.proofs.Walks.{walk_done, walk_refused, walk_stopped, walk_on}
 use Rattle.open.specs.Frame.{frame_check, parts_of}
 use Rattle.open.proofs.Kept.{kept_done, kept_on, parts_lie}
@@ -13,13 +12,10 @@ pub loop-read-init : goal.loop-read-init
 unfolding frame_check parts_of
 loop-read-init c =
     let all = ap fields_left c.into_iter-read-iterator.ensures.into_iter_gives ∙ c.fields_of-read-items.ensures in
-    (rw all, rw all, fields_lie _ _ _ _ all)
+    (rw all, rw all)
 
 pub returns-in_err-field : goal.returns-in_err-field
 returns-in_err-field c = let h = unreadable _ _ _ _ (walk_refused _ _ _ _ _ _ c.loop-read.invariant.0 _ _ c.in-Some.ensures.steps _ c.in_err-field.was) in search rules
-
-pub frame_field-requires : goal.frame_field-requires
-frame_field-requires c = field_lies_in _ _ c.loop-read.invariant.2 _ _ c.in-Some.ensures.steps _ c.in_ok-field.was
 
 pub returns-in_err-frame_field : goal.returns-in_err-frame_field
 returns-in_err-frame_field c =
@@ -27,15 +23,12 @@ returns-in_err-frame_field c =
     let h = unreadable _ _ _ _ (sym c.in_err-frame_field.was ∙ stops) in
     search rules
 
-pub keep-parts-requires : goal.keep-parts-requires
-keep-parts-requires c = (field_lies_in _ _ c.loop-read.invariant.2 _ _ c.in-Some.ensures.steps _ c.in_ok-field.was).0
-
 pub loop-read-preserved : goal.loop-read-preserved
 loop-read-preserved c =
     let rest = c.in-Some.ensures.steps in
     let walked = walk_on _ _ _ _ _ _ c.loop-read.invariant.0 _ _ rest _ c.in_ok-field.was _ c.frame_field.ensures c.in_ok-frame_field.was in
     let held = kept_on _ _ _ c.loop-read.invariant.1 _ _ rest _ c.in_ok-field.was in
-    rw c.keep-parts.ensures (walked, held, rest_lie _ _ c.loop-read.invariant.2 _ _ rest _ c.in_ok-field.was)
+    rw c.keep-parts.ensures (walked, held)
 
 pub opening_of-requires : goal.opening_of-requires
 opening_of-requires c =

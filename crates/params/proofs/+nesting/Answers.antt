@@ -4,7 +4,6 @@ use mathlib.Core.Path.{ap, ◌∙◌}
 use borrow.Author.Rules.{rules}
 use borrow.Author.Tests.{lt-ltb, le-ltb, eq-eqb, ne_eqb}
 use Rattle.wire.specs.Fields.{fields_left}
-use Rattle.wire.proofs.Readings.{fields_lie, field_lies_in, rest_lie}
 use Rattle.params.specs.Rules.{value_field, value_check, entry_field, entry_check, item_field, items_check}
 use Rattle.params.proofs.Walks.{walk_done, walk_refused, walk_stopped, walk_on, inside_none, inside_more, passed}
 use Rattle.params.proofs.+nesting.Goals as goal
@@ -12,26 +11,19 @@ use Rattle.params.proofs.+nesting.Goals as goal
 pub check_entry-loop-read-init : goal.check_entry-loop-read-init
 unfolding entry_check
 check_entry-loop-read-init t c =
-    let all = ap fields_left c.into_iter-read-iterator.ensures.into_iter_gives ∙ c.fields_of-read-items.ensures in
-    (rw all, fields_lie _ _ _ _ all)
+    rw (ap fields_left c.into_iter-read-iterator.ensures.into_iter_gives ∙ c.fields_of-read-items.ensures)
 
 pub check_entry-returns-in_err-field : goal.check_entry-returns-in_err-field
-check_entry-returns-in_err-field t c = let h = walk_refused _ _ _ _ _ _ c.loop-read.invariant.0 _ _ c.in-Some.ensures.steps _ c.in_err-field.was in search rules
-
-pub check_entry-entry_field-requires : goal.check_entry-entry_field-requires
-check_entry-entry_field-requires t c = (search rules, field_lies_in _ _ c.loop-read.invariant.1 _ _ c.in-Some.ensures.steps _ c.in_ok-field.was)
+check_entry-returns-in_err-field t c = let h = walk_refused _ _ _ _ _ _ c.loop-read.invariant _ _ c.in-Some.ensures.steps _ c.in_err-field.was in search rules
 
 pub check_entry-returns-in_err-entry_field : goal.check_entry-returns-in_err-entry_field
-check_entry-returns-in_err-entry_field t c = let h = walk_stopped _ _ _ _ _ _ c.loop-read.invariant.0 _ _ c.in-Some.ensures.steps _ c.in_ok-field.was _ c.entry_field.ensures _ c.in_err-entry_field.was in search rules
+check_entry-returns-in_err-entry_field t c = let h = walk_stopped _ _ _ _ _ _ c.loop-read.invariant _ _ c.in-Some.ensures.steps _ c.in_ok-field.was _ c.entry_field.ensures _ c.in_err-entry_field.was in search rules
 
 pub check_entry-loop-read-preserved : goal.check_entry-loop-read-preserved
-check_entry-loop-read-preserved t c = (
-  walk_on _ _ _ _ _ _ c.loop-read.invariant.0 _ _ c.in-Some.ensures.steps _ c.in_ok-field.was _ c.entry_field.ensures c.in_ok-entry_field.was,
-  rest_lie _ _ c.loop-read.invariant.1 _ _ c.in-Some.ensures.steps _ c.in_ok-field.was,
-)
+check_entry-loop-read-preserved t c = walk_on _ _ _ _ _ _ c.loop-read.invariant _ _ c.in-Some.ensures.steps _ c.in_ok-field.was _ c.entry_field.ensures c.in_ok-entry_field.was
 
 pub check_entry-returns : goal.check_entry-returns
-check_entry-returns t c = c.entry_done.ensures ∙ walk_done _ _ _ _ _ _ c.loop-read.invariant.0 c.in-None.ensures.steps.0
+check_entry-returns t c = c.entry_done.ensures ∙ walk_done _ _ _ _ _ _ c.loop-read.invariant c.in-None.ensures.steps.0
 
 pub check_items-loop-read-init : goal.check_items-loop-read-init
 unfolding items_check
@@ -52,26 +44,19 @@ check_items-returns t c = walk_done _ _ _ _ _ _ c.loop-read.invariant c.in-None.
 pub check_value-loop-read-init : goal.check_value-loop-read-init
 unfolding value_check
 check_value-loop-read-init t c =
-    let all = ap fields_left c.into_iter-read-iterator.ensures.into_iter_gives ∙ c.fields_of-read-items.ensures in
-    (rw all, fields_lie _ _ _ _ all)
+    rw (ap fields_left c.into_iter-read-iterator.ensures.into_iter_gives ∙ c.fields_of-read-items.ensures)
 
 pub check_value-returns-in_err-field : goal.check_value-returns-in_err-field
-check_value-returns-in_err-field t c = let h = walk_refused _ _ _ _ _ _ c.loop-read.invariant.0 _ _ c.in-Some.ensures.steps _ c.in_err-field.was in search rules
-
-pub check_value-value_field-requires : goal.check_value-value_field-requires
-check_value-value_field-requires t c = (search rules, field_lies_in _ _ c.loop-read.invariant.1 _ _ c.in-Some.ensures.steps _ c.in_ok-field.was)
+check_value-returns-in_err-field t c = let h = walk_refused _ _ _ _ _ _ c.loop-read.invariant _ _ c.in-Some.ensures.steps _ c.in_err-field.was in search rules
 
 pub check_value-returns-in_err-value_field : goal.check_value-returns-in_err-value_field
-check_value-returns-in_err-value_field t c = let h = walk_stopped _ _ _ _ _ _ c.loop-read.invariant.0 _ _ c.in-Some.ensures.steps _ c.in_ok-field.was _ c.value_field.ensures _ c.in_err-value_field.was in search rules
+check_value-returns-in_err-value_field t c = let h = walk_stopped _ _ _ _ _ _ c.loop-read.invariant _ _ c.in-Some.ensures.steps _ c.in_ok-field.was _ c.value_field.ensures _ c.in_err-value_field.was in search rules
 
 pub check_value-loop-read-preserved : goal.check_value-loop-read-preserved
-check_value-loop-read-preserved t c = (
-  walk_on _ _ _ _ _ _ c.loop-read.invariant.0 _ _ c.in-Some.ensures.steps _ c.in_ok-field.was _ c.value_field.ensures c.in_ok-value_field.was,
-  rest_lie _ _ c.loop-read.invariant.1 _ _ c.in-Some.ensures.steps _ c.in_ok-field.was,
-)
+check_value-loop-read-preserved t c = walk_on _ _ _ _ _ _ c.loop-read.invariant _ _ c.in-Some.ensures.steps _ c.in_ok-field.was _ c.value_field.ensures c.in_ok-value_field.was
 
 pub check_value-returns : goal.check_value-returns
-check_value-returns t c = c.lacking.ensures ∙ walk_done _ _ _ _ _ _ c.loop-read.invariant.0 c.in-None.ensures.steps.0
+check_value-returns t c = c.lacking.ensures ∙ walk_done _ _ _ _ _ _ c.loop-read.invariant c.in-None.ensures.steps.0
 
 pub entry_field-returns-then-field-eq1 : goal.entry_field-returns-then-field-eq1
 unfolding entry_field

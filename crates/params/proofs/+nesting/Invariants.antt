@@ -3,16 +3,14 @@
 use Prim.Native.Nat.{◌+◌, ◌*◌}
 use mathlib.Core.Path.{◌≡◌}
 use Rattle.wire.specs.Fields.{fields_left}
-use Rattle.wire.proofs.Readings.{Lying}
 use Rattle.params.specs.Message.{walk}
 use Rattle.params.specs.Rules.{value_field, value_move, value_done, value_check, entry_field, entry_move, entry_done, entry_check, item_judge, item_move, item_done, items_check, inside}
 use Rattle.params.proofs.+nesting.Given as goal
 
 abbrev pub invariant-check_entry-loop-read : goal.invariant-check_entry-loop-read
 invariant-check_entry-loop-read l =
-    (entry_check (inside l.levels l.s) l.s l.from l.tag l.start l.to
-    ≡ walk (entry_field (inside l.levels l.s) l.s l.from l.tag) entry_move (entry_done l.s l.from l.tag l.to) (fields_left l.read-iterator) l.seen)
-    × Lying l.s (fields_left l.read-iterator)
+    entry_check (inside l.levels l.s) l.s l.from l.tag l.start l.to
+    ≡ walk (entry_field (inside l.levels l.s) l.s l.from l.tag) entry_move (entry_done l.s l.from l.tag l.to) (fields_left l.read-iterator) l.seen
 
 abbrev pub invariant-check_items-loop-read : goal.invariant-check_items-loop-read
 invariant-check_items-loop-read l =
@@ -21,9 +19,8 @@ invariant-check_items-loop-read l =
 
 abbrev pub invariant-check_value-loop-read : goal.invariant-check_value-loop-read
 invariant-check_value-loop-read l =
-    (value_check (inside l.levels l.s) l.s l.from l.to
-    ≡ walk (value_field (inside l.levels l.s) l.s) value_move (value_done l.to) (fields_left l.read-iterator) l.held)
-    × Lying l.s (fields_left l.read-iterator)
+    value_check (inside l.levels l.s) l.s l.from l.to
+    ≡ walk (value_field (inside l.levels l.s) l.s) value_move (value_done l.to) (fields_left l.read-iterator) l.held
 
 abbrev pub decreases-value_field : goal.decreases-value_field
 decreases-value_field l = 8 * l.levels

@@ -10,7 +10,7 @@ pub returns-then-end-at : goal.returns-then-end-at
 returns-then-end-at t c = at_end _ _ _ _ c.if-left-eq0.false c.if-end-at.true
 
 pub returns-then-byte-lt128 : goal.returns-then-byte-lt128
-returns-then-byte-lt128 t c = rw c.wide.ensures (at_last _ _ _ _ c.if-left-eq0.false c.if-end-at.false c.if-byte-lt128.true)
+returns-then-byte-lt128 t c = rw c.from.ensures (at_last _ _ _ _ c.if-left-eq0.false c.if-end-at.false c.if-byte-lt128.true)
 
 pub returns-in_err-behind : goal.returns-in_err-behind
 returns-in_err-behind t c = let h = more_err _ _ _ _ c.if-left-eq0.false c.if-end-at.false c.if-byte-lt128.false _ c.varint_within.ensures _ c.in_err-behind.was in search rules
@@ -21,4 +21,4 @@ returns-then-behind-ge144115188075855872 t c =
 
 pub returns : goal.returns
 returns t c =
-    more_read _ _ _ _ c.if-left-eq0.false c.if-end-at.false c.if-byte-lt128.false _ c.varint_within.ensures _ _ c.in_ok-behind.was c.if-behind-ge144115188075855872.false c.wide-2.ensures
+    more_read _ _ _ _ c.if-left-eq0.false c.if-end-at.false c.if-byte-lt128.false _ c.varint_within.ensures _ _ c.in_ok-behind.was c.if-behind-ge144115188075855872.false c.from-2.ensures

@@ -6,7 +6,7 @@ use Rattle.wire.proofs.varint_at.Goals as goal
 
 pub returns-then-byte-lt128 : goal.returns-then-byte-lt128
 unfolding varint_at
-returns-then-byte-lt128 c = rw c.wide.ensures (at_last 10 _ _ _ (λ e. absurd (omega arith)) c.if-at-end.true c.if-byte-lt128.true)
+returns-then-byte-lt128 c = rw c.from.ensures (at_last 10 _ _ _ (λ e. absurd (omega arith)) c.if-at-end.true c.if-byte-lt128.true)
 
 pub returns : goal.returns
 unfolding varint_at
