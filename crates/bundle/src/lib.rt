@@ -75,9 +75,9 @@ pub fn contents_of(s: &[u8]) -> Result<Contents, BadBundle>
                 length: length_of(s, 0) as usize,
             };
             return Ok(Contents {
-                count: count,
-                control: control,
-                size: size,
+                count,
+                control,
+                size,
             });
         }
     }

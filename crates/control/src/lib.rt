@@ -133,7 +133,7 @@ pub fn read(s: &[u8]) -> Result<Control, Refusal>
         return Err(Refusal::UnknownType);
     };
     Ok(Control {
-        message: message,
+        message,
         flags: signed.flags,
         type_data: signed.type_data,
     })

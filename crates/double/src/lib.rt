@@ -28,21 +28,14 @@ pub fn double_of(bits: u64) -> f64
     f64::from_bits(bits)
 }
 
-// Eight bytes, the last one first.
-fn backwards(bytes: [u8; 8]) -> [u8; 8]
-    ensures { result ≡ reverse bytes }
-{
-    [
-        bytes[7], bytes[6], bytes[5], bytes[4], bytes[3], bytes[2], bytes[1], bytes[0],
-    ]
-}
-
 // The eight bytes, the least significant first, of the double of a whole number.
 pub fn bytes_of(number: u32) -> [u8; 8]
     ensures { result ≡ bytes_of number }
 {
     let bits = f64::to_bits(number as f64);
-    backwards(bits.bytes())
+    let mut bytes = bits.bytes();
+    bytes.reverse();
+    bytes
 }
 
 // The limit that a double says, if it is a whole number from 1,000,000 to 50,000,000. It is compared as an integer, and equal bits show that

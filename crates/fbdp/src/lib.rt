@@ -148,7 +148,7 @@ fn report_of(type_data: u16, how: u8) -> Report
     ensures { result ≡ report_of type_data how }
 {
     Report {
-        type_data: type_data,
+        type_data,
         ask: is_chosen(1, how),
         no_body: is_chosen(2, how),
     }

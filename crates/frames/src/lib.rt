@@ -32,7 +32,7 @@ pub fn handed_at(bundle: &[u8], position: usize) -> Handed
         Ok(None) | Err(_) => position,
     };
     Handed {
-        frame: frame,
+        frame,
         position: moved,
     }
 }
@@ -43,7 +43,7 @@ impl<'a> Reader<'a> {
         ensures { result ≡ begun_over bundle.entry }
     {
         Reader {
-            bundle: bundle,
+            bundle,
             position: 0,
         }
     }
@@ -63,12 +63,12 @@ pub fn hand_out(bundle: &[u8], position: usize) -> Handed
     ensures { result ≡ handed_at bundle.now position }
 {
     let mut reader = Reader {
-        bundle: bundle,
-        position: position,
+        bundle,
+        position,
     };
     let frame = reader.next();
     Handed {
-        frame: frame,
+        frame,
         position: reader.position,
     }
 }

@@ -49,7 +49,7 @@ pub fn report_of(input: &[u8]) -> Result<Report, Refusal>
     let end = at + contents.control.length;
     let control = control::read(&input[at..end])?;
     Ok(Report {
-        control: control,
+        control,
         frames: contents.count - 1,
     })
 }

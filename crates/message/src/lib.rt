@@ -130,8 +130,8 @@ fn refused(why: Reason, said: u8) -> Result<Message, Refusal>
     ensures { result ≡ Reading·refused why said }
 {
     Err(Refusal {
-        why: why,
-        said: said,
+        why,
+        said,
     })
 }
 
@@ -173,7 +173,7 @@ pub fn read(s: &[u8]) -> Result<Message, Refusal>
         return refused(Reason::Control(control::Refusal::UnknownType), said);
     };
     let kind = Kind {
-        message: message,
+        message,
         flags: signed.flags,
     };
     // Where there is one data frame, it is all that stands behind the control frame.
@@ -183,10 +183,10 @@ pub fn read(s: &[u8]) -> Result<Message, Refusal>
     };
     let frames = contents.count - 1;
     let whole = Message {
-        message: message,
+        message,
         flags: signed.flags,
         type_data: signed.type_data,
-        frames: frames,
+        frames,
         size: contents.size,
         body: kind.body(frames, rest),
     };

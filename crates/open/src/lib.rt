@@ -277,35 +277,23 @@ fn offered_socket(flow: u8) -> u64
     1
 }
 
-// Whether the bytes at a place of s are these.
-fn same_at(s: &[u8], place: Place, bytes: &[u8]) -> bool
-    requires { place.at + place.length ≤ length s.now }
-    ensures { result ≡ same (part_at s.now place) bytes.now }
-{
-    let first = place.at;
-    let behind = place.at + place.length;
-    bytes_be::same(&s[first..behind], bytes)
-}
-
 // 21: another name or another socket than the offered one.
 #[tactic(auto, unfolding(crate::specs::Open::offered_pipe))]
 fn offered_pipe(s: &[u8], flow: u8, name: &[u8], opening: Opening) -> Result<Opening, Refusal>
-    requires { opening.name.at + opening.name.length ≤ length s.now }
     ensures { result ≡ offered_pipe s.now flow name.now opening }
 {
-    let place = opening.name;
-    let other = !same_at(s, place, name) | (opening.socket != offered_socket(flow));
+    let same = bytes_be::same(opening.name.part_of(s), name);
+    let other = !same | (opening.socket != offered_socket(flow));
     refused_if(other, Refusal::OtherPipe, opening)
 }
 
 // 22: a format that is not the offered one.
 #[tactic(auto, unfolding(crate::specs::Open::offered_format))]
 fn offered_format(s: &[u8], format: &[u8], opening: Opening) -> Result<Opening, Refusal>
-    requires { opening.format.at + opening.format.length ≤ length s.now }
     ensures { result ≡ offered_format s.now format.now opening }
 {
-    let place = opening.format;
-    let other = (place.length != 0) & !same_at(s, place, format);
+    let same = bytes_be::same(opening.format.part_of(s), format);
+    let other = (opening.format.length != 0) & !same;
     refused_if(other, Refusal::OtherFormat, opening)
 }
 

@@ -47,13 +47,11 @@ pub fn place_in(s: &[u8], from: usize, to: usize, number: u64) -> Place
 }
 
 // Whether the entry from `from` to `to` has this key.
+#[tactic(auto, unfolding(crate::specs::Keys::key_of))]
 fn has_key(s: &[u8], from: usize, to: usize, key: &[u8]) -> bool
     ensures { result ≡ same (key_of s.now from to) key.now }
 {
-    let place = place_in(s, from, to, 1);
-    let first = place.at;
-    let behind = place.at + place.length;
-    bytes_be::same(&s[first..behind], key)
+    bytes_be::same(place_in(s, from, to, 1).part_of(s), key)
 }
 
 // The Value of the first entry with this key, among those of the Struct from `from` to `to`.

@@ -104,13 +104,13 @@ fn refuse(e: Endpoint, number: u8, said: u8) -> Received
     if silent {
         return Received {
             answer: Answer::Closes(number),
-            next: next,
+            next,
             reply: None,
         };
     }
     Received {
         answer: Answer::Closes(number),
-        next: next,
+        next,
         reply: Some(Control {
             message: MessageType::Close,
             flags: 0,
@@ -290,11 +290,11 @@ fn accept(e: Endpoint, m: Message, row: Result<Step, table::Refusal>, content: C
     let message = m.message;
     Received {
         answer: Answer::Heard(Heard {
-            message: message,
+            message,
             flags: m.flags,
             type_data: m.type_data,
             frames: m.frames,
-            content: content,
+            content,
         }),
         next: limited_by(confirmed_by(table::moved(e, row), m), content),
         reply: reply_to(m),

@@ -115,7 +115,7 @@ fn sent_if(number: u8, e: Endpoint, o: Outgoing, row: Result<Step, Refusal>) -> 
         };
     }
     Sent {
-        number: number,
+        number,
         next: e,
         written: 0,
     }
@@ -167,10 +167,10 @@ fn send_plain(
     ensures { Answered e (plain message type_data ask own) (bundle_with message ask type_data []) out.old result out.new }
 {
     let o = Outgoing {
-        message: message,
-        type_data: type_data,
-        ask: ask,
-        own: own,
+        message,
+        type_data,
+        ask,
+        own,
         length: 14,
     };
     let sent = decide(e, o, out.len());
@@ -219,7 +219,7 @@ fn send_body(e: Endpoint, report: Report, body: &[u8], out: &mut [u8]) -> Sent
         type_data: report.type_data,
         ask: report.ask,
         own: number_if(large, 33),
-        length: length,
+        length,
     };
     let sent = decide(e, o, out.len());
     if sent.number == 0 {

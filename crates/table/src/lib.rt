@@ -88,7 +88,8 @@ fn close_row(phase: u8) -> Result<Step, Refusal>
     Ok(Step { phase: 5, n: 0 })
 }
 
-// The row for a message that an end of this role and flow sends in this phase with this n; only READY looks at the type-data.
+// The row for a message that an end of this role and flow sends in this phase with this n; only READY looks at the type-data. They stay
+// numbers apart, as a hearer asks with the other role and flow, and a record holds what any block says.
 pub fn row_of(
     role: u8,
     flow: u8,

@@ -109,7 +109,7 @@ fn behind_blocks(s: &[u8], from: usize) -> usize
     i
 }
 
-// The same, eight at a time.
+// The same, eight at a time. One function for both would go over the words of a step in a loop within, which is no plainer.
 fn behind_eights(s: &[u8], from: usize) -> usize
     requires { from ≤ length s.now }
     ensures { (from ≤ result) × (result ≤ length s.now) × ((i : ℕ) → from ≤ i → i < result → get_or s.now i 0 < 128) }
@@ -168,7 +168,8 @@ fn behind_short_run(s: &[u8], from: usize) -> usize
     behind_bytes(s, from)
 }
 
-// Whether the bytes are text, in one pass that ends at the first sequence which is none of the table.
+// Whether the bytes are text, in one pass that ends at the first sequence which is none of the table. The steps are as long as the
+// sequences and the runs between them, so there is nothing that a `for` could go over.
 pub fn well_formed(s: &[u8]) -> bool
     ensures { result ≡ well_formed s.now }
 {

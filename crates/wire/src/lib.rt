@@ -257,7 +257,7 @@ fn digit_of(number: u64) -> u8
     (number % 128 + 128) as u8
 }
 
-// Ten bytes that begin with the shortest varint of a number.
+// Ten bytes that begin with the shortest varint of a number. A loop would carry what is left of the number beside them, which is no plainer.
 fn digits_of(number: u64) -> [u8; 10]
     ensures { take (varint_length number) result ≡ shortest_of number }
 {
@@ -285,7 +285,7 @@ fn digits_of(number: u64) -> [u8; 10]
     ]
 }
 
-// How many bytes the shortest varint of a number has.
+// How many bytes the shortest varint of a number has. The loop ends with the number, so there is nothing that a `for` could go over.
 pub fn varint_length(number: u64) -> usize
     ensures { result ≡ varint_length number }
 {

@@ -10,4 +10,4 @@ float_to_bits-bits c = whole_no_nan _ (search rules)
 
 pub returns : goal.returns
 unfolding bytes_of
-returns c = c.backwards.ensures ∙ ap reverse c.bytes.ensures
+returns c = c.reverse.ensures.after ∙ ap reverse c.bytes-bytes.ensures
