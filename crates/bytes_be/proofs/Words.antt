@@ -1,15 +1,18 @@
--- Laws of the number that bytes say backwards, the least significant first, at any width: which bytes are below 128. Assumes nothing.
+-- Laws of the number that bytes say backwards, the least significant first, at any width: which bytes are below 128, and which lists are
+-- the same. Assumes nothing.
 use mathlib.Core.Path.{◌≡◌, refl, sym, ap, ap₂, ◌∙◌}
 use mathlib.Core.List.{List, [], ◌∷◌, reverse, reverse-cons}
 use mathlib.Core.Logic.{◌↔◌}
-use Prim.Native.Nat.{ℕ, zero, suc, ◌+◌, ◌*◌, ◌/◌, ◌%◌, ◌<◌}
+use Prim.Native.Nat.{ℕ, zero, suc, ◌+◌, ◌*◌, ◌/◌, ◌%◌, ◌≤◌, ◌<◌}
 use native.Mathlib.Nat.{add-zero, mod-eq_of_lt}
 use native.Mathlib.Omega.{arith}
 use lib.Dec.{lit<}
 use lib.Bits.{bit_and, and_block, and_mask, and_zero_r}
 use lib.ListN.{length, get_or}
+use Rattle.bytes_be.specs.Part.{part}
 use Rattle.bytes_be.specs.Number.{from_bytes, from_bytes_behind}
-use Rattle.bytes_be.proofs.Numbers.{Bytes, from_more}
+use Rattle.bytes_be.proofs.Parts.{length_part}
+use Rattle.bytes_be.proofs.Numbers.{Bytes, from_more, bytes_part}
 use Rattle.bytes_be.proofs.Filled.{last_elements}
 
 -- eight bytes, the last one first
@@ -66,3 +69,20 @@ low_bytes (b ∷ rest) h =
       λ e. low_cons b rest (first.0 (omega (arith, apart))) (others.0 (omega (arith, apart))),
       λ low. omega (arith, apart, first.1 (low 0 (omega arith)), others.1 (λ i less. low (suc i) (omega arith))),
     )
+
+-- as many bytes that say the same number are the same
+same_number : (xs ys : List ℕ) → Bytes xs → Bytes ys → length xs ≡ length ys → from_bytes (reverse xs) ≡ from_bytes (reverse ys) → xs ≡ ys
+same_number [] [] hx hy e n = refl
+same_number [] (y ∷ ys) hx hy e n = absurd (omega arith)
+same_number (x ∷ xs) [] hx hy e n = absurd (omega arith)
+same_number (x ∷ xs) (y ∷ ys) hx hy e n =
+    let both : from_bytes (reverse xs) * 256 + x ≡ from_bytes (reverse ys) * 256 + y = sym (from_backwards x xs) ∙ n ∙ from_backwards y ys in
+    let first : x ≡ y = omega (arith, hx 0, hy 0) in
+    let behind : from_bytes (reverse xs) ≡ from_bytes (reverse ys) = omega (arith, hx 0, hy 0) in
+    ap₂ (λ (b : ℕ) (l : List ℕ). b ∷ l) first (same_number xs ys (λ i. hx (suc i)) (λ i. hy (suc i)) (omega arith) behind)
+
+-- and so are parts of lists, where both have them
+pub same_parts : (xs ys : List ℕ) → Bytes xs → Bytes ys → (at width : ℕ) → at + width ≤ length xs → at + width ≤ length ys →
+    from_bytes (reverse (part xs at width)) ≡ from_bytes (reverse (part ys at width)) → part xs at width ≡ part ys at width
+same_parts xs ys hx hy at width lx ly =
+    same_number (part xs at width) (part ys at width) (bytes_part xs at width hx) (bytes_part ys at width hy) (length_part xs at width lx ∙ sym (length_part ys at width ly))
