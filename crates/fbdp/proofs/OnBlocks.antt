@@ -10,7 +10,7 @@ use Rattle.endpoint.specs.declared.Endpoint.{Endpoint}
 use Rattle.endpoint.specs.Block.{is_good, load_of}
 use Rattle.endpoint.specs.Record.{good}
 use Rattle.endpoint.proofs.Round.{loaded_good}
-use Rattle.receiving.specs.declared.Received.{Received}
+use Rattle.receiving.specs.Numbers.{Received}
 use Rattle.receiving.specs.Receiving.{ReceiveAnswer as Heard-by-record, answer_number, received_of, replied}
 use Rattle.receiving.specs.Refusing.{unchanged}
 use Rattle.sending.specs.declared.Sent.{Sent}

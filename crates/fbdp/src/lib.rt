@@ -4,6 +4,7 @@
 ghost use Rattle.std.specs.Prelude.{◌≡◌, ◌≤◌};
 ghost use Rattle.open.specs.Offer.{offer_of};
 ghost use Rattle.endpoint.specs.Record.{fresh_client, fresh_server};
+ghost use Rattle.receiving.specs.Numbers.{answer_as};
 ghost use Rattle.receiving.specs.Receiving.{answer_number};
 ghost use Rattle.sending.specs.Calls.{datum_of, OPEN, READY, DATA, NOOP, CLOSE};
 ghost use Rattle.sending.specs.Options.{asking, is_chosen};
@@ -220,11 +221,11 @@ pub fn fbdp_send_close(block: &mut [u8], code: u16, out: &mut [u8], written: &mu
 }
 
 fn answer_number(answer: Answer) -> u8
-    ensures { result ≡ answer_number answer }
+    ensures { result ≡ answer_number (answer_as answer) }
 {
     match answer {
         Answer::Heard(_) => 0,
-        Answer::Stays(number) | Answer::Closes(number) => number,
+        Answer::Stays(refusal) | Answer::Closes(refusal) => refusal.number(),
     }
 }
 
@@ -290,7 +291,7 @@ fn refused_slots(reply: u64) -> [u64; 16]
 }
 
 fn answer_slots(answer: Answer, reply: u64) -> [u64; 16]
-    ensures { result ≡ in_order (answer_slots answer reply) }
+    ensures { result ≡ in_order (answer_slots (answer_as answer) reply) }
 {
     match answer {
         Answer::Heard(heard) => heard_slots(heard, reply),
@@ -300,7 +301,7 @@ fn answer_slots(answer: Answer, reply: u64) -> [u64; 16]
 
 // Whether an answer changes no byte.
 fn is_staying(answer: Answer) -> bool
-    ensures { result ≡ stays answer }
+    ensures { result ≡ stays (answer_as answer) }
 {
     matches!(answer, Answer::Stays(_))
 }

@@ -21,7 +21,7 @@ use Rattle.table.specs.declared.Step.{Step}
 use Rattle.table.specs.Table.{moved, not_allowed, other}
 use Rattle.receiving.specs.declared.Content.{Content}
 use Rattle.receiving.specs.declared.Content.TheVariants.{Nothing, Opening, Body as Content-as-Body}
-use Rattle.receiving.specs.declared.Received.{Received}
+use Rattle.receiving.specs.Numbers.{Received}
 use Rattle.receiving.specs.Hearing.{accepted, confirmed_by, confirms, hear_row, limited_by, moves_as}
 use Rattle.receiving.specs.Refusing.{refused, unchanged}
 use Rattle.sending.specs.declared.Sent.{Sent}

@@ -18,7 +18,7 @@ use Rattle.endpoint.specs.declared.Endpoint.{Endpoint}
 use Rattle.endpoint.specs.Record.{fresh, server}
 use Rattle.receiving.specs.declared.Content.{Content}
 use Rattle.receiving.specs.declared.Content.TheVariants.{Nothing as Content-as-Nothing}
-use Rattle.receiving.specs.declared.Received.{Received}
+use Rattle.receiving.specs.Numbers.{Received}
 use Rattle.receiving.specs.Hearing.{accepted, asks, hear_row, reply_to, carried_by, confirmed_by}
 use Rattle.receiving.specs.Receiving.{reply_bytes}
 use Rattle.receiving.specs.Refusing.{refused, unchanged, close_code, silent, version_code, replying}

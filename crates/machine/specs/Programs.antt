@@ -6,9 +6,7 @@ use Rattle.open.specs.Offer.{Offer}
 use Rattle.endpoint.specs.declared.Endpoint.{Endpoint}
 use Rattle.endpoint.specs.Record.{fresh_client, fresh_server, given_number, made_of, made_or}
 use Rattle.endpoint.specs.declared.BadMaking.{BadMaking}
-use Rattle.receiving.specs.declared.Answer.{Answer}
-use Rattle.receiving.specs.declared.Answer.TheVariants.{Heard, Stays, Closes}
-use Rattle.receiving.specs.declared.Received.{Received}
+use Rattle.receiving.specs.Numbers.{Answer, Heard, Stays, Closes, Received}
 use Rattle.receiving.specs.Receiving.{answer_number, reply_bytes, received_of}
 use Rattle.sending.specs.Calls.{Body, Missing, Call, written}
 use Rattle.sending.specs.Sending.{send_of}
