@@ -95,6 +95,7 @@ pub fn fbdp_lookup(client: &[u8], defaults: &[u8], key: &[u8], slots: &mut [u64;
 }
 
 // Keeps what was made in a block of 64 bytes.
+#[tactic(auto, unfolding(crate::specs::Blocks::make_number, crate::specs::Blocks::stored))]
 fn keep(made: Result<Endpoint, BadMaking>, block: &mut [u8]) -> u32
     ensures { Kept made block.old result block.new }
 {
@@ -229,6 +230,7 @@ fn answer_number(answer: Answer) -> u8
     }
 }
 
+#[tactic(auto, using(bundle::proofs::Outputs::one_long, control::proofs::Round::length_control))]
 fn reply_length(reply: Option<Control>) -> u64
     ensures { result ≡ reply_length reply }
 {
@@ -259,6 +261,7 @@ fn content_slots(content: Content) -> [u64; 9]
     }
 }
 
+#[tactic(auto, unfolding(crate::specs::Slots::heard_slots))]
 fn heard_slots(heard: Heard, reply: u64) -> [u64; 16]
     ensures { result ≡ in_order (heard_slots heard reply) }
 {
@@ -307,6 +310,7 @@ fn is_staying(answer: Answer) -> bool
 }
 
 // Receives a message.
+#[tactic(auto, using(crate::proofs::OnBlocks::receive_finished), unfolding(crate::specs::Blocks::kept_by, crate::specs::Blocks::stored))]
 pub fn fbdp_receive(
     block: &mut [u8],
     message: &[u8],
