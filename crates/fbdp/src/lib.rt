@@ -310,7 +310,7 @@ fn is_staying(answer: Answer) -> bool
 }
 
 // Receives a message.
-#[tactic(auto, using(crate::proofs::OnBlocks::receive_finished), unfolding(crate::specs::Blocks::kept_by, crate::specs::Blocks::stored))]
+#[tactic(auto, unfolding(crate::specs::Blocks::kept_by, crate::specs::Blocks::stored))]
 pub fn fbdp_receive(
     block: &mut [u8],
     message: &[u8],

@@ -33,7 +33,7 @@ use Rattle.machine.specs.Refusals.{said_by}
 use Rattle.machine.proofs.Carried.{CarriedBounded, carried_bounded}
 use Rattle.machine.proofs.Rows.{Acts, row_sound, sent_data_acts, sent_noop_acts, closed_sound}
 use Rattle.machine.proofs.Stages.{Passed, received_holds}
-use Rattle.std.specs.Prelude.{Ok, Err}
+use Rattle.std.specs.Prelude.{Ok}
 
 module _ (e : Endpoint) (sound : Sound e) where
   -- an ask, or none

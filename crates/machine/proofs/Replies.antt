@@ -28,7 +28,7 @@ use Rattle.machine.proofs.Bundled.{plain_read}
 use Rattle.machine.proofs.Hearing.{message_heard}
 use Rattle.machine.proofs.Stages.{Passed, received_holds}
 use Rattle.control.specs.declared.Control.{Control}
-use Rattle.std.specs.Prelude.{Option, None, Ok, Err, Some}
+use Rattle.std.specs.Prelude.{Option, None, Ok, Some}
 
 -- each of them is read
 

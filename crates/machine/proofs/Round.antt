@@ -30,7 +30,7 @@ use Rattle.machine.specs.Good.{Fits}
 use Rattle.machine.specs.Round.{ReadBack, ReadsBack, ContentSent, HeardAsSent, after_hearing, confirmation, is_offered, message_sent}
 use Rattle.machine.proofs.Bundled.{frame_read, framed_read, plain_read}
 use Rattle.machine.proofs.Hearing.{message_heard, offered_heard}
-use Rattle.std.specs.Prelude.{Ok, Err}
+use Rattle.std.specs.Prelude.{Ok}
 
 -- what 33 and 34 do not refuse
 

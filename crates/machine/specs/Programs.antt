@@ -12,7 +12,6 @@ use Rattle.sending.specs.Calls.{Body, Missing, Call, written}
 use Rattle.sending.specs.Sending.{send_of}
 use Rattle.machine.specs.Bodies.{body_heard}
 use Rattle.control.specs.declared.Control.{Control}
-use Rattle.receiving.specs.Refusing.{replying}
 
 -- "Making a client takes flow and limit; making a server takes flow, with limit 50,000,000."
 pub data Making : Type 0 where
