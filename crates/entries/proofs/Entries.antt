@@ -19,11 +19,9 @@ use Rattle.endpoint.proofs.Made.{made_accepted}
 use Rattle.endpoint.specs.Block.{bytes_of, is_good, load_of}
 use Rattle.endpoint.proofs.Round.{block_told, byte_six_counts, loaded_good, loaded_sized, stored_loads}
 use Rattle.endpoint.proofs.Stored.{length_block}
-use Rattle.receiving.specs.declared.Answer.{Answer}
-use Rattle.receiving.specs.declared.Answer.TheVariants.{Heard, Stays, Closes}
-use Rattle.receiving.specs.declared.Received.{Received}
+use Rattle.receiving.specs.Numbers.{Answer, Heard, Stays, Closes, Received}
 use Rattle.receiving.specs.Receiving.{answer_number, received_of, replied}
-use Rattle.receiving.specs.Refusing.{unchanged, replying}
+use Rattle.receiving.specs.Refusing.{unchanged}
 use Rattle.sending.specs.declared.Sent.{Sent}
 use Rattle.sending.specs.Calls.{Call, outgoing, written}
 use Rattle.sending.specs.Sending.{left_by, send_of}

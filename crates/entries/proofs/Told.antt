@@ -17,8 +17,7 @@ use Rattle.open.specs.Offer.{Offer}
 use Rattle.endpoint.specs.declared.Endpoint.{Endpoint}
 use Rattle.receiving.specs.declared.Content.{Content}
 use Rattle.receiving.specs.declared.Content.TheVariants.{Nothing as Content-as-Nothing, Opening, Body}
-use Rattle.receiving.specs.declared.Answer.{Answer}
-use Rattle.receiving.specs.declared.Answer.TheVariants.{Heard as Answer-as-Heard, Stays, Closes}
+use Rattle.receiving.specs.Numbers.{Answer, Heard as Answer-as-Heard, Stays, Closes}
 use Rattle.receiving.specs.Receiving.{received_of, reply_bytes, replied}
 use Rattle.fbdp.specs.Slots.{answer_slots, carries_of, heard_slots}
 use Rattle.fbdp.specs.Blocks.{reply_length}

@@ -7,7 +7,7 @@ use Rattle.endpoint.specs.declared.BadMaking.{BadMaking}
 use Rattle.endpoint.specs.declared.Endpoint.{Endpoint}
 use Rattle.endpoint.specs.Record.{made_of}
 use Rattle.endpoint.specs.Block.{is_good, load_of}
-use Rattle.receiving.specs.declared.Received.{Received}
+use Rattle.receiving.specs.Numbers.{Received}
 use Rattle.receiving.specs.Receiving.{answer_number, replied}
 use Rattle.sending.specs.declared.Sent.{Sent}
 use Rattle.sending.specs.Calls.{Missing, Given, Call, written}

@@ -7,9 +7,7 @@ use Rattle.endpoint.specs.declared.BadMaking.{BadMaking}
 use Rattle.endpoint.specs.declared.Endpoint.{Endpoint}
 use Rattle.endpoint.specs.Record.{given_number, made_of}
 use Rattle.endpoint.specs.Block.{bytes_of, is_good, load_of}
-use Rattle.receiving.specs.declared.Answer.{Answer}
-use Rattle.receiving.specs.declared.Answer.TheVariants.{Heard, Stays, Closes}
-use Rattle.receiving.specs.declared.Received.{Received}
+use Rattle.receiving.specs.Numbers.{Answer, Heard, Stays, Closes, Received}
 use Rattle.receiving.specs.Receiving.{answer_number, reply_bytes, replied, received_of}
 use Rattle.sending.specs.declared.Report.{Report}
 use Rattle.sending.specs.declared.Sent.{Sent}

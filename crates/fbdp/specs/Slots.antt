@@ -6,8 +6,7 @@ use Rattle.params.specs.Message.{nowhere}
 use Rattle.receiving.specs.declared.Content.{Content}
 use Rattle.receiving.specs.declared.Content.TheVariants.{Nothing, Opening, Body}
 use Rattle.receiving.specs.declared.Heard.{Heard}
-use Rattle.receiving.specs.declared.Answer.{Answer}
-use Rattle.receiving.specs.declared.Answer.TheVariants.{Heard as Answer-as-Heard, Stays, Closes}
+use Rattle.receiving.specs.Numbers.{Answer, Heard as Answer-as-Heard, Stays, Closes}
 
 -- what a message carries: nine slots
 pub record Carries : Type 0 where

@@ -4,6 +4,7 @@
 ghost use Rattle.std.specs.Prelude.{◌≡◌, ◌≤◌};
 ghost use Rattle.open.specs.Offer.{offer_of};
 ghost use Rattle.endpoint.specs.Record.{fresh_client, fresh_server};
+ghost use Rattle.receiving.specs.Numbers.{answer_as};
 ghost use Rattle.receiving.specs.Receiving.{answer_number};
 ghost use Rattle.sending.specs.Calls.{datum_of, OPEN, READY, DATA, NOOP, CLOSE};
 ghost use Rattle.sending.specs.Options.{asking, is_chosen};
@@ -94,6 +95,7 @@ pub fn fbdp_lookup(client: &[u8], defaults: &[u8], key: &[u8], slots: &mut [u64;
 }
 
 // Keeps what was made in a block of 64 bytes.
+#[tactic(auto, unfolding(crate::specs::Blocks::make_number, crate::specs::Blocks::stored))]
 fn keep(made: Result<Endpoint, BadMaking>, block: &mut [u8]) -> u32
     ensures { Kept made block.old result block.new }
 {
@@ -220,14 +222,15 @@ pub fn fbdp_send_close(block: &mut [u8], code: u16, out: &mut [u8], written: &mu
 }
 
 fn answer_number(answer: Answer) -> u8
-    ensures { result ≡ answer_number answer }
+    ensures { result ≡ answer_number (answer_as answer) }
 {
     match answer {
         Answer::Heard(_) => 0,
-        Answer::Stays(number) | Answer::Closes(number) => number,
+        Answer::Stays(refusal) | Answer::Closes(refusal) => refusal.number(),
     }
 }
 
+#[tactic(auto, using(bundle::proofs::Outputs::one_long, control::proofs::Round::length_control))]
 fn reply_length(reply: Option<Control>) -> u64
     ensures { result ≡ reply_length reply }
 {
@@ -258,6 +261,7 @@ fn content_slots(content: Content) -> [u64; 9]
     }
 }
 
+#[tactic(auto, unfolding(crate::specs::Slots::heard_slots))]
 fn heard_slots(heard: Heard, reply: u64) -> [u64; 16]
     ensures { result ≡ in_order (heard_slots heard reply) }
 {
@@ -290,7 +294,7 @@ fn refused_slots(reply: u64) -> [u64; 16]
 }
 
 fn answer_slots(answer: Answer, reply: u64) -> [u64; 16]
-    ensures { result ≡ in_order (answer_slots answer reply) }
+    ensures { result ≡ in_order (answer_slots (answer_as answer) reply) }
 {
     match answer {
         Answer::Heard(heard) => heard_slots(heard, reply),
@@ -300,12 +304,13 @@ fn answer_slots(answer: Answer, reply: u64) -> [u64; 16]
 
 // Whether an answer changes no byte.
 fn is_staying(answer: Answer) -> bool
-    ensures { result ≡ stays answer }
+    ensures { result ≡ stays (answer_as answer) }
 {
     matches!(answer, Answer::Stays(_))
 }
 
 // Receives a message.
+#[tactic(auto, unfolding(crate::specs::Blocks::kept_by, crate::specs::Blocks::stored))]
 pub fn fbdp_receive(
     block: &mut [u8],
     message: &[u8],

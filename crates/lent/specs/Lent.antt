@@ -1,15 +1,16 @@
 -- "A Rattle caller lends the endpoint record, which is changed in place": what the sends and receive answer and leave, by the same tables as for a
 -- record by value.
-use Rattle.std.specs.Prelude.{ℕ, ◌≡◌, List, length}
+use Rattle.std.specs.Prelude.{ℕ, ◌≡◌, List, length, Option}
+use Rattle.control.specs.declared.Control.{Control}
 use Rattle.open.specs.Offer.{Offer}
 use Rattle.endpoint.specs.declared.Endpoint.{Endpoint}
-use Rattle.receiving.specs.declared.Received.{Received}
+use Rattle.receiving.specs.Numbers.{Answer, answer_as, Received}
 use Rattle.receiving.specs.Receiving.{replied, received_of}
 use Rattle.sending.specs.declared.Sent.{Sent}
 use Rattle.sending.specs.Calls.{Call, written}
 use Rattle.sending.specs.Sending.{send_of, left_by}
 use Rattle.lent.specs.declared.Told.{Told}
-use Rattle.lent.specs.declared.Outcome.{Outcome}
+use Rattle.lent.specs.declared.Outcome.{Outcome as NamedOutcome}
 
 -- the number, and how many bytes are written
 abbrev pub told_of : Sent → Told
@@ -21,7 +22,14 @@ pub record SendOnLent (e : Endpoint) (call : Call) (before : List ℕ) (told : T
   pub changed : next ≡ (send_of e call (length before)).next
   pub left : after ≡ left_by (send_of e call (length before)) (written e call) before
 
--- the answer and the reply
+-- the answer, with a refusal by its number, and the reply
+pub record Outcome : Type 0 where
+  pub answer : Answer
+  pub reply : Option Control
+
+abbrev pub outcome_as : NamedOutcome → Outcome
+outcome_as outcome = record { answer = answer_as outcome.answer; reply = outcome.reply }
+
 abbrev pub outcome_of : Received → Outcome
 outcome_of received = record { answer = received.answer; reply = received.reply }
 

@@ -7,7 +7,7 @@ ghost use Rattle.open.specs.Offer.{offer_in};
 ghost use Rattle.endpoint.specs.Record.{fresh_client, fresh_server, given_number, made_or};
 ghost use Rattle.sending.specs.Calls.{datum_of, OPEN, READY, DATA, NOOP, CLOSE};
 ghost use Rattle.lent.specs.Making.{MakeOnLent};
-ghost use Rattle.lent.specs.Lent.{SendOnLent, ReceiveOnLent};
+ghost use Rattle.lent.specs.Lent.{SendOnLent, outcome_as, ReceiveOnLent};
 
 use control::Control;
 use endpoint::{BadMaking, Endpoint};
@@ -114,7 +114,7 @@ pub fn send_close(e: &mut Endpoint, code: u16, out: &mut [u8]) -> Told
 
 // Receives a message where this is offered, with the reply at the start of the output.
 pub fn receive(e: &mut Endpoint, s: &[u8], offer: Offer, out: &mut [u8]) -> Outcome
-    ensures { ReceiveOnLent e.old s.now (offer_in offer.entry) out.old result e.new out.new }
+    ensures { ReceiveOnLent e.old s.now (offer_in offer.entry) out.old (outcome_as result) e.new out.new }
 {
     let received = receiving::receive(*e, s, offer, out);
     *e = received.next;

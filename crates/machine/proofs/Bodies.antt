@@ -14,9 +14,7 @@ use Rattle.open.specs.Open.{heard_by}
 use Rattle.message.specs.Reading.{bad_frames, body_place}
 use Rattle.message.specs.Held.{body_behind}
 use Rattle.message.proofs.Bodies.{read_placed}
-use Rattle.receiving.specs.declared.Answer.{Answer}
-use Rattle.receiving.specs.declared.Answer.TheVariants.{Heard as Answer-as-Heard, Stays, Closes}
-use Rattle.receiving.specs.declared.Received.{Received}
+use Rattle.receiving.specs.Numbers.{Answer, Heard as Answer-as-Heard, Stays, Closes, Received}
 use Rattle.open.specs.declared.Opening.{Opening}
 use Rattle.open.specs.declared.Refusal.{Refusal}
 use Rattle.receiving.specs.Hearing.{accepted, body_carried, carried_as, carried_by, open_at, open_carried, Carried}

@@ -14,7 +14,7 @@ use Rattle.message.specs.Reading.{body_of, read_as, reading_of}
 use Rattle.endpoint.specs.declared.Endpoint.{Endpoint}
 use Rattle.endpoint.specs.Record.{batch, client, fresh, opening, shut}
 use Rattle.table.specs.Table.{at_row, close_row}
-use Rattle.receiving.specs.declared.Answer.TheVariants.{Closes}
+use Rattle.receiving.specs.Numbers.{Closes}
 use Rattle.receiving.specs.Hearing.{accepted, carried_by, confirmed_by, forbidden, hear_content, hear_message, hear_of, hear_row, moves_as, reply_to, too_large, unmatched}
 use Rattle.receiving.specs.Refusing.{refused, silent, unchanged}
 use Rattle.machine.specs.Close.{PassesAsClose, closing, heard_close, CloseWhole}

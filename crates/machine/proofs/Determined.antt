@@ -6,7 +6,9 @@ use Rattle.bytes_be.proofs.Determined.{coincide}
 use Rattle.open.specs.Offer.{Offer}
 use Rattle.endpoint.specs.declared.Endpoint.{Endpoint}
 use Rattle.receiving.specs.declared.Received.{Received}
+use Rattle.receiving.specs.Numbers.{received_as}
 use Rattle.receiving.specs.Receiving.{ReceiveAnswer}
+use Rattle.receiving.proofs.Numbers.{received_once}
 use Rattle.sending.specs.declared.Sent.{Sent}
 use Rattle.sending.specs.Calls.{Call}
 use Rattle.sending.specs.Sending.{SendAnswer}
@@ -16,6 +18,6 @@ pub sent_determined : (e : Endpoint) (call : Call) {before : List ℕ} {sent sen
 sent_determined e call one other = (coincide one.answered other.answered, coincide one.left other.left)
 
 pub received_determined : {e : Endpoint} {s : List ℕ} {pipe : Offer} {before : List ℕ} {received received' : Received} {after after' : List ℕ} →
-    ReceiveAnswer e s pipe before received after → ReceiveAnswer e s pipe before received' after' →
+    ReceiveAnswer e s pipe before (received_as received) after → ReceiveAnswer e s pipe before (received_as received') after' →
     (received ≡ received') × (after ≡ after')
-received_determined one other = (coincide one.answered other.answered, coincide one.left other.left)
+received_determined one other = (received_once (coincide one.answered other.answered), coincide one.left other.left)

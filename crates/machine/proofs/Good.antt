@@ -21,7 +21,7 @@ use Rattle.table.specs.declared.Step.{Step}
 use Rattle.table.specs.Table.{moved, not_allowed, other}
 use Rattle.receiving.specs.declared.Content.{Content}
 use Rattle.receiving.specs.declared.Content.TheVariants.{Nothing, Opening, Body as Content-as-Body}
-use Rattle.receiving.specs.declared.Received.{Received}
+use Rattle.receiving.specs.Numbers.{Received}
 use Rattle.receiving.specs.Hearing.{accepted, confirmed_by, confirms, hear_row, limited_by, moves_as}
 use Rattle.receiving.specs.Refusing.{refused, unchanged}
 use Rattle.sending.specs.declared.Sent.{Sent}
@@ -33,7 +33,7 @@ use Rattle.machine.specs.Refusals.{said_by}
 use Rattle.machine.proofs.Carried.{CarriedBounded, carried_bounded}
 use Rattle.machine.proofs.Rows.{Acts, row_sound, sent_data_acts, sent_noop_acts, closed_sound}
 use Rattle.machine.proofs.Stages.{Passed, received_holds}
-use Rattle.std.specs.Prelude.{Ok, Err}
+use Rattle.std.specs.Prelude.{Ok}
 
 module _ (e : Endpoint) (sound : Sound e) where
   -- an ask, or none

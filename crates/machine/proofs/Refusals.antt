@@ -6,7 +6,7 @@ use Rattle.std.specs.Prelude.{Result}
 use Rattle.table.specs.declared.Refusal.{Refusal}
 use Rattle.table.specs.declared.Step.{Step}
 use Rattle.table.specs.Table.{moved}
-use Rattle.receiving.specs.declared.Received.{Received}
+use Rattle.receiving.specs.Numbers.{Received}
 use Rattle.receiving.specs.Hearing.{accepted}
 use Rattle.receiving.specs.Refusing.{refused, unchanged}
 use Rattle.sending.specs.declared.Sent.{Sent}

@@ -18,7 +18,7 @@ use Rattle.endpoint.specs.declared.Endpoint.{Endpoint}
 use Rattle.endpoint.specs.Record.{fresh, server}
 use Rattle.receiving.specs.declared.Content.{Content}
 use Rattle.receiving.specs.declared.Content.TheVariants.{Nothing as Content-as-Nothing}
-use Rattle.receiving.specs.declared.Received.{Received}
+use Rattle.receiving.specs.Numbers.{Received}
 use Rattle.receiving.specs.Hearing.{accepted, asks, hear_row, reply_to, carried_by, confirmed_by}
 use Rattle.receiving.specs.Receiving.{reply_bytes}
 use Rattle.receiving.specs.Refusing.{refused, unchanged, close_code, silent, version_code, replying}
@@ -28,7 +28,7 @@ use Rattle.machine.proofs.Bundled.{plain_read}
 use Rattle.machine.proofs.Hearing.{message_heard}
 use Rattle.machine.proofs.Stages.{Passed, received_holds}
 use Rattle.control.specs.declared.Control.{Control}
-use Rattle.std.specs.Prelude.{Option, None, Ok, Err, Some}
+use Rattle.std.specs.Prelude.{Option, None, Ok, Some}
 
 -- each of them is read
 

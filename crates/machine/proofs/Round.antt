@@ -22,7 +22,7 @@ use Rattle.endpoint.proofs.Told.{good_told}
 use Rattle.table.specs.Table.{To, at_row}
 use Rattle.receiving.specs.declared.Content.{Content}
 use Rattle.receiving.specs.declared.Content.TheVariants.{Nothing, Opening as Content-as-Opening, Body as Content-as-Body}
-use Rattle.receiving.specs.declared.Received.{Received}
+use Rattle.receiving.specs.Numbers.{Received}
 use Rattle.receiving.specs.Hearing.{accepted, carried_by, confirmed_by, hear_of, limited_by, open_at, open_carried, reply_to, unmatched, asks, confirms}
 use Rattle.sending.specs.Calls.{Body, Missing, Given, body_size, written, Call, OPEN, READY, DATA, NOOP, CLOSE, Datum, outgoing, bundle_with, above_limit, misgiven, number_if, own_number, ask_of, flags_for, message_of}
 use Rattle.sending.proofs.Decided.{accepted_passed, not_applies}
@@ -30,7 +30,7 @@ use Rattle.machine.specs.Good.{Fits}
 use Rattle.machine.specs.Round.{ReadBack, ReadsBack, ContentSent, HeardAsSent, after_hearing, confirmation, is_offered, message_sent}
 use Rattle.machine.proofs.Bundled.{frame_read, framed_read, plain_read}
 use Rattle.machine.proofs.Hearing.{message_heard, offered_heard}
-use Rattle.std.specs.Prelude.{Ok, Err}
+use Rattle.std.specs.Prelude.{Ok}
 
 -- what 33 and 34 do not refuse
 

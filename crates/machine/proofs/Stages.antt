@@ -20,7 +20,7 @@ use Rattle.endpoint.specs.declared.Endpoint.{Endpoint}
 use Rattle.endpoint.specs.Record.{fresh, good, server, shut}
 use Rattle.table.specs.Table.{above_offer}
 use Rattle.receiving.specs.declared.Content.{Content}
-use Rattle.receiving.specs.declared.Received.{Received}
+use Rattle.receiving.specs.Numbers.{Received}
 use Rattle.receiving.specs.Hearing.{accepted, forbidden, if_carried, if_read, carried_by, hear_content, hear_message, hear_of, hear_row, too_large, unmatched, Carried}
 use Rattle.receiving.specs.Receiving.{received_of}
 use Rattle.receiving.specs.Refusing.{close_code, refused, unchanged, version_code}

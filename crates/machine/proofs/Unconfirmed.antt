@@ -27,7 +27,7 @@ use Rattle.table.specs.declared.Step.{Step}
 use Rattle.table.specs.Table.{To, allowed, at_row, begun, close_row, data_row, moved, noop_row, not_allowed, open_row, other, ready_row, row_of}
 use Rattle.receiving.specs.declared.Content.{Content}
 use Rattle.receiving.specs.declared.Content.TheVariants.{Nothing, Opening, Body as Content-as-Body}
-use Rattle.receiving.specs.declared.Received.{Received}
+use Rattle.receiving.specs.Numbers.{Received}
 use Rattle.receiving.specs.Hearing.{accepted, confirmed_by, confirms, forbidden, hear_row, limited_by, matches_oldest, moves_as, unmatched}
 use Rattle.receiving.specs.Refusing.{refused, unchanged}
 use Rattle.sending.specs.declared.Sent.{Sent}

@@ -9,7 +9,7 @@ use Rattle.endpoint.specs.declared.Endpoint.{Endpoint}
 use Rattle.receiving.specs.declared.Content.{Content}
 use Rattle.receiving.specs.declared.Content.TheVariants.{Nothing, Opening, Body as Content-as-Body}
 use Rattle.receiving.specs.declared.Heard.{Heard}
-use Rattle.receiving.specs.declared.Answer.TheVariants.{Heard as Answer-as-Heard}
+use Rattle.receiving.specs.Numbers.{Heard as Answer-as-Heard}
 use Rattle.receiving.specs.Receiving.{received_of}
 use Rattle.sending.specs.Calls.{Body, Missing, Given, is_missing}
 

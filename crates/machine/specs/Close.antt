@@ -10,9 +10,7 @@ use Rattle.open.specs.Offer.{Offer}
 use Rattle.endpoint.specs.declared.Endpoint.{Endpoint}
 use Rattle.endpoint.specs.Record.{fresh, shut, closed}
 use Rattle.receiving.specs.declared.Content.TheVariants.{Nothing}
-use Rattle.receiving.specs.declared.Answer.{Answer}
-use Rattle.receiving.specs.declared.Answer.TheVariants.{Heard as Answer-as-Heard, Closes}
-use Rattle.receiving.specs.declared.Received.{Received}
+use Rattle.receiving.specs.Numbers.{Answer, Heard as Answer-as-Heard, Closes, Received}
 use Rattle.receiving.specs.Hearing.{hear_of}
 use Rattle.receiving.specs.Refusing.{unchanged}
 

@@ -6,15 +6,12 @@ use Rattle.open.specs.Offer.{Offer}
 use Rattle.endpoint.specs.declared.Endpoint.{Endpoint}
 use Rattle.endpoint.specs.Record.{fresh_client, fresh_server, given_number, made_of, made_or}
 use Rattle.endpoint.specs.declared.BadMaking.{BadMaking}
-use Rattle.receiving.specs.declared.Answer.{Answer}
-use Rattle.receiving.specs.declared.Answer.TheVariants.{Heard, Stays, Closes}
-use Rattle.receiving.specs.declared.Received.{Received}
+use Rattle.receiving.specs.Numbers.{Answer, Heard, Stays, Closes, Received}
 use Rattle.receiving.specs.Receiving.{answer_number, reply_bytes, received_of}
 use Rattle.sending.specs.Calls.{Body, Missing, Call, written}
 use Rattle.sending.specs.Sending.{send_of}
 use Rattle.machine.specs.Bodies.{body_heard}
 use Rattle.control.specs.declared.Control.{Control}
-use Rattle.receiving.specs.Refusing.{replying}
 
 -- "Making a client takes flow and limit; making a server takes flow, with limit 50,000,000."
 pub data Making : Type 0 where

@@ -5,9 +5,7 @@ use Rattle.message.specs.declared.Message.{Message}
 use Rattle.message.specs.Reading.{reading_of, said_in}
 use Rattle.endpoint.specs.declared.Endpoint.{Endpoint}
 use Rattle.receiving.specs.declared.Content.{Content}
-use Rattle.receiving.specs.declared.Answer.{Answer}
-use Rattle.receiving.specs.declared.Answer.TheVariants.{Heard, Stays, Closes}
-use Rattle.receiving.specs.declared.Received.{Received}
+use Rattle.receiving.specs.Numbers.{Answer, Heard, Stays, Closes, Received}
 use Rattle.receiving.specs.Hearing.{hear_row, accepted}
 use Rattle.receiving.specs.Receiving.{received_of}
 use Rattle.receiving.specs.Refusing.{close_code, refused, unchanged}

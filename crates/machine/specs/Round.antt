@@ -18,7 +18,7 @@ use Rattle.endpoint.specs.Record.{confirmed, limited}
 use Rattle.table.specs.Table.{To, at_row}
 use Rattle.receiving.specs.declared.Content.{Content}
 use Rattle.receiving.specs.declared.Content.TheVariants.{Nothing, Opening as Content-as-Opening, Body as Content-as-Body}
-use Rattle.receiving.specs.declared.Answer.TheVariants.{Heard}
+use Rattle.receiving.specs.Numbers.{Heard}
 use Rattle.receiving.specs.Hearing.{confirms, hear_row, too_large, unmatched, hear_of}
 use Rattle.receiving.specs.Receiving.{reply_bytes, received_of}
 use Rattle.sending.specs.Calls.{Body, Missing, Given, Call, OPEN, READY, DATA, NOOP, CLOSE, message_of, type_data_of, ask_of, flags_for, data_frames, written}

@@ -5,8 +5,7 @@ use Rattle.control.specs.declared.MessageType.TheVariants.{Open, Ready, Noop, Da
 use Rattle.control.specs.Frame.{ack_reply}
 use Rattle.open.specs.Offer.{Offer}
 use Rattle.endpoint.specs.declared.Endpoint.{Endpoint}
-use Rattle.receiving.specs.declared.Answer.{Answer}
-use Rattle.receiving.specs.declared.Answer.TheVariants.{Heard, Stays, Closes}
+use Rattle.receiving.specs.Numbers.{Answer, Heard, Stays, Closes}
 use Rattle.receiving.specs.Receiving.{received_of}
 use Rattle.sending.specs.Calls.{Call, OPEN, READY, DATA, NOOP, CLOSE}
 use Rattle.sending.specs.Sending.{send_of}

@@ -5,8 +5,7 @@ use Rattle.bundle.specs.Writing.{bundle_of}
 use Rattle.message.specs.Reading.{body_place}
 use Rattle.endpoint.specs.declared.Endpoint.{Endpoint}
 use Rattle.endpoint.specs.Record.{idle, batch, shut, at_phase}
-use Rattle.receiving.specs.declared.Answer.{Answer}
-use Rattle.receiving.specs.declared.Answer.TheVariants.{Heard, Stays, Closes}
+use Rattle.receiving.specs.Numbers.{Answer, Heard, Stays, Closes}
 use Rattle.sending.specs.Calls.{Body, Missing, Given, Call, DATA}
 use Rattle.machine.specs.Bodies.{place_heard}
 use Rattle.marked.specs.Cases.{Case, the_client, server_in, sent_into, receive, heard_in, outcome, bundle_head, close_frame}

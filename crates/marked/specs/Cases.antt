@@ -12,9 +12,7 @@ use Rattle.open.specs.Offer.{Offer, offer_of}
 use Rattle.open_write.specs.Frame.{frame_for}
 use Rattle.endpoint.specs.declared.Endpoint.{Endpoint}
 use Rattle.endpoint.specs.Record.{producer, consumer, idle, batch, shut, fresh_client, fresh_server, at_phase}
-use Rattle.receiving.specs.declared.Answer.{Answer}
-use Rattle.receiving.specs.declared.Answer.TheVariants.{Heard, Stays, Closes}
-use Rattle.receiving.specs.declared.Received.{Received}
+use Rattle.receiving.specs.Numbers.{Answer, Heard, Stays, Closes, Received}
 use Rattle.receiving.specs.Receiving.{answer_number, reply_bytes, received_of}
 use Rattle.sending.specs.Calls.{Given, Call, OPEN, READY, DATA, written}
 use Rattle.sending.specs.Sending.{send_of, left_by}

@@ -22,8 +22,7 @@ use Rattle.table.specs.declared.Step.{Step}
 use Rattle.table.specs.Table.{row_of, hear_number, not_allowed, above_offer, other, moved}
 use Rattle.receiving.specs.declared.Content.{Content}
 use Rattle.receiving.specs.declared.Content.TheVariants.{Nothing, Opening as Content-as-Opening, Body as Content-as-Body}
-use Rattle.receiving.specs.declared.Answer.TheVariants.{Heard}
-use Rattle.receiving.specs.declared.Received.{Received}
+use Rattle.receiving.specs.Numbers.{Heard, Received}
 use Rattle.receiving.specs.Refusing.{replying, refused, unchanged}
 
 -- the types that ask for a confirmation, and are confirmed: 14 refuses ACK-REPLY on OPEN and READY, and a CLOSE stays a CLOSE "whatever its

@@ -8,9 +8,7 @@ use Rattle.control.specs.Frame.{bytes_of}
 use Rattle.open.specs.Offer.{Offer}
 use Rattle.endpoint.specs.declared.Endpoint.{Endpoint}
 use Rattle.endpoint.specs.Record.{good}
-use Rattle.receiving.specs.declared.Answer.{Answer}
-use Rattle.receiving.specs.declared.Answer.TheVariants.{Heard, Stays, Closes}
-use Rattle.receiving.specs.declared.Received.{Received}
+use Rattle.receiving.specs.Numbers.{Answer, Heard, Stays, Closes, Received}
 use Rattle.receiving.specs.Refusing.{unchanged}
 use Rattle.receiving.specs.Hearing.{hear_of}
 

@@ -6,8 +6,7 @@ use Rattle.control.specs.declared.MessageType.{MessageType}
 use Rattle.control.specs.declared.MessageType.TheVariants.{Close}
 use Rattle.endpoint.specs.declared.Endpoint.{Endpoint}
 use Rattle.endpoint.specs.Record.{client, server, fresh, closed}
-use Rattle.receiving.specs.declared.Answer.TheVariants.{Stays, Closes}
-use Rattle.receiving.specs.declared.Received.{Received}
+use Rattle.receiving.specs.Numbers.{Stays, Closes, Received}
 
 -- "A reply is .. a single control frame."
 abbrev pub replying : MessageType → ℕ → ℕ → Option Control

@@ -3,15 +3,19 @@
 
 ghost use Rattle.std.specs.Prelude.{◌≡◌, ◌+◌, ◌≤◌, length};
 ghost use Rattle.open.specs.Offer.{offer_in};
+ghost use Rattle.open.specs.Open.{refusal_number as open_number};
 ghost use Rattle.message.specs.Reading.{body_place};
+ghost use Rattle.receiving.specs.Numbers.{refusal_number, received_as};
 ghost use Rattle.receiving.specs.Refusing.{version_code, close_code, silent, refused, unchanged};
 ghost use Rattle.receiving.specs.Hearing.{confirmable, confirms as Hearing·confirms, asks as Hearing·asks, moves_as, hear_row, too_large, body_carried, open_at, carried_by, matches_oldest, unmatched, confirmed_by, limited_by, reply_to, accepted, hear_content, hear_message, hear_of};
 ghost use Rattle.receiving.specs.Receiving.{replied, ReceiveAnswer};
+ghost use Rattle.receiving.specs.declared.Refusal.TheVariants.{Message as Unread};
 
 use bytes_be::Place;
 use control::{Control, MessageType};
 use endpoint::Endpoint;
-use message::Message;
+use message::{Message, Reason};
+use numbered::Numbered;
 use open::{Offer, Opening};
 use table::Step;
 
@@ -35,14 +39,81 @@ pub struct Heard {
     pub content: Content,
 }
 
-// What a receive makes of a message, and by which number of 01 it refuses it.
+// Why a message is refused. No two cases have one number of 01, so where an OPEN frame is unreadable stays with `open`.
+#[derive(Clone, Copy, Debug, PartialEq, Eq)]
+pub enum Refusal {
+    // 1.
+    BadState,
+    // 2.
+    ShortOutput,
+    // 3.
+    Closed,
+    // 10 to 15.
+    Message(Reason),
+    // 16.
+    TooLarge,
+    // 17.
+    NotAllowed,
+    // 18.
+    Unreadable,
+    // 19.
+    OutOfRange,
+    // 20.
+    UnknownSocket,
+    // 21.
+    OtherPipe,
+    // 22.
+    OtherFormat,
+    // 23.
+    AboveOffer,
+    // 24.
+    Unmatched,
+}
+
+impl Numbered for Refusal {
+    ghost number = { refusal_number };
+
+    fn number(&self) -> u8 {
+        match self {
+            Refusal::BadState => 1,
+            Refusal::ShortOutput => 2,
+            Refusal::Closed => 3,
+            Refusal::Message(why) => why.number(),
+            Refusal::TooLarge => 16,
+            Refusal::NotAllowed => 17,
+            Refusal::Unreadable => 18,
+            Refusal::OutOfRange => 19,
+            Refusal::UnknownSocket => 20,
+            Refusal::OtherPipe => 21,
+            Refusal::OtherFormat => 22,
+            Refusal::AboveOffer => 23,
+            Refusal::Unmatched => 24,
+        }
+    }
+}
+
+impl From<open::Refusal> for Refusal {
+    ghost from_gives = { λ why refusal. refusal_number refusal ≡ open_number why };
+
+    fn from(why: open::Refusal) -> Refusal {
+        match why {
+            open::Refusal::Unreadable(_) => Self::Unreadable,
+            open::Refusal::OutOfRange => Self::OutOfRange,
+            open::Refusal::UnknownSocket => Self::UnknownSocket,
+            open::Refusal::OtherPipe => Self::OtherPipe,
+            open::Refusal::OtherFormat => Self::OtherFormat,
+        }
+    }
+}
+
+// What a receive makes of a message, or why it refuses it.
 #[derive(Clone, Copy)]
 pub enum Answer {
     Heard(Heard),
     // Nothing changes, and nothing is replied.
-    Stays(u8),
+    Stays(Refusal),
     // The endpoint closes, and says so by a CLOSE unless it has to be silent.
-    Closes(u8),
+    Closes(Refusal),
 }
 
 #[derive(Clone, Copy)]
@@ -54,6 +125,7 @@ pub struct Received {
 }
 
 // The CLOSE code for a strange version.
+#[tactic(auto, unfolding(crate::specs::Refusing::version_code))]
 fn version_code(e: Endpoint, said: u8) -> u16
     ensures { result ≡ version_code e said }
 {
@@ -64,67 +136,79 @@ fn version_code(e: Endpoint, said: u8) -> u16
     1
 }
 
-// The CLOSE code for a refusal; `said` is the type that the control byte says.
-fn close_code(e: Endpoint, number: u8, said: u8) -> u16
-    ensures { result ≡ close_code e number said }
+// The CLOSE code for a message that can't be read.
+#[tactic(auto, unfolding(crate::specs::Refusing::close_code))]
+fn unread_code(e: Endpoint, why: Reason, said: u8) -> u16
+    ensures { result ≡ close_code e (refusal_number (Unread why)) said }
 {
-    match number {
-        10 => 1,
-        11 => 1,
-        12 => version_code(e, said),
-        13 => 1,
-        14 => 1,
-        15 => 1,
-        16 => 2,
-        17 => 2,
-        18 => 1,
-        19 => 2,
-        20 => 102,
-        21 => 100,
-        22 => 103,
-        23 => 2,
-        24 => 2,
-        _ => 0,
+    match why {
+        Reason::Control(control::Refusal::OtherVersion) => version_code(e, said),
+        Reason::Control(control::Refusal::BadSignature | control::Refusal::UnknownType) => 1,
+        Reason::BadBundle | Reason::BadFlags | Reason::BadFrames => 1,
+    }
+}
+
+// The CLOSE code for a refusal; `said` is the type that the control byte says.
+#[tactic(auto, unfolding(crate::specs::Refusing::close_code))]
+fn close_code(e: Endpoint, refusal: Refusal, said: u8) -> u16
+    ensures { result ≡ close_code e (refusal_number refusal) said }
+{
+    match refusal {
+        Refusal::BadState | Refusal::ShortOutput | Refusal::Closed => 0,
+        Refusal::Message(why) => unread_code(e, why, said),
+        Refusal::Unreadable => 1,
+        Refusal::TooLarge | Refusal::NotAllowed | Refusal::OutOfRange => 2,
+        Refusal::AboveOffer | Refusal::Unmatched => 2,
+        Refusal::OtherPipe => 100,
+        Refusal::UnknownSocket => 102,
+        Refusal::OtherFormat => 103,
     }
 }
 
 // Whether a refusal writes no reply.
-fn is_silent(e: Endpoint, number: u8, said: u8) -> bool
-    ensures { result ≡ silent e number said }
+#[tactic(auto, unfolding(crate::specs::Refusing::silent))]
+fn is_silent(e: Endpoint, refusal: Refusal, said: u8) -> bool
+    ensures { result ≡ silent e (refusal_number refusal) said }
 {
-    ((e.role == 1) & (e.phase == 0)) | ((number == 17) & (said == 5))
+    let first = (e.role == 1) & (e.phase == 0);
+    match refusal {
+        Refusal::NotAllowed => first | (said == 5),
+        _ => first,
+    }
 }
 
 // A refusal that closes.
-fn refuse(e: Endpoint, number: u8, said: u8) -> Received
-    ensures { result ≡ refused e number said }
+#[tactic(auto, unfolding(crate::specs::Refusing::refused))]
+fn refuse(e: Endpoint, refusal: Refusal, said: u8) -> Received
+    ensures { received_as result ≡ refused e (refusal_number refusal) said }
 {
-    let silent = is_silent(e, number, said);
+    let silent = is_silent(e, refusal, said);
     let next = e.closed();
     if silent {
         return Received {
-            answer: Answer::Closes(number),
+            answer: Answer::Closes(refusal),
             next,
             reply: None,
         };
     }
     Received {
-        answer: Answer::Closes(number),
+        answer: Answer::Closes(refusal),
         next,
         reply: Some(Control {
             message: MessageType::Close,
             flags: 0,
-            type_data: close_code(e, number, said),
+            type_data: close_code(e, refusal, said),
         }),
     }
 }
 
 // A refusal that changes nothing.
-fn stay(e: Endpoint, number: u8) -> Received
-    ensures { result ≡ unchanged e number }
+#[tactic(auto, unfolding(crate::specs::Refusing::unchanged))]
+fn stay(e: Endpoint, refusal: Refusal) -> Received
+    ensures { received_as result ≡ unchanged e (refusal_number refusal) }
 {
     Received {
-        answer: Answer::Stays(number),
+        answer: Answer::Stays(refusal),
         next: e,
         reply: None,
     }
@@ -158,6 +242,7 @@ fn asks(message: MessageType, flags: u8) -> bool
 }
 
 // A confirmation moves the endpoint as NOOP does.
+#[tactic(auto, unfolding(crate::specs::Hearing::moves_as))]
 fn moves_as(message: MessageType, flags: u8) -> MessageType
     ensures { result ≡ moves_as message flags }
 {
@@ -168,6 +253,7 @@ fn moves_as(message: MessageType, flags: u8) -> MessageType
     message
 }
 
+#[tactic(auto, unfolding(crate::specs::Hearing::hear_row))]
 fn hear_row(e: Endpoint, m: Message) -> Result<Step, table::Refusal>
     ensures { result ≡ hear_row e m }
 {
@@ -178,6 +264,7 @@ fn hear_row(e: Endpoint, m: Message) -> Result<Step, table::Refusal>
     table::row_of(role, flow, e.phase, e.n, moves, m.type_data)
 }
 
+#[tactic(auto, unfolding(crate::specs::Hearing::too_large))]
 fn too_large(e: Endpoint, m: Message) -> bool
     ensures { result ≡ too_large e m }
 {
@@ -229,6 +316,7 @@ fn carried_by(e: Endpoint, s: &[u8], offer: Offer, m: Message) -> Result<Content
 }
 
 // Whether the oldest confirmation awaited has this type and this type-data.
+#[tactic(auto, unfolding(crate::specs::Hearing::matches_oldest))]
 fn matches_oldest(e: Endpoint, message: MessageType, type_data: u16) -> bool
     ensures { result ≡ matches_oldest e message type_data }
 {
@@ -236,6 +324,7 @@ fn matches_oldest(e: Endpoint, message: MessageType, type_data: u16) -> bool
     (0 < e.w) & (oldest.message == u8::from(message)) & (oldest.type_data == type_data)
 }
 
+#[tactic(auto, unfolding(crate::specs::Hearing::unmatched))]
 fn is_unmatched(e: Endpoint, m: Message) -> bool
     ensures { result ≡ unmatched e m }
 {
@@ -244,6 +333,7 @@ fn is_unmatched(e: Endpoint, m: Message) -> bool
 }
 
 // The endpoint without its oldest entry after a confirmation.
+#[tactic(auto, unfolding(crate::specs::Hearing::confirmed_by))]
 fn confirmed_by(e: Endpoint, m: Message) -> Endpoint
     ensures { result ≡ confirmed_by e m }
 {
@@ -284,8 +374,9 @@ fn reply_to(m: Message) -> Option<Control>
 }
 
 // A message that is heard.
+#[tactic(auto, unfolding(crate::specs::Hearing::accepted))]
 fn accept(e: Endpoint, m: Message, row: Result<Step, table::Refusal>, content: Content) -> Received
-    ensures { result ≡ accepted e m row content }
+    ensures { received_as result ≡ accepted e m row content }
 {
     let message = m.message;
     Received {
@@ -312,19 +403,19 @@ fn hear_content(
 ) -> Received
     requires inside { (body_place m.body).at + (body_place m.body).length ≤ length s.now }
     requires rowed { row ≡ hear_row e m }
-    ensures { result ≡ hear_content e s.now (offer_in offer.entry) m }
+    ensures { received_as result ≡ hear_content e s.now (offer_in offer.entry) m }
 {
     let message = m.message;
     let said = u8::from(message);
     let carried = carried_by(e, s, offer, m);
     let Ok(content) = carried else {
-        return refuse(e, numbered::number_of(&carried), said);
+        return refuse(e, Refusal::from(carried.unwrap_err()), said);
     };
     if table::above_offer(row) {
-        return refuse(e, 23, said);
+        return refuse(e, Refusal::AboveOffer, said);
     }
     if is_unmatched(e, m) {
-        return refuse(e, 24, said);
+        return refuse(e, Refusal::Unmatched, said);
     }
     accept(e, m, row, content)
 }
@@ -333,16 +424,16 @@ fn hear_content(
 #[tactic(auto, unfolding(crate::specs::Hearing::hear_message, crate::specs::Hearing::forbidden))]
 fn hear_message(e: Endpoint, s: &[u8], offer: Offer, m: Message) -> Received
     requires { (body_place m.body).at + (body_place m.body).length ≤ length s.now }
-    ensures { result ≡ hear_message e s.now (offer_in offer.entry) m }
+    ensures { received_as result ≡ hear_message e s.now (offer_in offer.entry) m }
 {
     let message = m.message;
     let said = u8::from(message);
     let row = hear_row(e, m);
     if too_large(e, m) {
-        return refuse(e, 16, said);
+        return refuse(e, Refusal::TooLarge, said);
     }
     if table::not_allowed(row) {
-        return refuse(e, 17, said);
+        return refuse(e, Refusal::NotAllowed, said);
     }
     hear_content(e, s, offer, m, row)
 }
@@ -351,21 +442,22 @@ fn hear_message(e: Endpoint, s: &[u8], offer: Offer, m: Message) -> Received
 // nothing written.
 #[tactic(auto, using(message::proofs::Inside::read_within), unfolding(crate::specs::Hearing::hear_of))]
 pub fn hear(e: Endpoint, s: &[u8], offer: Offer) -> Received
-    ensures { result ≡ hear_of e s.now (offer_in offer.entry) }
+    ensures { received_as result ≡ hear_of e s.now (offer_in offer.entry) }
 {
     if e.phase == 5 {
-        return stay(e, 3);
+        return stay(e, Refusal::Closed);
     }
     let reading = message::read(s);
     let Ok(m) = reading else {
-        let number = numbered::number_of(&reading);
+        let why = reading.unwrap_err().why;
         let said = message::said_in(reading);
-        return refuse(e, number, said);
+        return refuse(e, Refusal::Message(why), said);
     };
     hear_message(e, s, offer, m)
 }
 
 // Writes a reply at the start of the output.
+#[tactic(auto, using(bytes_be::proofs::Parts::put_nothing, bundle::proofs::Outputs::left_put, bundle::proofs::Outputs::one_made, control::proofs::Round::length_control), unfolding(crate::specs::Receiving::replied))]
 pub fn write_reply(out: &mut [u8], reply: Option<Control>)
     ensures { out.new ≡ replied reply out.old }
 {
@@ -378,14 +470,15 @@ pub fn write_reply(out: &mut [u8], reply: Option<Control>)
 }
 
 // Receives a message: 1, 2, and then what `hear` makes of it, with the reply at the start of the output.
+#[tactic(auto, using(bytes_be::proofs::Parts::put_nothing), unfolding(crate::specs::Receiving::received_of, crate::specs::Receiving::replied, crate::specs::Refusing::unchanged))]
 pub fn receive(e: Endpoint, s: &[u8], offer: Offer, out: &mut [u8]) -> Received
-    ensures { ReceiveAnswer e s.now (offer_in offer.entry) out.old result out.new }
+    ensures { ReceiveAnswer e s.now (offer_in offer.entry) out.old (received_as result) out.new }
 {
     if !e.good() {
-        return stay(e, 1);
+        return stay(e, Refusal::BadState);
     }
     if out.len() < 14 {
-        return stay(e, 2);
+        return stay(e, Refusal::ShortOutput);
     }
     let received = hear(e, s, offer);
     write_reply(out, received.reply);

@@ -32,7 +32,7 @@ use Rattle.machine.proofs.Round.{reads_back, well_given}
 use Rattle.machine.proofs.Rows.{closed_sound, row_alive}
 use Rattle.machine.specs.Programs.{outcome_of, Making, AsClient, AsServer, fresh_by}
 use Rattle.bytes_be.proofs.Parts.{length_tabulate}
-use Rattle.receiving.specs.declared.Received.{Received}
+use Rattle.receiving.specs.Numbers.{Received}
 use Rattle.receiving.specs.Receiving.{received_of}
 use Rattle.sending.specs.declared.Sent.{Sent}
 use Rattle.sending.specs.Sending.{is_full, send_of, send_row}

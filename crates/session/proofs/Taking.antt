@@ -24,8 +24,7 @@ use Rattle.open_write.specs.Frame.{frame_for}
 use Rattle.open_write.proofs.Fields.{frame_short}
 use Rattle.table.specs.Table.{To, at_row, other, row_of}
 use Rattle.receiving.specs.declared.Content.{Content}
-use Rattle.receiving.specs.declared.Answer.{Answer}
-use Rattle.receiving.specs.declared.Received.{Received}
+use Rattle.receiving.specs.Numbers.{Answer, Received}
 use Rattle.receiving.specs.Hearing.{confirmable, confirms, hear_of, hear_row, matches_oldest, moves_as, too_large, unmatched}
 use Rattle.receiving.specs.Receiving.{answer_number}
 use Rattle.sending.specs.Calls.{Body, Missing, Given, as_frames, body_size, Call, OPEN, READY, DATA, NOOP, CLOSE, ask_of, message_of, outgoing, own_number, type_data_of, written}
