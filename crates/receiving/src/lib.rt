@@ -290,31 +290,6 @@ fn body_carried(body: Option<Place>) -> Content
     }
 }
 
-// What the OPEN frame at a place of the message says to this endpoint.
-#[tactic(auto, unfolding(crate::specs::Hearing::open_at))]
-fn open_at(e: Endpoint, s: &[u8], offer: Offer, place: Place) -> Result<Content, open::Refusal>
-    requires { place.at + place.length ≤ length s.now }
-    ensures { result ≡ open_at e s.now (offer_in offer.entry) place }
-{
-    let opening = open::hear(s, place.at, place.at + place.length, e.flow, offer)?;
-    Ok(Content::Opening(opening))
-}
-
-// What a message carries, or which of 18 to 22 refuses it.
-#[tactic(auto, unfolding(crate::specs::Hearing::carried_by))]
-fn carried_by(e: Endpoint, s: &[u8], offer: Offer, m: Message) -> Result<Content, open::Refusal>
-    requires { (body_place m.body).at + (body_place m.body).length ≤ length s.now }
-    ensures { result ≡ carried_by e s.now (offer_in offer.entry) m }
-{
-    match m.message {
-        MessageType::Open => open_at(e, s, offer, message::body_place(m.body)),
-        MessageType::Ready => Ok(body_carried(m.body)),
-        MessageType::Noop => Ok(body_carried(m.body)),
-        MessageType::Data => Ok(body_carried(m.body)),
-        MessageType::Close => Ok(body_carried(m.body)),
-    }
-}
-
 // Whether the oldest confirmation awaited has this type and this type-data.
 #[tactic(auto, unfolding(crate::specs::Hearing::matches_oldest))]
 fn matches_oldest(e: Endpoint, message: MessageType, type_data: u16) -> bool
@@ -392,50 +367,81 @@ fn accept(e: Endpoint, m: Message, row: Result<Step, table::Refusal>, content: C
     }
 }
 
-// 18 to 22 by what the message carries, 23, 24, and else it is heard; `row` is what the table says of it.
-#[tactic(auto, unfolding(crate::specs::Hearing::hear_content))]
-fn hear_content(
+// A message that was read, the endpoint that it reached, and what is offered there.
+#[derive(Clone, Copy)]
+struct Arrival<'a> {
     e: Endpoint,
-    s: &[u8],
-    offer: Offer,
+    s: &'a [u8],
+    offer: Offer<'a>,
     m: Message,
-    row: Result<Step, table::Refusal>,
-) -> Received
-    requires inside { (body_place m.body).at + (body_place m.body).length ≤ length s.now }
-    requires rowed { row ≡ hear_row e m }
-    ensures { received_as result ≡ hear_content e s.now (offer_in offer.entry) m }
-{
-    let message = m.message;
-    let said = u8::from(message);
-    let carried = carried_by(e, s, offer, m);
-    let Ok(content) = carried else {
-        return refuse(e, Refusal::from(carried.unwrap_err()), said);
-    };
-    if table::above_offer(row) {
-        return refuse(e, Refusal::AboveOffer, said);
-    }
-    if is_unmatched(e, m) {
-        return refuse(e, Refusal::Unmatched, said);
-    }
-    accept(e, m, row, content)
+    // A body stands within the message.
+    ghost inside: { (body_place m.body).at + (body_place m.body).length ≤ length s.now },
 }
 
-// 16, 17, and then by what it carries.
-#[tactic(auto, unfolding(crate::specs::Hearing::hear_message, crate::specs::Hearing::forbidden))]
-fn hear_message(e: Endpoint, s: &[u8], offer: Offer, m: Message) -> Received
-    requires { (body_place m.body).at + (body_place m.body).length ≤ length s.now }
-    ensures { received_as result ≡ hear_message e s.now (offer_in offer.entry) m }
-{
-    let message = m.message;
-    let said = u8::from(message);
-    let row = hear_row(e, m);
-    if too_large(e, m) {
-        return refuse(e, Refusal::TooLarge, said);
+impl<'a> Arrival<'a> {
+    // What the OPEN frame says to this endpoint.
+    #[tactic(auto, unfolding(crate::specs::Hearing::open_at))]
+    fn opening(&self) -> Result<Content, open::Refusal>
+        ensures { result ≡ open_at self.now.e self.now.s.now (offer_in self.now.offer) (body_place self.now.m.body) }
+    {
+        let place = message::body_place(self.m.body);
+        let end = place.at + place.length;
+        let opening = open::hear(self.s, place.at, end, self.e.flow, self.offer)?;
+        Ok(Content::Opening(opening))
     }
-    if table::not_allowed(row) {
-        return refuse(e, Refusal::NotAllowed, said);
+
+    // What the message carries, or which of 18 to 22 refuses it.
+    #[tactic(auto, unfolding(crate::specs::Hearing::carried_by))]
+    fn carried(&self) -> Result<Content, open::Refusal>
+        ensures { result ≡ carried_by self.now.e self.now.s.now (offer_in self.now.offer) self.now.m }
+    {
+        let body = body_carried(self.m.body);
+        match self.m.message {
+            MessageType::Open => self.opening(),
+            MessageType::Ready | MessageType::Noop | MessageType::Data | MessageType::Close => Ok(
+                body,
+            ),
+        }
     }
-    hear_content(e, s, offer, m, row)
+
+    // 18 to 22 by what the message carries, 23, 24, and else it is heard; `row` is what the table says of it.
+    #[tactic(auto, unfolding(crate::specs::Hearing::hear_content))]
+    fn hear_content(&self, row: Result<Step, table::Refusal>) -> Received
+        requires { row ≡ hear_row self.now.e self.now.m }
+        ensures { received_as result ≡ hear_content self.now.e self.now.s.now (offer_in self.now.offer) self.now.m }
+    {
+        let e = self.e;
+        let m = self.m;
+        let said = u8::from(m.message);
+        let carried = self.carried();
+        let Ok(content) = carried else {
+            return refuse(e, Refusal::from(carried.unwrap_err()), said);
+        };
+        if table::above_offer(row) {
+            return refuse(e, Refusal::AboveOffer, said);
+        }
+        if is_unmatched(e, m) {
+            return refuse(e, Refusal::Unmatched, said);
+        }
+        accept(e, m, row, content)
+    }
+
+    // 16, 17, and then by what it carries.
+    #[tactic(auto, unfolding(crate::specs::Hearing::hear_message, crate::specs::Hearing::forbidden))]
+    fn hear_message(&self) -> Received
+        ensures { received_as result ≡ hear_message self.now.e self.now.s.now (offer_in self.now.offer) self.now.m }
+    {
+        let e = self.e;
+        let said = u8::from(self.m.message);
+        let row = hear_row(e, self.m);
+        if too_large(e, self.m) {
+            return refuse(e, Refusal::TooLarge, said);
+        }
+        if table::not_allowed(row) {
+            return refuse(e, Refusal::NotAllowed, said);
+        }
+        self.hear_content(row)
+    }
 }
 
 // What any endpoint with this offer makes of a message: 3, 10 to 24, or it is heard, with no byte of a body read and
@@ -453,7 +459,7 @@ pub fn hear(e: Endpoint, s: &[u8], offer: Offer) -> Received
         let said = message::said_in(reading);
         return refuse(e, Refusal::Message(why), said);
     };
-    hear_message(e, s, offer, m)
+    Arrival { e, s, offer, m }.hear_message()
 }
 
 // Writes a reply at the start of the output.
