@@ -10,7 +10,6 @@ use Rattle.open_write.specs.Frame.{is_good, frame_for}
 use Rattle.endpoint.specs.declared.Endpoint.{Endpoint}
 use Rattle.endpoint.specs.Record.{server, opening}
 use Rattle.sending.specs.declared.Report.{Report}
-use Rattle.sending.specs.declared.Outgoing.{Outgoing}
 
 -- C-12: "DATA without ACK-REPLY may have no data frame or one, and a missing body is heard as such, apart from an empty one. Sending gets the
 -- same choice."
@@ -124,6 +123,14 @@ bundle_with message ask type-data frames = bundle_of (bytes_of message (flags_fo
 -- the bytes of a call
 abbrev pub written : Endpoint → Call → List ℕ
 written e call = bundle_with (message_of call) (ask_of call) (type_data_of call) (data_frames e call)
+
+-- what is to be tested of an own message: its type, type-data and ask, the number of its own test or 0, and how many bytes its bundle has
+pub record Outgoing : Type 0 where
+  pub message : MessageType
+  pub type_data : ℕ
+  pub ask : Bool
+  pub own : ℕ
+  pub length : ℕ
 
 -- what is to be tested of a call
 abbrev pub outgoing : Endpoint → Call → Outgoing
