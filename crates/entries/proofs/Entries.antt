@@ -24,9 +24,8 @@ use Rattle.receiving.specs.declared.Answer.TheVariants.{Heard, Stays, Closes}
 use Rattle.receiving.specs.declared.Received.{Received}
 use Rattle.receiving.specs.Receiving.{answer_number, received_of, replied}
 use Rattle.receiving.specs.Refusing.{unchanged, replying}
-use Rattle.sending.specs.declared.Sent.{Sent}
 use Rattle.sending.specs.Calls.{Call, outgoing, written}
-use Rattle.sending.specs.Sending.{left_by, send_of}
+use Rattle.sending.specs.Sending.{Sent, left_by, send_of}
 use Rattle.sending.proofs.Decided.{accepted_passed, accepted_sent}
 use Rattle.machine.specs.Good.{Sound, Fits}
 use Rattle.machine.specs.Refusals.{DoesAs, said_by}

@@ -7,9 +7,8 @@ use Rattle.open.specs.Offer.{Offer}
 use Rattle.endpoint.specs.declared.Endpoint.{Endpoint}
 use Rattle.receiving.specs.declared.Received.{Received}
 use Rattle.receiving.specs.Receiving.{ReceiveAnswer}
-use Rattle.sending.specs.declared.Sent.{Sent}
 use Rattle.sending.specs.Calls.{Call}
-use Rattle.sending.specs.Sending.{SendAnswer}
+use Rattle.sending.specs.Sending.{Sent, SendAnswer}
 
 pub sent_determined : (e : Endpoint) (call : Call) {before : List ℕ} {sent sent' : Sent} {after after' : List ℕ} →
     SendAnswer e call before sent after → SendAnswer e call before sent' after' → (sent ≡ sent') × (after ≡ after')

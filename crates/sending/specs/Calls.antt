@@ -1,6 +1,7 @@
 -- "Send": the five calls, and the message that each makes. "DATA takes type-data, one body (may be empty) and an ask for confirmation; NOOP
 -- takes type-data and the ask. .. OPEN takes the pipe name (1..255 bytes of UTF-8) and a format (0..255 bytes of UTF-8)."; and the choice of C-12.
-use Rattle.std.specs.Prelude.{ℕ, ◌+◌, List, [], ◌∷◌, Bool, true, false, cond, not, ◌&&◌, ◌||◌, length, ltb, leb, eqb}
+use Rattle.std.specs.Prelude.{ℕ, ◌+◌, List, [], ◌∷◌, Bool, true, false, cond, not, ◌&&◌, ◌||◌, length, ltb, leb, eqb, Option, Some, None}
+use Rattle.std.specs.Borrow.{Bor}
 use Rattle.bundle.specs.Writing.{bundle_of}
 use Rattle.control.specs.declared.MessageType.{MessageType}
 use Rattle.control.specs.declared.MessageType.TheVariants.{Open, Ready, Noop, Data, Close}
@@ -21,6 +22,11 @@ abbrev pub is_missing : Body → Bool
 is_missing Missing = true
 is_missing (Given bytes) = false
 
+-- what is lent for a body, if anything is
+abbrev pub body_in : Option (Bor (List ℕ)) → Body
+body_in None = Missing
+body_in (Some body) = Given body.now
+
 -- the data frames that it makes
 abbrev pub as_frames : Body → List (List ℕ)
 as_frames Missing = []
@@ -40,10 +46,6 @@ pub record Datum : Type 0 where
 -- of what is told beside the body, and of a body
 abbrev pub datum_with : Report → Body → Datum
 datum_with report body = record { type-data = report.type_data; ask = report.ask; body = body }
-
--- of the bytes that are lent for a body, which are not looked at where there is to be none
-abbrev pub datum_of : Report → List ℕ → Datum
-datum_of report lent = datum_with report (cond report.no_body Missing (Given lent))
 
 pub data Call : Type 0 where
   OPEN : Offer → Call

@@ -5,7 +5,7 @@ ghost use Rattle.std.specs.Prelude.{◌≡◌, []};
 ghost use Rattle.control.specs.Frame.{bytes_of};
 ghost use Rattle.numbered.specs.Numbered.{number_of};
 ghost use Rattle.open.specs.Offer.{offer_in};
-ghost use Rattle.sending.specs.Calls.{Given as Body-as-Given, datum_with, datum_of, OPEN, READY, DATA, NOOP, CLOSE, miscoded, flags_for, bundle_with};
+ghost use Rattle.sending.specs.Calls.{Given as Body-as-Given, body_in, datum_with, OPEN, READY, DATA, NOOP, CLOSE, miscoded, flags_for, bundle_with};
 ghost use Rattle.sending.specs.Held.{plain, frame_size};
 ghost use Rattle.sending.specs.Numbers.{refusal_number, number_in, outgoing_in};
 ghost use Rattle.sending.specs.Sending.{send_row, is_full, number_for, asked_by, sent_as, sent_by, Answered, SendAnswer};
@@ -64,8 +64,6 @@ pub struct Report {
     pub type_data: u16,
     // Whether it asks for a confirmation.
     pub ask: bool,
-    // Whether it is sent without a body, whatever is lent for one.
-    pub no_body: bool,
 }
 
 // What is to be tested of an own message.
@@ -253,13 +251,18 @@ fn send_body(e: Endpoint, report: Report, body: &[u8], out: &mut [u8]) -> Result
 }
 
 // Sends DATA with this body, or without one.
-pub fn send_data(e: Endpoint, report: Report, body: &[u8], out: &mut [u8]) -> Result<Sent, Refusal>
-    ensures { SendAnswer e (DATA (datum_of report body.now)) out.old result out.new }
+pub fn send_data(
+    e: Endpoint,
+    report: Report,
+    body: Option<&[u8]>,
+    out: &mut [u8],
+) -> Result<Sent, Refusal>
+    ensures { SendAnswer e (DATA (datum_with report (body_in body.entry))) out.old result out.new }
 {
-    if report.no_body {
+    let Some(body) = body else {
         let own = (e.limit < 8).then_some(Refusal::TooLarge);
         return send_plain(e, MessageType::Data, report.type_data, report.ask, own, out);
-    }
+    };
     send_body(e, report, body, out)
 }
 

@@ -1,8 +1,6 @@
 -- `sending::send_close` meets its contract: the code is tested, and the message has no data frame.
 -- Assumes nothing.
-use mathlib.Core.Path.{◌∙◌, ap}
 use Rattle.sending.specs.Calls.{miscoded}
-use Rattle.sending.specs.Numbers.{number_in}
 use Rattle.sending.specs.declared.Refusal.TheVariants.{BadCode}
 use Rattle.sending.proofs.Decided.{own_numbered}
 use Rattle.sending.proofs.send_close.Goals as goal
