@@ -126,6 +126,7 @@ pub fn fbdp_make_server(block: &mut [u8], flow: u8) -> u32
 }
 
 // Tells what came of a send, and stores the endpoint unless the send was refused.
+#[tactic(auto, unfolding(crate::specs::Blocks::kept_after, crate::specs::Blocks::stored))]
 fn finish(sent: Result<Sent, Refusal>, block: &mut [u8], written: &mut u64) -> u32
     ensures { Finished (sent_as (load_of block.old) sent) block.old result written.new block.new }
 {
