@@ -96,6 +96,7 @@ pub fn fbdp_lookup(client: &[u8], defaults: &[u8], key: &[u8], slots: &mut [u64;
 }
 
 // Keeps what was made in a block of 64 bytes.
+#[tactic(auto, unfolding(crate::specs::Blocks::make_number, crate::specs::Blocks::stored))]
 fn keep(made: Result<Endpoint, BadMaking>, block: &mut [u8]) -> u32
     ensures { Kept made block.old result block.new }
 {

@@ -73,7 +73,12 @@ pub fn send_ready(e: &mut Endpoint, count: u16, out: &mut [u8]) -> Result<usize,
 }
 
 // Sends DATA with this body, or without one.
-pub fn send_data(e: &mut Endpoint, report: Report, body: Option<&[u8]>, out: &mut [u8]) -> Result<usize, Refusal>
+pub fn send_data(
+    e: &mut Endpoint,
+    report: Report,
+    body: Option<&[u8]>,
+    out: &mut [u8],
+) -> Result<usize, Refusal>
     ensures { SendOnLent e.old (DATA (datum_with report (body_in body.entry))) out.old (told_as result) e.new out.new }
 {
     let sent = sending::send_data(*e, report, body, out);
@@ -81,7 +86,12 @@ pub fn send_data(e: &mut Endpoint, report: Report, body: Option<&[u8]>, out: &mu
 }
 
 // Sends NOOP, with an ask for confirmation or without.
-pub fn send_noop(e: &mut Endpoint, type_data: u16, ask: bool, out: &mut [u8]) -> Result<usize, Refusal>
+pub fn send_noop(
+    e: &mut Endpoint,
+    type_data: u16,
+    ask: bool,
+    out: &mut [u8],
+) -> Result<usize, Refusal>
     ensures { SendOnLent e.old (NOOP type_data ask) out.old (told_as result) e.new out.new }
 {
     let sent = sending::send_noop(*e, type_data, ask, out);

@@ -54,7 +54,7 @@ returns-in_err-sent c =
     let call = OPEN (offer_in a.offer) in
     let room = length a.out.now in
     let is_decided =
-        c.in_err-sent.ensures ∙ decided a.e (offer_in a.offer) room c.given_of-given.ensures c.frame_size-frame.ensures c.is_err.ensures.value c.then_some.ensures in
+    c.in_err-sent.ensures ∙ decided a.e (offer_in a.offer) room c.given_of-given.ensures c.frame_size-frame.ensures c.is_err.ensures.value c.then_some.ensures in
     let h = wrote_nothing a.e (outgoing a.e call) (all_bytes a.e call) a.out.now _ is_decided in
     search rules
 
@@ -67,7 +67,7 @@ returns c =
     let call = OPEN pipe in
     let room = length a.out.now in
     let is_decided =
-        c.in_ok-sent.ensures ∙ decided a.e pipe room c.given_of-given.ensures c.frame_size-frame.ensures c.is_err.ensures.value c.then_some.ensures in
+    c.in_ok-sent.ensures ∙ decided a.e pipe room c.given_of-given.ensures c.frame_size-frame.ensures c.is_err.ensures.value c.then_some.ensures in
     let tests = accepted_passed a.e (outgoing a.e call) room (ap (λ (s : Sent). s.number) (sym is_decided)) in
     let good : is_good pipe ≡ true = not-false _ (not_applies (misgiven pipe) 34 (lit< tt) tests.unrefused) in
     let fits : 18 + length (open_frame a.e pipe) ≤ room = omega (arith, tests.fits, framed_long Open false 0 (open_frame a.e pipe)) in
