@@ -134,10 +134,9 @@ module _ (e : Endpoint) (o : Outgoing) (room : ℕ) where
   refused_sent why tested = simp (sym tested, refusal_numbered why)
 
   -- and what none refuses is
-  pub passed_sent : (next : Endpoint) → 0 ≡ number_for e o (send_row e o) room → next ≡ asked_by (moved e (send_row e o)) o
-      → sent_as e (Ok (record { next = next; written = o.length })) ≡ sent_by e o room
+  pub passed_sent : (sent : Accepted) → 0 ≡ number_for e o (send_row e o) room → sent_as e (Ok sent) ≡ sent_if 0 e o (send_row e o) → sent_as e (Ok sent) ≡ sent_by e o room
   unfolding sent_by
-  passed_sent next tested moves = simp (sym tested, moves)
+  passed_sent sent tested accepted = simp (sym tested) accepted
 
 module _ (e : Endpoint) (o : Outgoing) (bytes before : List ℕ) where
   -- what is accepted has its bytes at the start of the output

@@ -1,14 +1,14 @@
 // Sending: which of an endpoint's own messages is allowed, what it writes, and what the endpoint becomes.
 #![tactic(auto)]
 
-ghost use Rattle.std.specs.Prelude.{◌≡◌, []};
+ghost use Rattle.std.specs.Prelude.{◌≡◌, [], Ok, ltb};
 ghost use Rattle.control.specs.Frame.{bytes_of};
 ghost use Rattle.numbered.specs.Numbered.{number_of};
 ghost use Rattle.open.specs.Offer.{offer_in};
-ghost use Rattle.sending.specs.Calls.{Given as Body-as-Given, body_in, datum_with, OPEN, READY, DATA, NOOP, CLOSE, miscoded, flags_for, bundle_with};
+ghost use Rattle.sending.specs.Calls.{Given as Body-as-Given, body_in, datum_with, OPEN, READY, DATA, NOOP, CLOSE, miscoded, number_if, flags_for, bundle_with};
 ghost use Rattle.sending.specs.Held.{plain, frame_size};
 ghost use Rattle.sending.specs.Numbers.{refusal_number, number_in, outgoing_in};
-ghost use Rattle.sending.specs.Sending.{send_row, is_full, number_for, asked_by, sent_as, sent_by, Answered, SendAnswer};
+ghost use Rattle.sending.specs.Sending.{send_row, is_full, number_for, asked_by, sent_as, sent_if, sent_by, Answered, SendAnswer};
 
 use control::MessageType;
 use endpoint::{Endpoint, Entry};
@@ -151,6 +151,16 @@ fn asked_by(e: Endpoint, o: Outgoing) -> Endpoint
     e
 }
 
+// What comes of a message that no test refuses.
+fn accepted(e: Endpoint, o: Outgoing, row: Result<Step, table::Refusal>) -> Sent
+    ensures { sent_as e (Ok result) ≡ sent_if 0 e (outgoing_in o) row }
+{
+    Sent {
+        next: asked_by(table::moved(e, row), o),
+        written: o.length,
+    }
+}
+
 // What comes of an own message where the output has so much room, before anything is written. A good record stays good by what is tested of a
 // call; of any other message that is not said.
 pub fn decide(e: Endpoint, o: Outgoing, room: usize) -> Result<Sent, Refusal>
@@ -158,10 +168,7 @@ pub fn decide(e: Endpoint, o: Outgoing, room: usize) -> Result<Sent, Refusal>
 {
     let row = send_row(e, o);
     tested(e, o, row, room)?;
-    Ok(Sent {
-        next: asked_by(table::moved(e, row), o),
-        written: o.length,
-    })
+    Ok(accepted(e, o, row))
 }
 
 fn flags_for(ask: bool) -> u8
@@ -231,17 +238,25 @@ pub fn send_close(e: Endpoint, code: u16, out: &mut [u8]) -> Result<Sent, Refusa
     send_plain(e, MessageType::Close, code, false, own, out)
 }
 
+// Refuses DATA of this many bytes above the limit.
+#[tactic(auto, unfolding(crate::specs::Calls::number_if))]
+fn too_large(e: Endpoint, size: usize) -> Option<Refusal>
+    ensures { number_in result ≡ number_if (ltb e.limit size) 33 }
+{
+    ((e.limit as usize) < size).then_some(Refusal::TooLarge)
+}
+
 // Sends DATA with this body, which is copied once.
 fn send_body(e: Endpoint, report: Report, body: &[u8], out: &mut [u8]) -> Result<Sent, Refusal>
     ensures { SendAnswer e (DATA (datum_with report (Body-as-Given body.now))) out.old result out.new }
 {
-    let large = (e.limit as usize) < 8 + body.len();
+    let own = too_large(e, 8 + body.len());
     let length = 18 + body.len();
     let o = Outgoing {
         message: MessageType::Data,
         type_data: report.type_data,
         ask: report.ask,
-        own: large.then_some(Refusal::TooLarge),
+        own,
         length,
     };
     let sent = decide(e, o, out.len())?;
@@ -260,7 +275,7 @@ pub fn send_data(
     ensures { SendAnswer e (DATA (datum_with report (body_in body.entry))) out.old result out.new }
 {
     let Some(body) = body else {
-        let own = (e.limit < 8).then_some(Refusal::TooLarge);
+        let own = too_large(e, 8);
         return send_plain(e, MessageType::Data, report.type_data, report.ask, own, out);
     };
     send_body(e, report, body, out)

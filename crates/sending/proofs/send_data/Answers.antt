@@ -2,13 +2,10 @@
 use mathlib.Core.Path.{subst, sym}
 use mathlib.Core.List.{List}
 use Prim.Native.Nat.{ℕ}
-use lib.Dec.{ltb}
 use Rattle.std.specs.Prelude.{Option}
 use Rattle.std.specs.Borrow.{Bor}
-use Rattle.sending.specs.declared.Refusal.TheVariants.{TooLarge}
 use Rattle.sending.specs.Calls.{above_limit, body_in, datum_with, DATA}
 use Rattle.sending.specs.Sending.{SendAnswer}
-use Rattle.sending.proofs.Decided.{own_numbered}
 use Rattle.sending.proofs.send_data.Goals as goal
 
 pub returns-in_default : goal.returns-in_default
@@ -16,4 +13,4 @@ unfolding above_limit
 returns-in_default c =
     let a = c.args in
     subst (λ (body : Option (Bor (List ℕ))). SendAnswer a.e (DATA (datum_with a.report (body_in body))) a.out.now c.send_plain.result c.send_plain.new.out)
-    (sym c.in_default.is) (rw (c.then_some-own.ensures, own_numbered (ltb a.e.limit 8) TooLarge) at c.send_plain.ensures)
+    (sym c.in_default.is) (rw c.too_large-own.ensures at c.send_plain.ensures)
