@@ -8,7 +8,6 @@ use lib.Dec.{eqb, lit<, ltb, leb}
 use lib.ListN.{length}
 use borrow.Author.Tests.{eq-eqb, eqb-false, eqb-true, le-ltb, ltb-false, ne_eqb, not-false}
 use Rattle.std.specs.Prelude.{Result, Ok, Err}
-use Rattle.std.specs.Bool.{then_some}
 use Rattle.bytes_be.specs.Part.{put_at}
 use Rattle.bytes_be.proofs.Tests.{took_second}
 use Rattle.bundle.proofs.Outputs.{one_long, two_long}
@@ -24,7 +23,7 @@ use Rattle.sending.specs.declared.Refusal.{Refusal as Send-refusal}
 use Rattle.sending.specs.declared.Refusal.TheVariants.{BadState, NoRoom, Closed, NotAllowed, AboveOffer, Full, TooLarge, BadOffer, BadCode}
 use Rattle.sending.specs.declared.Sent.{Sent as Accepted}
 use Rattle.sending.specs.Calls.{Outgoing, bundle_with, flags_for, number_if}
-use Rattle.sending.specs.Numbers.{number_in, refusal_number}
+use Rattle.sending.specs.Numbers.{refusal_number}
 use Rattle.sending.specs.Held.{plain}
 use Rattle.sending.specs.Sending.{Answered, Sent, asked_by, is_full, left_by, number_for, send_row, sent_as, sent_by, sent_if}
 
@@ -120,12 +119,6 @@ refusal_numbered Full = refl
 refusal_numbered TooLarge = refl
 refusal_numbered BadOffer = refl
 refusal_numbered BadCode = refl
-
--- a test of one type of message alone has its number where it applies
-pub own_numbered : (t : Bool) (why : Send-refusal) → number_in (then_some t why) ≡ number_if t (refusal_number why)
-unfolding number_if
-own_numbered true why = refl
-own_numbered false why = refl
 
 module _ (e : Endpoint) (o : Outgoing) (room : ℕ) where
   -- what a test refuses is not sent

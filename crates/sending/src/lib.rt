@@ -231,6 +231,7 @@ fn is_miscoded(e: Endpoint, code: u16) -> bool
 }
 
 // Sends CLOSE with this code.
+#[tactic(auto, unfolding(crate::specs::Calls::number_if))]
 pub fn send_close(e: Endpoint, code: u16, out: &mut [u8]) -> Result<Sent, Refusal>
     ensures { SendAnswer e (CLOSE code) out.old result out.new }
 {

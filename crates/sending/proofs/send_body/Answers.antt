@@ -30,14 +30,6 @@ body_decided e report own body room same =
     ap₂ (λ (number size : ℕ). sent_by e (record { message = Data; type_data = report.type_data; ask = report.ask; own = number; length = size }) room)
     same (sym (framed_long Data report.ask report.type_data body))
 
-pub returns-in_err-sent : goal.returns-in_err-sent
-returns-in_err-sent c =
-    let a = c.args in
-    let call = DATA (datum_with a.report (Given a.body.now)) in
-    let is_decided = c.in_err-sent.ensures ∙ body_decided a.e a.report _ a.body.now (length a.out.now) c.too_large-own.ensures in
-    let h = wrote_nothing a.e (outgoing a.e call) (written a.e call) a.out.now _ is_decided in
-    search rules
-
 pub returns : goal.returns
 unfolding bundle_with above_limit
 returns c =
@@ -53,3 +45,11 @@ returns c =
     let put = left_put (frame ∷ a.body.now ∷ []) a.out.now (two_made frame eight a.out.now a.body.now small) c.write_two.ensures in
     let said = ap (λ (f : List ℕ). put_at a.out.now 0 (bundle_of (f ∷ a.body.now ∷ []))) c.control_frame-frame.ensures in
     wrote_bytes a.e (outgoing a.e (DATA datum)) (written a.e (DATA datum)) a.out.now _ c.in_ok-sent.sent is_decided (put ∙ said)
+
+pub returns-in_err-sent : goal.returns-in_err-sent
+returns-in_err-sent c =
+    let a = c.args in
+    let call = DATA (datum_with a.report (Given a.body.now)) in
+    let is_decided = c.in_err-sent.ensures ∙ body_decided a.e a.report _ a.body.now (length a.out.now) c.too_large-own.ensures in
+    let h = wrote_nothing a.e (outgoing a.e call) (written a.e call) a.out.now _ is_decided in
+    search rules
