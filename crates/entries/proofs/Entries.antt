@@ -21,10 +21,9 @@ use Rattle.endpoint.proofs.Round.{block_told, byte_six_counts, loaded_good, load
 use Rattle.endpoint.proofs.Stored.{length_block}
 use Rattle.receiving.specs.Numbers.{Answer, Heard, Stays, Closes, Received}
 use Rattle.receiving.specs.Receiving.{answer_number, received_of, replied}
-use Rattle.receiving.specs.Refusing.{unchanged}
-use Rattle.sending.specs.declared.Sent.{Sent}
+use Rattle.receiving.specs.Refusing.{unchanged, replying}
 use Rattle.sending.specs.Calls.{Call, outgoing, written}
-use Rattle.sending.specs.Sending.{left_by, send_of}
+use Rattle.sending.specs.Sending.{Sent, left_by, send_of}
 use Rattle.sending.proofs.Decided.{accepted_passed, accepted_sent}
 use Rattle.machine.specs.Good.{Sound, Fits}
 use Rattle.machine.specs.Refusals.{DoesAs, said_by}

@@ -9,9 +9,8 @@ use Rattle.endpoint.specs.Record.{made_of}
 use Rattle.endpoint.specs.Block.{is_good, load_of}
 use Rattle.receiving.specs.Numbers.{Received}
 use Rattle.receiving.specs.Receiving.{answer_number, replied}
-use Rattle.sending.specs.declared.Sent.{Sent}
 use Rattle.sending.specs.Calls.{Missing, Given, Call, written}
-use Rattle.sending.specs.Sending.{left_by}
+use Rattle.sending.specs.Sending.{Sent, left_by}
 use Rattle.machine.specs.Good.{Fits}
 use Rattle.machine.specs.Bodies.{tells_body}
 use Rattle.machine.specs.Programs.{Making, fresh_by, Told, MakeOutcome, SendOutcome, ReceiveOutcome, Program}

@@ -1,4 +1,4 @@
--- From what an endpoint's record makes of a call or a message to what the entry answers on its block, and that a bad block is left as it was.
+-- From what an endpoint's record makes of a message to what the entry answers on its block, and that a bad block is left as it was.
 -- Assumes nothing.
 use mathlib.Core.Path.{◌∙◌, ◌≡◌, ap}
 use Prim.Native.Nat.{ℕ}
@@ -13,20 +13,10 @@ use Rattle.endpoint.proofs.Round.{loaded_good}
 use Rattle.receiving.specs.Numbers.{Received}
 use Rattle.receiving.specs.Receiving.{answer_number, received_of, replied}
 use Rattle.receiving.specs.Refusing.{unchanged}
-use Rattle.sending.specs.declared.Sent.{Sent}
 use Rattle.sending.specs.Calls.{Call, written}
-use Rattle.sending.specs.Sending.{SendAnswer as Sent-by-record, left_by, number_for, send_of, sent_by, unsent}
+use Rattle.sending.specs.Sending.{Sent, left_by, number_for, send_of, sent_by, unsent}
 use Rattle.fbdp.specs.Slots.{answer_slots, in_order}
-use Rattle.fbdp.specs.Blocks.{SendOnBlock, Finished, BadBlockSends, BadBlockReceives, reply_length, kept_after, kept_by}
-
-module _ (block : List ℕ) (e : Endpoint) (loaded : e ≡ load_of block) where
-  -- the answer is that of the record that was loaded
-
-  pub send_finished : (call : Call) (out out' : List ℕ) (sent : Sent) (number count : ℕ) (block' : List ℕ) →
-      Sent-by-record e call out sent out' → Finished sent block number count block' → SendOnBlock call block out number count block' out'
-  send_finished call out out' sent number count block' by-record finished =
-      let by_loaded : Sent-by-record (load_of block) call out sent out' = rw loaded at by-record in
-      record { finished = rw by_loaded.answered at finished; left = by_loaded.left }
+use Rattle.fbdp.specs.Blocks.{BadBlockSends, BadBlockReceives, reply_length, kept_after, kept_by}
 
 -- a block that is not good is left as it was
 

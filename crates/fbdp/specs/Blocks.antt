@@ -10,10 +10,9 @@ use Rattle.endpoint.specs.Block.{bytes_of, is_good, load_of}
 use Rattle.receiving.specs.Numbers.{Answer, Heard, Stays, Closes, Received}
 use Rattle.receiving.specs.Receiving.{answer_number, reply_bytes, replied, received_of}
 use Rattle.sending.specs.declared.Report.{Report}
-use Rattle.sending.specs.declared.Sent.{Sent}
-use Rattle.sending.specs.Calls.{Body, Missing, Given, Datum, datum_of, Call, DATA, written}
+use Rattle.sending.specs.Calls.{Body, Missing, Given, Datum, datum_with, Call, DATA, written}
 use Rattle.sending.specs.Options.{asking, without_body, is_chosen, how_of}
-use Rattle.sending.specs.Sending.{send_of, left_by}
+use Rattle.sending.specs.Sending.{Sent, send_of, left_by}
 use Rattle.fbdp.specs.Slots.{answer_slots, in_order}
 use Rattle.control.specs.declared.Control.{Control}
 
@@ -54,7 +53,14 @@ pub record Finished (sent : Sent) (before : List ℕ) (number count : ℕ) (afte
 
 -- what a send of DATA is told
 abbrev pub report_of : ℕ → ℕ → Report
-report_of type-data how = record { type_data = type-data; ask = is_chosen asking how; no_body = is_chosen without_body how }
+report_of type-data how = record { type_data = type-data; ask = is_chosen asking how }
+
+-- of the bytes that are lent for a body, which are not looked at where there is to be none
+abbrev pub body_of : ℕ → List ℕ → Body
+body_of how lent = cond (is_chosen without_body how) Missing (Given lent)
+
+abbrev pub datum_of : ℕ → ℕ → List ℕ → Datum
+datum_of type-data how lent = datum_with (report_of type-data how) (body_of how lent)
 
 -- the bytes that may be lent for a body: these, and any where it is missing
 abbrev pub LentFor : Body → List ℕ → Type 0
@@ -65,7 +71,7 @@ LentFor (Given bytes) lent = lent ≡ bytes
 abbrev pub GivesEveryDatum : Type 0
 GivesEveryDatum =
     (datum : Datum) (lent : List ℕ) → LentFor datum.body lent
-    → datum_of (report_of datum.type-data (how_of (DATA datum))) lent ≡ datum
+    → datum_of datum.type-data (how_of (DATA datum)) lent ≡ datum
 
 -- `fbdp_send_open`, `fbdp_send_ready`, `fbdp_send_data`, `fbdp_send_noop` and `fbdp_send_close`
 pub record SendOnBlock (call : Call) (block out : List ℕ) (number count : ℕ) (block' out' : List ℕ) : Type 0 where

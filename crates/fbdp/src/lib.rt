@@ -3,12 +3,14 @@
 
 ghost use Rattle.std.specs.Prelude.{◌≡◌, ◌≤◌};
 ghost use Rattle.open.specs.Offer.{offer_of};
+ghost use Rattle.endpoint.specs.Block.{load_of};
 ghost use Rattle.endpoint.specs.Record.{fresh_client, fresh_server};
 ghost use Rattle.receiving.specs.Numbers.{answer_as};
 ghost use Rattle.receiving.specs.Receiving.{answer_number};
-ghost use Rattle.sending.specs.Calls.{datum_of, OPEN, READY, DATA, NOOP, CLOSE};
+ghost use Rattle.sending.specs.Calls.{body_in, OPEN, READY, DATA, NOOP, CLOSE};
 ghost use Rattle.sending.specs.Options.{asking, is_chosen};
-ghost use Rattle.fbdp.specs.Blocks.{MakeAnswer, Kept, Finished, report_of, SendOnBlock, reply_length, stays, ReceiveOnBlock};
+ghost use Rattle.sending.specs.Sending.{sent_as};
+ghost use Rattle.fbdp.specs.Blocks.{MakeAnswer, Kept, Finished, report_of, body_of, datum_of, SendOnBlock, reply_length, stays, ReceiveOnBlock};
 ghost use Rattle.fbdp.specs.Slots.{carried_in_order, in_order, carries_of, heard_slots, refused_slots, answer_slots};
 ghost use Rattle.fbdp.specs.Entries.{InterfaceAnswer, frame_slots, FrameAnswer, value_slots, ValueAnswer, term_slots, LookupAnswer};
 
@@ -19,7 +21,7 @@ use endpoint::{BadMaking, Endpoint};
 use numbered::Numbered;
 use open::Offer;
 use receiving::{Answer, Content, Heard};
-use sending::{Report, Sent};
+use sending::{Refusal, Report, Sent};
 use terms::{Term, Value};
 use wire::Fault;
 
@@ -126,16 +128,21 @@ pub fn fbdp_make_server(block: &mut [u8], flow: u8) -> u32
 }
 
 // Tells what came of a send, and stores the endpoint unless the send was refused.
-fn finish(sent: Sent, block: &mut [u8], written: &mut u64) -> u32
-    ensures { Finished sent block.old result written.new block.new }
+#[tactic(auto, unfolding(crate::specs::Blocks::kept_after, crate::specs::Blocks::stored))]
+fn finish(sent: Result<Sent, Refusal>, block: &mut [u8], written: &mut u64) -> u32
+    ensures { Finished (sent_as (load_of block.old) sent) block.old result written.new block.new }
 {
-    *written = sent.written as u64;
-    let next = sent.next;
-    if sent.number != 0 {
-        return sent.number as u32;
+    match sent {
+        Ok(sent) => {
+            sent.next.store(block);
+            *written = sent.written as u64;
+            0
+        }
+        Err(why) => {
+            *written = 0;
+            why.number() as u32
+        }
     }
-    next.store(block);
-    0
 }
 
 // Whether an option, which is a bit, is among those given.
@@ -152,8 +159,17 @@ fn report_of(type_data: u16, how: u8) -> Report
     Report {
         type_data,
         ask: is_chosen(1, how),
-        no_body: is_chosen(2, how),
     }
+}
+
+// The bytes that are lent for a body, which are not looked at where there is to be none.
+fn body_of(how: u8, lent: &[u8]) -> Option<&[u8]>
+    ensures { body_in result ≡ body_of how lent.now }
+{
+    if is_chosen(2, how) {
+        return None;
+    }
+    Some(lent)
 }
 
 // Sends OPEN for this pipe name and this format.
@@ -191,11 +207,15 @@ pub fn fbdp_send_data(
     out: &mut [u8],
     written: &mut u64,
 ) -> u32
-    ensures { SendOnBlock (DATA (datum_of (report_of type_data how) body.now)) block.old out.old result written.new block.new out.new }
+    ensures { SendOnBlock (DATA (datum_of type_data how body.now)) block.old out.old result written.new block.new out.new }
 {
     let e = Endpoint::load(block);
     let report = report_of(type_data, how);
-    finish(sending::send_data(e, report, body, out), block, written)
+    finish(
+        sending::send_data(e, report, body_of(how, body), out),
+        block,
+        written,
+    )
 }
 
 // Sends NOOP.

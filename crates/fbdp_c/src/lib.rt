@@ -3,9 +3,9 @@
 
 ghost use Rattle.open.specs.Offer.{offer_of};
 ghost use Rattle.endpoint.specs.Record.{fresh_client, fresh_server};
-ghost use Rattle.sending.specs.Calls.{datum_of, OPEN, READY, DATA, NOOP, CLOSE};
+ghost use Rattle.sending.specs.Calls.{OPEN, READY, DATA, NOOP, CLOSE};
 ghost use Rattle.sending.specs.Options.{asking, is_chosen};
-ghost use Rattle.fbdp.specs.Blocks.{MakeAnswer, report_of, SendOnBlock, ReceiveOnBlock};
+ghost use Rattle.fbdp.specs.Blocks.{MakeAnswer, datum_of, SendOnBlock, ReceiveOnBlock};
 ghost use Rattle.fbdp.specs.Entries.{InterfaceAnswer, FrameAnswer, ValueAnswer, LookupAnswer};
 
 // The number of the interface, which the name of the function has too.
@@ -98,7 +98,7 @@ pub extern "C" fn fbdp_send_data(
     out: &mut [u8],
     written: &mut u64,
 ) -> u32
-    ensures { SendOnBlock (DATA (datum_of (report_of type_data how) body.now)) block.old out.old result written.new block.new out.new }
+    ensures { SendOnBlock (DATA (datum_of type_data how body.now)) block.old out.old result written.new block.new out.new }
 {
     fbdp::fbdp_send_data(block, type_data, how, body, out, written)
 }

@@ -2,17 +2,19 @@
 use mathlib.Core.Path.{ap}
 use Prim.Native.Nat.{ℕ}
 use mathlib.Core.List.{List}
+use Rattle.std.specs.Prelude.{Result}
 use Rattle.open.specs.Offer.{Offer}
 use Rattle.endpoint.specs.declared.Endpoint.{Endpoint}
 use Rattle.receiving.specs.Numbers.{Received}
 use Rattle.receiving.specs.Receiving.{ReceiveAnswer}
-use Rattle.sending.specs.declared.Sent.{Sent}
+use Rattle.sending.specs.declared.Refusal.{Refusal}
+use Rattle.sending.specs.declared.Sent.{Sent as Accepted}
 use Rattle.sending.specs.Calls.{Call}
-use Rattle.sending.specs.Sending.{SendAnswer}
+use Rattle.sending.specs.Sending.{Sent, SendAnswer, sent_as}
 use Rattle.lent.specs.Lent.{told_of, outcome_of, SendOnLent, ReceiveOnLent}
 
-pub send_said : (e : Endpoint) (call : Call) (before : List ℕ) {sent : Sent} {after : List ℕ} → SendAnswer e call before sent after →
-    SendOnLent e call before (told_of sent) sent.next after
+pub send_said : (e : Endpoint) (call : Call) (before : List ℕ) {sent : Result Accepted Refusal} {after : List ℕ} → SendAnswer e call before sent after →
+    SendOnLent e call before (told_of (sent_as e sent)) (sent_as e sent).next after
 send_said e call before said =
     record { answered = ap told_of said.answered; changed = ap (λ (sent : Sent). sent.next) said.answered; left = said.left }
 

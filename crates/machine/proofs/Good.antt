@@ -24,9 +24,8 @@ use Rattle.receiving.specs.declared.Content.TheVariants.{Nothing, Opening, Body 
 use Rattle.receiving.specs.Numbers.{Received}
 use Rattle.receiving.specs.Hearing.{accepted, confirmed_by, confirms, hear_row, limited_by, moves_as}
 use Rattle.receiving.specs.Refusing.{refused, unchanged}
-use Rattle.sending.specs.declared.Sent.{Sent}
 use Rattle.sending.specs.Calls.{Call, OPEN, READY, DATA, NOOP, CLOSE, outgoing}
-use Rattle.sending.specs.Sending.{asked_by, number_for, send_row, sent_by}
+use Rattle.sending.specs.Sending.{Sent, asked_by, number_for, send_row, sent_by}
 use Rattle.sending.proofs.Decided.{all_passed}
 use Rattle.machine.specs.Good.{Fits, SentGood, Sound, HeardGood}
 use Rattle.machine.specs.Refusals.{said_by}

@@ -9,9 +9,8 @@ use Rattle.table.specs.Table.{moved}
 use Rattle.receiving.specs.Numbers.{Received}
 use Rattle.receiving.specs.Hearing.{accepted}
 use Rattle.receiving.specs.Refusing.{refused, unchanged}
-use Rattle.sending.specs.declared.Sent.{Sent}
 use Rattle.sending.specs.Calls.{outgoing}
-use Rattle.sending.specs.Sending.{asked_by, number_for, send_row, sent_by, unsent}
+use Rattle.sending.specs.Sending.{Sent, asked_by, number_for, send_row, sent_by, unsent}
 use Rattle.machine.specs.Refusals.{DoesAs, ReceiveDoes, RefusedSendStays}
 use Rattle.machine.proofs.Stages.{received_holds}
 

@@ -30,9 +30,8 @@ use Rattle.receiving.specs.declared.Content.TheVariants.{Nothing, Opening, Body 
 use Rattle.receiving.specs.Numbers.{Received}
 use Rattle.receiving.specs.Hearing.{accepted, confirmed_by, confirms, forbidden, hear_row, limited_by, matches_oldest, moves_as, unmatched}
 use Rattle.receiving.specs.Refusing.{refused, unchanged}
-use Rattle.sending.specs.declared.Sent.{Sent}
 use Rattle.sending.specs.Calls.{Call, OPEN, READY, DATA, NOOP, CLOSE, outgoing}
-use Rattle.sending.specs.Sending.{asked_by, is_full, number_for, send_row, sent_by, unsent}
+use Rattle.sending.specs.Sending.{Sent, asked_by, is_full, number_for, send_row, sent_by, unsent}
 use Rattle.sending.proofs.Decided.{all_passed}
 use Rattle.machine.specs.Good.{Sound}
 use Rattle.machine.specs.Programs.{Making, AsClient, AsServer, fresh_by}

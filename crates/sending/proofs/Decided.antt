@@ -7,7 +7,7 @@ use native.Mathlib.Omega.{arith}
 use lib.Dec.{eqb, lit<, ltb, leb}
 use lib.ListN.{length}
 use borrow.Author.Tests.{eq-eqb, eqb-false, eqb-true, le-ltb, ltb-false, ne_eqb, not-false}
-use Rattle.std.specs.Prelude.{Result}
+use Rattle.std.specs.Prelude.{Result, Ok, Err}
 use Rattle.bytes_be.specs.Part.{put_at}
 use Rattle.bytes_be.proofs.Tests.{took_second}
 use Rattle.bundle.proofs.Outputs.{one_long, two_long}
@@ -19,11 +19,13 @@ use Rattle.endpoint.specs.Record.{good, shut, capacity}
 use Rattle.table.specs.declared.Refusal.{Refusal}
 use Rattle.table.specs.declared.Step.{Step}
 use Rattle.table.specs.Table.{above_offer, moved, not_allowed, row_of}
-use Rattle.sending.specs.declared.Outgoing.{Outgoing}
-use Rattle.sending.specs.declared.Sent.{Sent}
-use Rattle.sending.specs.Calls.{bundle_with, flags_for, number_if}
+use Rattle.sending.specs.declared.Refusal.{Refusal as Send-refusal}
+use Rattle.sending.specs.declared.Refusal.TheVariants.{BadState, NoRoom, Closed, NotAllowed, AboveOffer, Full, TooLarge, BadOffer, BadCode}
+use Rattle.sending.specs.declared.Sent.{Sent as Accepted}
+use Rattle.sending.specs.Calls.{Outgoing, bundle_with, flags_for, number_if}
+use Rattle.sending.specs.Numbers.{refusal_number}
 use Rattle.sending.specs.Held.{plain}
-use Rattle.sending.specs.Sending.{Answered, asked_by, is_full, left_by, number_for, send_row, sent_by, sent_if}
+use Rattle.sending.specs.Sending.{Answered, Sent, asked_by, is_full, left_by, number_for, send_row, sent_as, sent_by, sent_if}
 
 not_zero : {k : ℕ} → 0 < k → k ≡ 0 → ⊥
 not_zero some e = omega arith
@@ -106,20 +108,40 @@ module _ (e : Endpoint) (o : Outgoing) (room : ℕ) where
   unfolding sent_by
   accepted_sent zero_number = ap (λ (number : ℕ). sent_if number e o (send_row e o)) (sym (number-if e o (send_row e o) room) ∙ zero_number)
 
-module _ (e : Endpoint) (o : Outgoing) (bytes before : List ℕ) (sent : Sent) (decided : sent ≡ sent_by e o (length before)) where
+-- no refusal is numbered 0
+refusal_numbered : (why : Send-refusal) → eqb (refusal_number why) 0 ≡ false
+refusal_numbered BadState = refl
+refusal_numbered NoRoom = refl
+refusal_numbered Closed = refl
+refusal_numbered NotAllowed = refl
+refusal_numbered AboveOffer = refl
+refusal_numbered Full = refl
+refusal_numbered TooLarge = refl
+refusal_numbered BadOffer = refl
+refusal_numbered BadCode = refl
+
+module _ (e : Endpoint) (o : Outgoing) (room : ℕ) where
+  -- what a test refuses is not sent
+  pub refused_sent : (why : Send-refusal) → refusal_number why ≡ number_for e o (send_row e o) room → sent_as e (Err why) ≡ sent_by e o room
+  unfolding sent_by
+  refused_sent why tested = simp (sym tested, refusal_numbered why)
+
+  -- and what none refuses is
+  pub passed_sent : (sent : Accepted) → 0 ≡ number_for e o (send_row e o) room → sent_as e (Ok sent) ≡ sent_if 0 e o (send_row e o) → sent_as e (Ok sent) ≡ sent_by e o room
+  unfolding sent_by
+  passed_sent sent tested accepted = simp (sym tested) accepted
+
+module _ (e : Endpoint) (o : Outgoing) (bytes before : List ℕ) where
   -- what is accepted has its bytes at the start of the output
-  pub wrote_bytes : (after : List ℕ) → sent.number ≡ 0 → after ≡ put_at before 0 bytes → Answered e o bytes before sent after
+  pub wrote_bytes : (after : List ℕ) (sent : Accepted) → sent_as e (Ok sent) ≡ sent_by e o (length before) → after ≡ put_at before 0 bytes
+      → Answered e o bytes before (Ok sent) after
   unfolding left_by
-  wrote_bytes after none put =
-      let number : (sent_by e o (length before)).number ≡ 0 = ap (λ (s : Sent). s.number) (sym decided) ∙ none in
-      record { answered = decided; left = simp number put }
+  wrote_bytes after sent decided put = record { answered = decided; left = simp (sym decided) put }
 
   -- what is refused leaves the output as it was
-  pub wrote_nothing : (sent.number ≡ 0 → ⊥) → Answered e o bytes before sent before
+  pub wrote_nothing : (why : Send-refusal) → sent_as e (Err why) ≡ sent_by e o (length before) → Answered e o bytes before (Err why) before
   unfolding left_by
-  wrote_nothing some =
-      let number : eqb (sent_by e o (length before)).number 0 ≡ false = ne_eqb _ _ (λ none. some (ap (λ (s : Sent). s.number) decided ∙ none)) in
-      record { answered = decided; left = simp number }
+  wrote_nothing why decided = record { answered = decided; left = simp (sym decided, refusal_numbered why) }
 
 -- the bundle of a control frame alone has 14 bytes, and with one data frame 18 more than that
 pub plain_long : (message : MessageType) (ask : Bool) (type-data : ℕ) → length (bundle_with message ask type-data []) ≡ 14

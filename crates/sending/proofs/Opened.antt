@@ -1,5 +1,7 @@
 -- An own OPEN, tested by what is given to it. Assumes nothing.
-use Rattle.std.specs.Prelude.{Result, Ok}
+use Rattle.std.specs.Prelude.{Result, Ok, Err}
+use Rattle.std.specs.Bool.{then_some}
+use Rattle.std.specs.Result.{is_err}
 use mathlib.Core.Path.{◌≡◌, ap, refl, sym}
 use Prim.Native.Nat.{◌+◌, ◌≤◌, ℕ}
 use mathlib.Core.List.{List, [], ◌∷◌}
@@ -17,11 +19,17 @@ use Rattle.open_write.specs.declared.BadOffer.{BadOffer}
 use Rattle.open_write.specs.Frame.{refused, is_good, frame_for, given_of, given_number, written}
 use Rattle.open_write.proofs.Fields.{frame_short}
 use Rattle.endpoint.specs.declared.Endpoint.{Endpoint}
-use Rattle.sending.specs.declared.Outgoing.{Outgoing}
-use Rattle.sending.specs.Calls.{OPEN, misgiven, number_if, bundle_with}
+use Rattle.sending.specs.declared.Refusal.TheVariants.{BadOffer as Own-refusal}
+use Rattle.sending.specs.Calls.{OPEN, Outgoing, misgiven, number_if, bundle_with}
+use Rattle.sending.specs.Numbers.{number_in}
 use Rattle.sending.specs.Held.{frame_size}
 use Rattle.sending.specs.Sending.{sent_by, send_of}
 use Rattle.sending.proofs.Decided.{longer, framed_long, refused_any}
+
+-- its own test refuses what is not given
+pub own_given : (given : Result ℕ BadOffer) → number_in (then_some (is_err given) Own-refusal) ≡ given_number given
+own_given (Ok size) = refl
+own_given (Err why) = refl
 
 -- what is tested, by what is given
 abbrev pub open_tested : Result ℕ BadOffer → Outgoing

@@ -1,6 +1,7 @@
 -- "Send": the five calls, and the message that each makes. "DATA takes type-data, one body (may be empty) and an ask for confirmation; NOOP
 -- takes type-data and the ask. .. OPEN takes the pipe name (1..255 bytes of UTF-8) and a format (0..255 bytes of UTF-8)."; and the choice of C-12.
-use Rattle.std.specs.Prelude.{ℕ, ◌+◌, List, [], ◌∷◌, Bool, true, false, cond, not, ◌&&◌, ◌||◌, length, ltb, leb, eqb}
+use Rattle.std.specs.Prelude.{ℕ, ◌+◌, List, [], ◌∷◌, Bool, true, false, cond, not, ◌&&◌, ◌||◌, length, ltb, leb, eqb, Option, Some, None}
+use Rattle.std.specs.Borrow.{Bor}
 use Rattle.bundle.specs.Writing.{bundle_of}
 use Rattle.control.specs.declared.MessageType.{MessageType}
 use Rattle.control.specs.declared.MessageType.TheVariants.{Open, Ready, Noop, Data, Close}
@@ -10,7 +11,6 @@ use Rattle.open_write.specs.Frame.{is_good, frame_for}
 use Rattle.endpoint.specs.declared.Endpoint.{Endpoint}
 use Rattle.endpoint.specs.Record.{server, opening}
 use Rattle.sending.specs.declared.Report.{Report}
-use Rattle.sending.specs.declared.Outgoing.{Outgoing}
 
 -- C-12: "DATA without ACK-REPLY may have no data frame or one, and a missing body is heard as such, apart from an empty one. Sending gets the
 -- same choice."
@@ -21,6 +21,11 @@ pub data Body : Type 0 where
 abbrev pub is_missing : Body → Bool
 is_missing Missing = true
 is_missing (Given bytes) = false
+
+-- what is lent for a body, if anything is
+abbrev pub body_in : Option (Bor (List ℕ)) → Body
+body_in None = Missing
+body_in (Some body) = Given body.now
 
 -- the data frames that it makes
 abbrev pub as_frames : Body → List (List ℕ)
@@ -41,10 +46,6 @@ pub record Datum : Type 0 where
 -- of what is told beside the body, and of a body
 abbrev pub datum_with : Report → Body → Datum
 datum_with report body = record { type-data = report.type_data; ask = report.ask; body = body }
-
--- of the bytes that are lent for a body, which are not looked at where there is to be none
-abbrev pub datum_of : Report → List ℕ → Datum
-datum_of report lent = datum_with report (cond report.no_body Missing (Given lent))
 
 pub data Call : Type 0 where
   OPEN : Offer → Call
@@ -124,6 +125,14 @@ bundle_with message ask type-data frames = bundle_of (bytes_of message (flags_fo
 -- the bytes of a call
 abbrev pub written : Endpoint → Call → List ℕ
 written e call = bundle_with (message_of call) (ask_of call) (type_data_of call) (data_frames e call)
+
+-- what is to be tested of an own message: its type, type-data and ask, the number of its own test or 0, and how many bytes its bundle has
+pub record Outgoing : Type 0 where
+  pub message : MessageType
+  pub type_data : ℕ
+  pub ask : Bool
+  pub own : ℕ
+  pub length : ℕ
 
 -- what is to be tested of a call
 abbrev pub outgoing : Endpoint → Call → Outgoing

@@ -2,8 +2,7 @@
 use Rattle.std.specs.Prelude.{ℕ, [], Bool, length, Result, Ok, Err}
 use Rattle.control.specs.declared.MessageType.{MessageType}
 use Rattle.open_write.specs.declared.BadOffer.{BadOffer}
-use Rattle.sending.specs.declared.Outgoing.{Outgoing}
-use Rattle.sending.specs.Calls.{bundle_with}
+use Rattle.sending.specs.Calls.{Outgoing, bundle_with}
 
 -- what is to be tested of a message without data frames
 abbrev pub plain : MessageType → ℕ → Bool → ℕ → Outgoing

@@ -1,6 +1,6 @@
 -- "Sends test 1, 3, 30, 31, 32, 33, 34, 35, 2." "An accepted send or reply writes its own bytes from the start of the output and nothing
 -- behind them."
-use Rattle.std.specs.Prelude.{ℕ, ◌≡◌, List, Bool, cond, not, ◌&&◌, length, ltb, leb, eqb, Err, Result}
+use Rattle.std.specs.Prelude.{ℕ, ◌≡◌, List, Bool, cond, not, ◌&&◌, length, ltb, leb, eqb, Ok, Err, Result}
 use Rattle.bytes_be.specs.Part.{put_at}
 use Rattle.control.specs.Frame.{type_of}
 use Rattle.endpoint.specs.declared.Endpoint.{Endpoint}
@@ -9,9 +9,10 @@ use Rattle.table.specs.declared.Refusal.TheVariants.{NotAllowed, AboveOffer}
 use Rattle.table.specs.declared.Refusal.{Refusal}
 use Rattle.table.specs.declared.Step.{Step}
 use Rattle.table.specs.Table.{row_of, send_number, not_allowed, above_offer, moved}
-use Rattle.sending.specs.declared.Outgoing.{Outgoing}
-use Rattle.sending.specs.declared.Sent.{Sent}
-use Rattle.sending.specs.Calls.{Call, outgoing, written}
+use Rattle.sending.specs.declared.Refusal.{Refusal as Send-refusal}
+use Rattle.sending.specs.declared.Sent.{Sent as Accepted}
+use Rattle.sending.specs.Calls.{Call, Outgoing, outgoing, written}
+use Rattle.sending.specs.Numbers.{refusal_number}
 
 -- the row of the table for an own message
 unfoldable pub send_row : Endpoint → Outgoing → Result Step Refusal
@@ -38,9 +39,20 @@ number_for e o row room =
 unfoldable pub asked_by : Endpoint → Outgoing → Endpoint
 asked_by e o = cond o.ask (asked e (record { message = type_of o.message; type_data = o.type_data })) e
 
+-- what comes of a send: 0 or the number that refuses it, the endpoint afterwards, and how many bytes are written
+pub record Sent : Type 0 where
+  pub number : ℕ
+  pub next : Endpoint
+  pub written : ℕ
+
 -- "All others change no byte."
 abbrev pub unsent : Endpoint → ℕ → Sent
 unsent e number = record { number = number; next = e; written = 0 }
+
+-- what an answer says of this endpoint: a refusal leaves it
+abbrev pub sent_as : Endpoint → Result Accepted Send-refusal → Sent
+sent_as e (Ok sent) = record { number = 0; next = sent.next; written = sent.written }
+sent_as e (Err why) = unsent e (refusal_number why)
 
 -- the number, the endpoint "After it", and how many bytes are written
 abbrev pub sent_if : ℕ → Endpoint → Outgoing → Result Step Refusal → Sent
@@ -61,9 +73,9 @@ unfoldable pub left_by : Sent → List ℕ → List ℕ → List ℕ
 left_by sent bytes out = cond (eqb sent.number 0) (put_at out 0 bytes) out
 
 -- what a send answers, and the output afterwards
-pub record Answered (e : Endpoint) (o : Outgoing) (bytes before : List ℕ) (sent : Sent) (after : List ℕ) : Type 0 where
-  pub answered : sent ≡ sent_by e o (length before)
+pub record Answered (e : Endpoint) (o : Outgoing) (bytes before : List ℕ) (sent : Result Accepted Send-refusal) (after : List ℕ) : Type 0 where
+  pub answered : sent_as e sent ≡ sent_by e o (length before)
   pub left : after ≡ left_by (sent_by e o (length before)) bytes before
 
-abbrev pub SendAnswer : Endpoint → Call → List ℕ → Sent → List ℕ → Type 0
+abbrev pub SendAnswer : Endpoint → Call → List ℕ → Result Accepted Send-refusal → List ℕ → Type 0
 SendAnswer e call before sent after = Answered e (outgoing e call) (written e call) before sent after

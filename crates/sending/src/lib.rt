@@ -1,18 +1,62 @@
 // Sending: which of an endpoint's own messages is allowed, what it writes, and what the endpoint becomes.
 #![tactic(auto)]
 
-ghost use Rattle.std.specs.Prelude.{◌≡◌, []};
+ghost use Rattle.std.specs.Prelude.{◌≡◌, [], Ok, ltb};
 ghost use Rattle.control.specs.Frame.{bytes_of};
+ghost use Rattle.numbered.specs.Numbered.{number_of};
 ghost use Rattle.open.specs.Offer.{offer_in};
-ghost use Rattle.sending.specs.Calls.{Given as Body-as-Given, datum_with, datum_of, OPEN, READY, DATA, NOOP, CLOSE, miscoded, number_if, flags_for, bundle_with};
+ghost use Rattle.sending.specs.Calls.{Given as Body-as-Given, body_in, datum_with, OPEN, READY, DATA, NOOP, CLOSE, miscoded, number_if, flags_for, bundle_with};
 ghost use Rattle.sending.specs.Held.{plain, frame_size};
-ghost use Rattle.sending.specs.Sending.{send_row, is_full, number_for, asked_by, sent_if, sent_by, Answered, SendAnswer};
+ghost use Rattle.sending.specs.Numbers.{refusal_number, number_in, outgoing_in};
+ghost use Rattle.sending.specs.Sending.{send_row, is_full, number_for, asked_by, sent_as, sent_if, sent_by, Answered, SendAnswer};
 
 use control::MessageType;
 use endpoint::{Endpoint, Entry};
+use numbered::Numbered;
 use open::Offer;
 use open_write::BadOffer;
-use table::{Refusal, Step};
+use table::Step;
+
+// Why a message is not sent.
+#[derive(Clone, Copy, Debug, PartialEq, Eq)]
+pub enum Refusal {
+    // The record is not good.
+    BadState,
+    // The output is too short for the message.
+    NoRoom,
+    // The pipe is closed.
+    Closed,
+    // Role, flow or phase does not allow the message now.
+    NotAllowed,
+    // A READY counts more than was offered.
+    AboveOffer,
+    // An ask with sixteen confirmations awaited.
+    Full,
+    // DATA is above the limit.
+    TooLarge,
+    // A bad pipe name or format.
+    BadOffer,
+    // A code that CLOSE may not have.
+    BadCode,
+}
+
+impl Numbered for Refusal {
+    ghost number = { refusal_number };
+
+    fn number(&self) -> u8 {
+        match self {
+            Refusal::BadState => 1,
+            Refusal::NoRoom => 2,
+            Refusal::Closed => 3,
+            Refusal::NotAllowed => 30,
+            Refusal::AboveOffer => 31,
+            Refusal::Full => 32,
+            Refusal::TooLarge => 33,
+            Refusal::BadOffer => 34,
+            Refusal::BadCode => 35,
+        }
+    }
+}
 
 // What a send of DATA is told beside the body.
 #[derive(Clone, Copy)]
@@ -20,8 +64,6 @@ pub struct Report {
     pub type_data: u16,
     // Whether it asks for a confirmation.
     pub ask: bool,
-    // Whether it is sent without a body, whatever is lent for one.
-    pub no_body: bool,
 }
 
 // What is to be tested of an own message.
@@ -31,67 +73,72 @@ pub struct Outgoing {
     pub type_data: u16,
     // Whether it asks for a confirmation.
     pub ask: bool,
-    // Which of 33, 34 and 35 refuses it, or 0.
-    pub own: u8,
+    // What refuses this type of message alone: TooLarge, BadOffer or BadCode.
+    pub own: Option<Refusal>,
     // How many bytes its bundle has.
     pub length: usize,
 }
 
-// What came of a send.
+// What comes of a send that is accepted.
 #[derive(Clone, Copy)]
 pub struct Sent {
-    // 0, or the number of 01 that refuses it.
-    pub number: u8,
     pub next: Endpoint,
     // How many bytes of the output are the message.
     pub written: usize,
 }
 
-fn send_row(e: Endpoint, o: Outgoing) -> Result<Step, Refusal>
-    ensures { result ≡ send_row e o }
+#[tactic(auto, unfolding(crate::specs::Sending::send_row))]
+fn send_row(e: Endpoint, o: Outgoing) -> Result<Step, table::Refusal>
+    ensures { result ≡ send_row e (outgoing_in o) }
 {
     let message = o.message;
     table::row_of(e.role, e.flow, e.phase, e.n, message, o.type_data)
 }
 
-// The first test that refuses, or 0.
+// The first test that refuses.
 #[tactic(auto, unfolding(crate::specs::Sending::number_for))]
-fn number_for(e: Endpoint, o: Outgoing, row: Result<Step, Refusal>, room: usize) -> u8
-    ensures { result ≡ number_for e o row room }
+fn tested(
+    e: Endpoint,
+    o: Outgoing,
+    row: Result<Step, table::Refusal>,
+    room: usize,
+) -> Result<(), Refusal>
+    ensures { number_of refusal_number result ≡ number_for e (outgoing_in o) row room }
 {
     if !e.good() {
-        return 1;
+        return Err(Refusal::BadState);
     }
     if e.phase == 5 {
-        return 3;
+        return Err(Refusal::Closed);
     }
-    if table::not_allowed(row) {
-        return 30;
-    }
-    if table::above_offer(row) {
-        return 31;
+    match row {
+        Err(table::Refusal::NotAllowed) => return Err(Refusal::NotAllowed),
+        Err(table::Refusal::AboveOffer) => return Err(Refusal::AboveOffer),
+        Ok(_) => {}
     }
     if is_full(e, o) {
-        return 32;
+        return Err(Refusal::Full);
     }
-    if o.own != 0 {
-        return o.own;
+    if let Some(why) = o.own {
+        return Err(why);
     }
     if room < o.length {
-        return 2;
+        return Err(Refusal::NoRoom);
     }
-    0
+    Ok(())
 }
 
 // An ask with sixteen confirmations awaited.
+#[tactic(auto, unfolding(crate::specs::Sending::is_full))]
 fn is_full(e: Endpoint, o: Outgoing) -> bool
-    ensures { result ≡ is_full e o }
+    ensures { result ≡ is_full e (outgoing_in o) }
 {
     o.ask & (16 <= e.w)
 }
 
+#[tactic(auto, unfolding(crate::specs::Sending::asked_by))]
 fn asked_by(e: Endpoint, o: Outgoing) -> Endpoint
-    ensures { result ≡ asked_by e o }
+    ensures { result ≡ asked_by e (outgoing_in o) }
 {
     let message = o.message;
     let entry = Entry {
@@ -104,40 +151,24 @@ fn asked_by(e: Endpoint, o: Outgoing) -> Endpoint
     e
 }
 
-fn sent_if(number: u8, e: Endpoint, o: Outgoing, row: Result<Step, Refusal>) -> Sent
-    ensures { result ≡ sent_if number e o row }
+// What comes of a message that no test refuses.
+fn accepted(e: Endpoint, o: Outgoing, row: Result<Step, table::Refusal>) -> Sent
+    ensures { sent_as e (Ok result) ≡ sent_if 0 e (outgoing_in o) row }
 {
-    if number == 0 {
-        return Sent {
-            number: 0,
-            next: asked_by(table::moved(e, row), o),
-            written: o.length,
-        };
-    }
     Sent {
-        number,
-        next: e,
-        written: 0,
+        next: asked_by(table::moved(e, row), o),
+        written: o.length,
     }
 }
 
 // What comes of an own message where the output has so much room, before anything is written. A good record stays good by what is tested of a
 // call; of any other message that is not said.
-pub fn decide(e: Endpoint, o: Outgoing, room: usize) -> Sent
-    ensures { result ≡ sent_by e o room }
+pub fn decide(e: Endpoint, o: Outgoing, room: usize) -> Result<Sent, Refusal>
+    ensures { sent_as e result ≡ sent_by e (outgoing_in o) room }
 {
     let row = send_row(e, o);
-    sent_if(number_for(e, o, row, room), e, o, row)
-}
-
-// The number of a test where it applies, else 0.
-fn number_if(applies: bool, number: u8) -> u8
-    ensures { result ≡ number_if applies number }
-{
-    if applies {
-        return number;
-    }
-    0
+    tested(e, o, row, room)?;
+    Ok(accepted(e, o, row))
 }
 
 fn flags_for(ask: bool) -> u8
@@ -161,10 +192,10 @@ fn send_plain(
     message: MessageType,
     type_data: u16,
     ask: bool,
-    own: u8,
+    own: Option<Refusal>,
     out: &mut [u8],
-) -> Sent
-    ensures { Answered e (plain message type_data ask own) (bundle_with message ask type_data []) out.old result out.new }
+) -> Result<Sent, Refusal>
+    ensures { Answered e (plain message type_data ask (number_in own)) (bundle_with message ask type_data []) out.old result out.new }
 {
     let o = Outgoing {
         message,
@@ -173,27 +204,26 @@ fn send_plain(
         own,
         length: 14,
     };
-    let sent = decide(e, o, out.len());
-    if sent.number == 0 {
-        bundle::write_one(out, control_frame(message, ask, type_data));
-    }
-    sent
+    let sent = decide(e, o, out.len())?;
+    bundle::write_one(out, control_frame(message, ask, type_data));
+    Ok(sent)
 }
 
 // Sends READY with this count.
-pub fn send_ready(e: Endpoint, count: u16, out: &mut [u8]) -> Sent
+pub fn send_ready(e: Endpoint, count: u16, out: &mut [u8]) -> Result<Sent, Refusal>
     ensures { SendAnswer e (READY count) out.old result out.new }
 {
-    send_plain(e, MessageType::Ready, count, false, 0, out)
+    send_plain(e, MessageType::Ready, count, false, None, out)
 }
 
 // Sends NOOP, with an ask for confirmation or without.
-pub fn send_noop(e: Endpoint, type_data: u16, ask: bool, out: &mut [u8]) -> Sent
+pub fn send_noop(e: Endpoint, type_data: u16, ask: bool, out: &mut [u8]) -> Result<Sent, Refusal>
     ensures { SendAnswer e (NOOP type_data ask) out.old result out.new }
 {
-    send_plain(e, MessageType::Noop, type_data, ask, 0, out)
+    send_plain(e, MessageType::Noop, type_data, ask, None, out)
 }
 
+#[tactic(auto, unfolding(crate::specs::Calls::miscoded, crate::specs::Calls::good_code))]
 fn is_miscoded(e: Endpoint, code: u16) -> bool
     ensures { result ≡ miscoded e code }
 {
@@ -201,42 +231,54 @@ fn is_miscoded(e: Endpoint, code: u16) -> bool
 }
 
 // Sends CLOSE with this code.
-pub fn send_close(e: Endpoint, code: u16, out: &mut [u8]) -> Sent
+#[tactic(auto, unfolding(crate::specs::Calls::number_if))]
+pub fn send_close(e: Endpoint, code: u16, out: &mut [u8]) -> Result<Sent, Refusal>
     ensures { SendAnswer e (CLOSE code) out.old result out.new }
 {
-    let own = number_if(is_miscoded(e, code), 35);
+    let own = is_miscoded(e, code).then_some(Refusal::BadCode);
     send_plain(e, MessageType::Close, code, false, own, out)
 }
 
+// Refuses DATA of this many bytes above the limit.
+#[tactic(auto, unfolding(crate::specs::Calls::number_if))]
+fn too_large(e: Endpoint, size: usize) -> Option<Refusal>
+    ensures { number_in result ≡ number_if (ltb e.limit size) 33 }
+{
+    ((e.limit as usize) < size).then_some(Refusal::TooLarge)
+}
+
 // Sends DATA with this body, which is copied once.
-fn send_body(e: Endpoint, report: Report, body: &[u8], out: &mut [u8]) -> Sent
+fn send_body(e: Endpoint, report: Report, body: &[u8], out: &mut [u8]) -> Result<Sent, Refusal>
     ensures { SendAnswer e (DATA (datum_with report (Body-as-Given body.now))) out.old result out.new }
 {
-    let large = (e.limit as usize) < 8 + body.len();
+    let own = too_large(e, 8 + body.len());
     let length = 18 + body.len();
     let o = Outgoing {
         message: MessageType::Data,
         type_data: report.type_data,
         ask: report.ask,
-        own: number_if(large, 33),
+        own,
         length,
     };
-    let sent = decide(e, o, out.len());
-    if sent.number == 0 {
-        let frame = control_frame(MessageType::Data, report.ask, report.type_data);
-        bundle::write_two(out, frame, body);
-    }
-    sent
+    let sent = decide(e, o, out.len())?;
+    let frame = control_frame(MessageType::Data, report.ask, report.type_data);
+    bundle::write_two(out, frame, body);
+    Ok(sent)
 }
 
 // Sends DATA with this body, or without one.
-pub fn send_data(e: Endpoint, report: Report, body: &[u8], out: &mut [u8]) -> Sent
-    ensures { SendAnswer e (DATA (datum_of report body.now)) out.old result out.new }
+pub fn send_data(
+    e: Endpoint,
+    report: Report,
+    body: Option<&[u8]>,
+    out: &mut [u8],
+) -> Result<Sent, Refusal>
+    ensures { SendAnswer e (DATA (datum_with report (body_in body.entry))) out.old result out.new }
 {
-    if report.no_body {
-        let own = number_if(e.limit < 8, 33);
+    let Some(body) = body else {
+        let own = too_large(e, 8);
         return send_plain(e, MessageType::Data, report.type_data, report.ask, own, out);
-    }
+    };
     send_body(e, report, body, out)
 }
 
@@ -248,7 +290,7 @@ fn frame_size(given: Result<usize, BadOffer>) -> usize
 }
 
 // Sends OPEN for this pipe name and this format.
-pub fn send_open(e: Endpoint, offer: Offer, out: &mut [u8]) -> Sent
+pub fn send_open(e: Endpoint, offer: Offer, out: &mut [u8]) -> Result<Sent, Refusal>
     ensures { SendAnswer e (OPEN (offer_in offer.entry)) out.old result out.new }
 {
     let given = open_write::given_of(e.flow, offer, e.limit);
@@ -257,17 +299,15 @@ pub fn send_open(e: Endpoint, offer: Offer, out: &mut [u8]) -> Sent
         message: MessageType::Open,
         type_data: 0,
         ask: false,
-        own: numbered::number_of(&given),
+        own: given.is_err().then_some(Refusal::BadOffer),
         length: 18 + frame,
     };
-    let sent = decide(e, o, out.len());
-    if sent.number == 0 {
-        bundle::write_head(
-            out,
-            control_frame(MessageType::Open, false, 0),
-            frame as u32,
-        );
-        open_write::write(out, 18, e.flow, offer, e.limit);
-    }
-    sent
+    let sent = decide(e, o, out.len())?;
+    bundle::write_head(
+        out,
+        control_frame(MessageType::Open, false, 0),
+        frame as u32,
+    );
+    open_write::write(out, 18, e.flow, offer, e.limit);
+    Ok(sent)
 }

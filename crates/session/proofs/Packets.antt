@@ -19,10 +19,8 @@ use Rattle.table.specs.declared.Refusal.TheVariants.{NotAllowed, AboveOffer}
 use Rattle.table.specs.declared.Refusal.{Refusal}
 use Rattle.table.specs.declared.Step.{Step}
 use Rattle.table.specs.Table.{To, above_offer, at_row, moved, not_allowed, row_of}
-use Rattle.sending.specs.declared.Outgoing.{Outgoing}
-use Rattle.sending.specs.declared.Sent.{Sent}
-use Rattle.sending.specs.Calls.{Call, OPEN, READY, DATA, NOOP, CLOSE, message_of, type_data_of, ask_of, outgoing}
-use Rattle.sending.specs.Sending.{asked_by, is_full, send_of, send_row}
+use Rattle.sending.specs.Calls.{Outgoing, Call, OPEN, READY, DATA, NOOP, CLOSE, message_of, type_data_of, ask_of, outgoing}
+use Rattle.sending.specs.Sending.{Sent, asked_by, is_full, send_of, send_row}
 use Rattle.sending.proofs.Decided.{accepted_passed, accepted_sent}
 use Rattle.machine.specs.Good.{Sound, Fits}
 use Rattle.machine.proofs.Good.{sent_good}

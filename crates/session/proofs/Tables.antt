@@ -34,8 +34,7 @@ use Rattle.machine.specs.Programs.{outcome_of, Making, AsClient, AsServer, fresh
 use Rattle.bytes_be.proofs.Parts.{length_tabulate}
 use Rattle.receiving.specs.Numbers.{Received}
 use Rattle.receiving.specs.Receiving.{received_of}
-use Rattle.sending.specs.declared.Sent.{Sent}
-use Rattle.sending.specs.Sending.{is_full, send_of, send_row}
+use Rattle.sending.specs.Sending.{Sent, is_full, send_of, send_row}
 use Rattle.machine.specs.Good.{Fits, Sound}
 use Rattle.machine.proofs.Refusals.{refused_send_stays}
 use Rattle.session.specs.World.{Makings, Side}

@@ -1,5 +1,6 @@
 -- `sending::send_plain` meets its contract: the bundle of a control frame alone is written where the send is accepted.
 -- Assumes nothing.
+use borrow.Author.Rules.{rules}
 use mathlib.Core.Path.{◌∙◌, ◌≡◌, ap}
 use Prim.Native.Nat.{ℕ}
 use mathlib.Core.List.{List, [], ◌∷◌}
@@ -10,22 +11,24 @@ use Rattle.bundle.proofs.Outputs.{left_put, one_made}
 use Rattle.control.proofs.Round.{length_control}
 use Rattle.sending.specs.Calls.{bundle_with, flags_for}
 use Rattle.sending.specs.Held.{plain}
+use Rattle.sending.specs.Numbers.{number_in}
 use Rattle.sending.proofs.Decided.{plain_decided, wrote_bytes, wrote_nothing}
 use Rattle.sending.proofs.send_plain.Goals as goal
 
-pub returns-then-sent-eq0 : goal.returns-then-sent-eq0
+pub returns : goal.returns
 unfolding bundle_with
-returns-then-sent-eq0 c =
+returns c =
     let a = c.args in
-    let is_decided = c.decide-sent.ensures ∙ plain_decided a.e a.message a.ask a.type_data a.own (length a.out.now) in
+    let is_decided = c.in_ok-sent.ensures ∙ plain_decided a.e a.message a.ask a.type_data (number_in a.own) (length a.out.now) in
     let frame = c.control_frame.result in
     let eight : length frame ≡ 8 = ap length c.control_frame.ensures ∙ length_control a.message (flags_for a.ask) a.type_data in
     let put = left_put (frame ∷ []) a.out.now (one_made frame eight a.out.now) c.write_one.ensures in
     let said = ap (λ (f : List ℕ). put_at a.out.now 0 (bundle_of (f ∷ []))) c.control_frame.ensures in
-    wrote_bytes a.e (plain a.message a.type_data a.ask a.own) _ a.out.now c.decide-sent.result is_decided _ c.if-sent-eq0.true (put ∙ said)
+    wrote_bytes a.e (plain a.message a.type_data a.ask (number_in a.own)) _ a.out.now _ c.in_ok-sent.sent is_decided (put ∙ said)
 
-pub returns-else-sent-eq0 : goal.returns-else-sent-eq0
-returns-else-sent-eq0 c =
+pub returns-in_err-sent : goal.returns-in_err-sent
+returns-in_err-sent c =
     let a = c.args in
-    let is_decided = c.decide-sent.ensures ∙ plain_decided a.e a.message a.ask a.type_data a.own (length a.out.now) in
-    wrote_nothing a.e (plain a.message a.type_data a.ask a.own) _ a.out.now c.decide-sent.result is_decided c.if-sent-eq0.false
+    let is_decided = c.in_err-sent.ensures ∙ plain_decided a.e a.message a.ask a.type_data (number_in a.own) (length a.out.now) in
+    let h = wrote_nothing a.e (plain a.message a.type_data a.ask (number_in a.own)) (bundle_with a.message a.ask a.type_data []) a.out.now _ is_decided in
+    search rules
