@@ -4,9 +4,8 @@
 ghost use Rattle.std.specs.Prelude.{◌≡◌};
 ghost use Rattle.control.specs.Frame.{type_of, signed_of, version_of, known_type_of, control_of, refusal_number, bytes_of};
 
-use numbered::Numbered;
-
 use bytes_be::Number;
+use numbered::Numbered;
 
 // The five types of message.
 #[derive(Clone, Copy, Debug, PartialEq, Eq)]

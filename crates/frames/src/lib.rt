@@ -62,10 +62,7 @@ impl<'a> Reader<'a> {
 pub fn hand_out(bundle: &[u8], position: usize) -> Handed
     ensures { result ≡ handed_at bundle.now position }
 {
-    let mut reader = Reader {
-        bundle,
-        position,
-    };
+    let mut reader = Reader { bundle, position };
     let frame = reader.next();
     Handed {
         frame,

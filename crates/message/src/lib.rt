@@ -129,10 +129,7 @@ pub fn body_place(body: Option<Place>) -> Place
 fn refused(why: Reason, said: u8) -> Result<Message, Refusal>
     ensures { result ≡ Reading·refused why said }
 {
-    Err(Refusal {
-        why,
-        said,
-    })
+    Err(Refusal { why, said })
 }
 
 // A message whose type is known, or the first of 14 and 15 that refuses it.
