@@ -21,7 +21,7 @@ use Rattle.endpoint.proofs.Round.{block_told, byte_six_counts, loaded_good, load
 use Rattle.endpoint.proofs.Stored.{length_block}
 use Rattle.receiving.specs.Numbers.{Answer, Heard, Stays, Closes, Received}
 use Rattle.receiving.specs.Receiving.{answer_number, received_of, replied}
-use Rattle.receiving.specs.Refusing.{unchanged, replying}
+use Rattle.receiving.specs.Refusing.{unchanged}
 use Rattle.sending.specs.Calls.{Call, outgoing, written}
 use Rattle.sending.specs.Sending.{Sent, left_by, send_of}
 use Rattle.sending.proofs.Decided.{accepted_passed, accepted_sent}

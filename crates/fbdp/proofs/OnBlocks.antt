@@ -6,7 +6,6 @@ use mathlib.Core.List.{List}
 use mathlib.Core.Bool.{false}
 use Rattle.bytes_be.proofs.Parts.{put_nothing}
 use Rattle.open.specs.Offer.{Offer}
-use Rattle.endpoint.specs.declared.Endpoint.{Endpoint}
 use Rattle.endpoint.specs.Block.{is_good, load_of}
 use Rattle.endpoint.specs.Record.{good}
 use Rattle.endpoint.proofs.Round.{loaded_good}
