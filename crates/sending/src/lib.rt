@@ -187,6 +187,7 @@ fn control_frame(message: MessageType, ask: bool, type_data: u16) -> [u8; 8]
 }
 
 // Sends a message without a data frame.
+#[tactic(auto, using(crate::proofs::Decided::wrote_nothing, crate::proofs::Decided::plain_decided))]
 fn send_plain(
     e: Endpoint,
     message: MessageType,
@@ -267,6 +268,7 @@ fn send_body(e: Endpoint, report: Report, body: &[u8], out: &mut [u8]) -> Result
 }
 
 // Sends DATA with this body, or without one.
+#[tactic(auto, unfolding(crate::specs::Calls::above_limit))]
 pub fn send_data(
     e: Endpoint,
     report: Report,

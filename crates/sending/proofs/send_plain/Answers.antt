@@ -1,6 +1,5 @@
 -- `sending::send_plain` meets its contract: the bundle of a control frame alone is written where the send is accepted.
 -- Assumes nothing.
-use borrow.Author.Rules.{rules}
 use mathlib.Core.Path.{◌∙◌, ◌≡◌, ap}
 use Prim.Native.Nat.{ℕ}
 use mathlib.Core.List.{List, [], ◌∷◌}
@@ -12,7 +11,7 @@ use Rattle.control.proofs.Round.{length_control}
 use Rattle.sending.specs.Calls.{bundle_with, flags_for}
 use Rattle.sending.specs.Held.{plain}
 use Rattle.sending.specs.Numbers.{number_in}
-use Rattle.sending.proofs.Decided.{plain_decided, wrote_bytes, wrote_nothing}
+use Rattle.sending.proofs.Decided.{plain_decided, wrote_bytes}
 use Rattle.sending.proofs.send_plain.Goals as goal
 
 pub returns : goal.returns
@@ -25,10 +24,3 @@ returns c =
     let put = left_put (frame ∷ []) a.out.now (one_made frame eight a.out.now) c.write_one.ensures in
     let said = ap (λ (f : List ℕ). put_at a.out.now 0 (bundle_of (f ∷ []))) c.control_frame.ensures in
     wrote_bytes a.e (plain a.message a.type_data a.ask (number_in a.own)) _ a.out.now _ c.in_ok-sent.sent is_decided (put ∙ said)
-
-pub returns-in_err-sent : goal.returns-in_err-sent
-returns-in_err-sent c =
-    let a = c.args in
-    let is_decided = c.in_err-sent.ensures ∙ plain_decided a.e a.message a.ask a.type_data (number_in a.own) (length a.out.now) in
-    let h = wrote_nothing a.e (plain a.message a.type_data a.ask (number_in a.own)) (bundle_with a.message a.ask a.type_data []) a.out.now _ is_decided in
-    search rules
