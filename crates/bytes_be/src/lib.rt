@@ -70,8 +70,9 @@ pub fn copy_at(out: &mut [u8], at: usize, bytes: &[u8])
 {
     let fits = holds(out.len(), at, bytes.len());
     if fits {
-        let end = at + bytes.len();
-        out[at..end].copy_from_slice(bytes);
+        for i in 0..bytes.len() {
+            out[at + i] = bytes[i];
+        }
     }
 }
 
