@@ -64,7 +64,8 @@ pub fn same(a: &[u8], b: &[u8]) -> bool
     a == b
 }
 
-// Copies `bytes` into `out` from place `at` on. Where they do not all fit, `out` stays as it is.
+// Copies `bytes` into `out` from place `at` on. Where they do not all fit, `out` stays as it is. The archive calls memcpy and nothing else, and the
+// library's copy is a memmove.
 pub fn copy_at(out: &mut [u8], at: usize, bytes: &[u8])
     ensures { out.new ≡ put_at out.old at bytes.now }
 {
