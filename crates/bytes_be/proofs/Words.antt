@@ -1,19 +1,23 @@
 -- Laws of the number that bytes say backwards, the least significant first, at any width: which bytes are below 128, and which lists are
 -- the same. Assumes nothing.
 use mathlib.Core.Path.{◌≡◌, refl, sym, ap, ap₂, ◌∙◌}
-use mathlib.Core.List.{List, [], ◌∷◌, reverse, reverse-cons}
+use mathlib.Core.List.{List, [], ◌∷◌, ◌++◌, reverse, reverse-cons}
+use mathlib.Core.Bool.{Bool, true, false}
 use mathlib.Core.Logic.{◌↔◌}
 use Prim.Native.Nat.{ℕ, zero, suc, ◌+◌, ◌*◌, ◌/◌, ◌%◌, ◌≤◌, ◌<◌}
 use native.Mathlib.Nat.{add-zero, mod-eq_of_lt}
 use native.Mathlib.Omega.{arith}
-use lib.Dec.{lit<}
+use lib.Dec.{lit<, eqb}
 use lib.Bits.{bit_and, and_block, and_mask, and_zero_r}
-use lib.ListN.{length, get_or}
-use Rattle.bytes_be.specs.Part.{part}
+use lib.ListN.{length, get_or, drop, length-drop, take-append-drop}
+use lib.Seq.{take_all}
+use borrow.Author.Tests.{eqb-true, eqb-false}
+use Rattle.bytes_be.specs.Part.{part, same}
 use Rattle.bytes_be.specs.Number.{from_bytes, from_bytes_behind}
-use Rattle.bytes_be.proofs.Parts.{length_part}
+use Rattle.bytes_be.proofs.Parts.{length_part, part_then, part_part}
 use Rattle.bytes_be.proofs.Numbers.{Bytes, from_more, bytes_part}
 use Rattle.bytes_be.proofs.Filled.{last_elements}
+use Rattle.bytes_be.proofs.Sameness.{equal_same, not_same}
 
 -- eight bytes, the last one first
 pub eight_backwards : (bytes : List ℕ) → length bytes ≡ 8 →
@@ -86,3 +90,32 @@ pub same_parts : (xs ys : List ℕ) → Bytes xs → Bytes ys → (at width : �
     from_bytes (reverse (part xs at width)) ≡ from_bytes (reverse (part ys at width)) → part xs at width ≡ part ys at width
 same_parts xs ys hx hy at width lx ly =
     same_number (part xs at width) (part ys at width) (bytes_part xs at width hx) (bytes_part ys at width hy) (length_part xs at width lx ∙ sym (length_part ys at width ly))
+
+-- lists are the same that are so up to one place, and from another in front of it on
+same_ends : {A : Type 0} (xs ys : List A) (from at : ℕ) → from ≤ at → part xs 0 at ≡ part ys 0 at → drop from xs ≡ drop from ys → xs ≡ ys
+same_ends {A} xs ys from at less front end =
+    let short : part xs 0 from ≡ part ys 0 from = sym (part_part xs 0 at 0 from (omega arith)) ∙ ap (λ (l : List A). part l 0 from) front ∙ part_part ys 0 at 0 from (omega arith) in
+    sym (take-append-drop from xs) ∙ ap₂ (λ (l m : List A). l ++ m) short end ∙ take-append-drop from ys
+
+-- two lists are compared so many bytes at a time, and are the same up to a place
+module _ (xs ys : List ℕ) (hx : Bytes xs) (hy : Bytes ys) (long : length xs ≡ length ys) (at width : ℕ) (front : part xs 0 at ≡ part ys 0 at) where
+  -- they are so behind the next bytes too, if these say the same number
+  pub same_further : at + width ≤ length xs → from_bytes (reverse (part xs at width)) ≡ from_bytes (reverse (part ys at width)) → part xs 0 (at + width) ≡ part ys 0 (at + width)
+  same_further inside e =
+      sym (part_then xs 0 at width at (omega arith))
+      ∙ ap₂ (λ (l m : List ℕ). l ++ m) front (same_parts xs ys hx hy at width inside (omega arith) e)
+      ∙ part_then ys 0 at width at (omega arith)
+
+  -- the whole lists are the same exactly if their last bytes say the same number, where all in front of those were compared
+  pub same_last : (last n m : ℕ) → last + width ≡ length xs → last ≤ at → n ≡ from_bytes (reverse (part xs last width)) → m ≡ from_bytes (reverse (part ys last width)) → eqb n m ≡ same xs ys
+  same_last last n m end less en em = go (eqb n m) refl
+    where
+      tail : (zs : List ℕ) → length zs ≡ length xs → part zs last width ≡ drop last zs
+      tail zs e = take_all width (drop last zs) (omega (arith, length-drop last zs))
+
+      go : (t : Bool) → eqb n m ≡ t → t ≡ same xs ys
+      go true e =
+          let Part-same = same_parts xs ys hx hy last width (omega arith) (omega arith) (sym en ∙ eqb-true n m e ∙ em) in
+          let equal = same_ends xs ys last at less front (sym (tail xs refl) ∙ Part-same ∙ tail ys (sym long)) in
+          sym (rw equal (equal_same ys))
+      go false e = not_same xs ys (λ equal. eqb-false n m e (en ∙ ap (λ (l : List ℕ). from_bytes (reverse (part l last width))) equal ∙ sym em))

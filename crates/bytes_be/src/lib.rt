@@ -42,14 +42,11 @@ pub fn holds(n: usize, at: usize, size: usize) -> bool
     at <= n - size
 }
 
-// The number that the eight bytes at place `at` say, the least significant first, or 0 where they do not all lie in s.
-pub fn word_at(s: &[u8], at: usize) -> u64
-    ensures { result ≡ cond (Part·holds (length s.now) at 8) (from_bytes (reverse (part s.now at 8))) 0 }
+// The number that the eight bytes at place `at` say, the least significant first.
+fn word(s: &[u8], at: usize) -> u64
+    requires { at + 8 ≤ length s.now }
+    ensures { result ≡ from_bytes (reverse (part s.now at 8)) }
 {
-    let fits = holds(s.len(), at, 8);
-    if !fits {
-        return 0;
-    }
     let end = at + 8;
     let Ok(bytes) = <[u8; 8]>::try_from(&s[at..end]) else {
         return 0;
@@ -57,11 +54,42 @@ pub fn word_at(s: &[u8], at: usize) -> u64
     u64::from_le_bytes(bytes)
 }
 
-// Whether two slices have the same bytes.
+// The same, or 0 where they do not all lie in s.
+pub fn word_at(s: &[u8], at: usize) -> u64
+    ensures { result ≡ cond (Part·holds (length s.now) at 8) (from_bytes (reverse (part s.now at 8))) 0 }
+{
+    let fits = holds(s.len(), at, 8);
+    if !fits {
+        return 0;
+    }
+    word(s, at)
+}
+
+// Whether two slices of one length have the same bytes, eight at a time; the last eight may begin among those that were compared before.
+fn same_words(a: &[u8], b: &[u8]) -> bool
+    requires { (length a.now ≡ length b.now) × (8 ≤ length a.now) }
+    ensures { result ≡ Part·same a.now b.now }
+{
+    let last = a.len() - 8;
+    for at in (0..last).step_by(8) {
+        if word(a, at) != word(b, at) {
+            return false;
+        }
+    }
+    word(a, last) == word(b, last)
+}
+
+// Whether two slices have the same bytes. Those of the length of most names and keys are compared by words, which costs no call.
 pub fn same(a: &[u8], b: &[u8]) -> bool
     ensures { result ≡ Part·same a.now b.now }
 {
-    a == b
+    if a.len() != b.len() {
+        return false;
+    }
+    if a.len() < 8 || 40 <= a.len() {
+        return a == b;
+    }
+    same_words(a, b)
 }
 
 // Copies `bytes` into `out` from place `at` on. Where they do not all fit, `out` stays as it is. The archive calls memcpy and nothing else, and the

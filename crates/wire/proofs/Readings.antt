@@ -16,35 +16,20 @@ use Rattle.wire.specs.declared.Varint.{Varint}
 use Rattle.wire.specs.declared.Field.{Field}
 use Rattle.wire.specs.declared.Fault.{Fault}
 use Rattle.wire.specs.Varint.{Said, varint_of, varint_at}
-use Rattle.wire.specs.Fields.{Reading, of_field, fault, on_varint, sized, numbered, payload_at, tagged, field_at, and_behind, fields_within, fields_of}
+use Rattle.wire.specs.Fields.{Reading, fault, on_varint, sized, numbered, payload_at, tagged, field_at, and_behind, fields_within, fields_of}
 use Rattle.wire.proofs.Varints.{same_varint, varint_within}
 
 -- what follows a varint of a field, by what came of it
-module _ (tag : ℕ) (then : ℕ → ℕ → Reading) (w : Said) (r : Result Varint Fault) (is : r ≡ of_field tag w) where
-  pub on_read : (varint : Varint) → r ≡ Ok varint → then varint.value varint.next ≡ on_varint tag then w
-  on_read varint q = go w (sym is ∙ q)
-    where
-      go : (w : Said) → of_field tag w ≡ Ok varint → then varint.value varint.next ≡ on_varint tag then w
-      go (Ok here) e = rw (same_varint e)
-      go (Err kind) e = clash cc
+module _ (tag : ℕ) (then : ℕ → ℕ → Reading) {r w : Said} (is : r ≡ w) where
+  pub on_read : {varint : Varint} → r ≡ Ok varint → then varint.value varint.next ≡ on_varint tag then w
+  on_read q = ap (on_varint tag then) (sym q ∙ is)
 
-  pub on_fault : (why : Fault) → r ≡ Err why → Err why ≡ on_varint tag then w
-  on_fault why q = go w (sym is ∙ q)
-    where
-      go : (w : Said) → of_field tag w ≡ Err why → Err why ≡ on_varint tag then w
-      go (Ok here) e = clash cc
-      go (Err kind) e = cc
+  pub on_fault : {kind : Kind} → r ≡ Err kind → fault kind tag ≡ on_varint tag then w
+  on_fault q = ap (on_varint tag then) (sym q ∙ is)
 
 -- a varint's end, from the call that read it
-pub read_within : (s : List ℕ) (tag at end : ℕ) (r : Result Varint Fault) (varint : Varint) → r ≡ of_field tag (varint_at s at end) → r ≡ Ok varint → (at < varint.next) × (varint.next ≤ end)
-read_within s tag at end r varint p q = go (varint_at s at end) refl (sym p ∙ q)
-  where
-    go : (w : Said) → varint_at s at end ≡ w → of_field tag w ≡ Ok varint → (at < varint.next) × (varint.next ≤ end)
-    go (Ok here) e f = varint_within s at end varint.value varint.next (e ∙ f')
-      where
-        f' : Ok here ≡ varint_of varint.value varint.next
-        f' = cc
-    go (Err kind) e f = clash cc
+pub read_within : (s : List ℕ) (at end : ℕ) {r : Said} {varint : Varint} → r ≡ varint_at s at end → r ≡ Ok varint → (at < varint.next) × (varint.next ≤ end)
+read_within s at end {r} {varint} p q = varint_within s at end varint.value varint.next (sym p ∙ q)
 
 -- a payload by its wire type
 module _ (s : List ℕ) (tag number wire at end : ℕ) {r : Reading} where

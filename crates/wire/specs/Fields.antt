@@ -25,11 +25,6 @@ fault_number why = 18
 abbrev pub fault : Kind → ℕ → Reading
 fault kind at = Err (record { kind = kind; at = at })
 
--- a varint of the field whose tag is at `tag`, or the fault of that field
-abbrev pub of_field : ℕ → Said → Result Varint Fault
-of_field tag (Ok varint) = Ok varint
-of_field tag (Err kind) = Err (record { kind = kind; at = tag })
-
 -- what follows a varint that was read, or the fault of the field whose tag is at `tag`
 abbrev pub on_varint : ℕ → (ℕ → ℕ → Reading) → Said → Reading
 on_varint tag then (Ok varint) = then varint.value varint.next

@@ -4,7 +4,7 @@
 ghost use Rattle.std.specs.Prelude.{◌≡◌, cond, ◌≤◌, ◌+◌, ◌%◌, ltb, length, take};
 ghost use Rattle.bytes_be.specs.Part.{put_at};
 ghost use Rattle.wire.specs.Varint.{bounded, said_at, varint_at, varint_length, shortest_of};
-ghost use Rattle.wire.specs.Fields.{place_of, fault_number, of_field, sized, payload_at, field_at, fields_of, fields_left};
+ghost use Rattle.wire.specs.Fields.{place_of, fault_number, on_varint, sized, numbered, payload_at, field_at, fields_of, fields_left};
 
 use bytes_be::Place;
 use numbered::Numbered;
@@ -120,14 +120,6 @@ fn varint_at(s: &[u8], at: usize, end: usize) -> Result<Varint, Kind>
     varint_within(s, at, end, 10)
 }
 
-// The same, of the field whose tag is at place `tag`.
-fn varint_of(s: &[u8], tag: usize, at: usize, end: usize) -> Result<Varint, Fault>
-    requires { end ≤ length s.now }
-    ensures { result ≡ of_field tag (varint_at s.now at end) }
-{
-    varint_at(s, at, end).map_err(|kind| Fault { kind, at: tag })
-}
-
 // The field whose payload is the `size` bytes from place `at` on.
 fn sized_field(
     tag: usize,
@@ -157,6 +149,35 @@ fn sized_field(
     })
 }
 
+// The field whose payload is the varint at place `at`.
+fn number_field(s: &[u8], tag: usize, number: u64, at: usize, end: usize) -> Result<Field, Fault>
+    requires { end ≤ length s.now }
+    ensures { result ≡ on_varint tag (numbered tag number at) (varint_at s.now at end) }
+{
+    match varint_at(s, at, end) {
+        Ok(said) => Ok(Field {
+            tag,
+            number,
+            wire: 0,
+            value: said.value,
+            at,
+            next: said.next,
+        }),
+        Err(kind) => Err(Fault { kind, at: tag }),
+    }
+}
+
+// The field whose payload is as many bytes as the varint at place `at` says, behind it.
+fn bytes_field(s: &[u8], tag: usize, number: u64, at: usize, end: usize) -> Result<Field, Fault>
+    requires { (at ≤ end) × (end ≤ length s.now) }
+    ensures { result ≡ on_varint tag (λ size from. sized tag number 2 from end size) (varint_at s.now at end) }
+{
+    match varint_at(s, at, end) {
+        Ok(size) => sized_field(tag, number, 2, size.next, end, size.value),
+        Err(kind) => Err(Fault { kind, at: tag }),
+    }
+}
+
 // The field whose tag was read, and whose payload begins at place `at`.
 fn payload_at(
     s: &[u8],
@@ -170,22 +191,9 @@ fn payload_at(
     ensures { result ≡ payload_at s.now tag number wire at end }
 {
     match wire {
-        0 => {
-            let said = varint_of(s, tag, at, end)?;
-            Ok(Field {
-                tag,
-                number,
-                wire: 0,
-                value: said.value,
-                at,
-                next: said.next,
-            })
-        }
+        0 => number_field(s, tag, number, at, end),
         1 => sized_field(tag, number, 1, at, end, 8),
-        2 => {
-            let size = varint_of(s, tag, at, end)?;
-            sized_field(tag, number, 2, size.next, end, size.value)
-        }
+        2 => bytes_field(s, tag, number, at, end),
         5 => sized_field(tag, number, 5, at, end, 4),
         _ => Err(Fault {
             kind: Kind::WireType,
@@ -204,15 +212,19 @@ pub fn field_at(s: &[u8], at: usize, end: usize) -> Result<Field, Fault>
             at,
         });
     }
-    let tag = varint_of(s, at, at, end)?;
-    let legal = (8 <= tag.value) & (tag.value <= 0xFFFF_FFFF);
-    if !legal {
-        return Err(Fault {
-            kind: Kind::BadVarint,
-            at,
-        });
+    match varint_at(s, at, end) {
+        Ok(tag) => {
+            let legal = (8 <= tag.value) & (tag.value <= 0xFFFF_FFFF);
+            if legal {
+                return payload_at(s, at, tag.value / 8, tag.value % 8, tag.next, end);
+            }
+            Err(Fault {
+                kind: Kind::BadVarint,
+                at,
+            })
+        }
+        Err(kind) => Err(Fault { kind, at }),
     }
-    payload_at(s, at, tag.value / 8, tag.value % 8, tag.next, end)
 }
 
 // The fields of a lent message, one after the other; one that cannot be read is the last.
