@@ -1,6 +1,8 @@
 -- "field 0, tags above 2^32-1, other wire types, a varint over 10 bytes or above 2^64-1, .. a length past the end": what is refused at a
 -- field of any message, with the place of its tag.
-use Rattle.std.specs.Prelude.{ℕ, zero, suc, ◌+◌, ◌-◌, ◌/◌, ◌%◌, List, [], ◌∷◌, cond, ◌&&◌, length, ltb, leb, eqb, Result, Ok, Err}
+use Rattle.std.specs.Prelude.{ℕ, zero, suc, ◌≡◌, ◌+◌, ◌-◌, ◌/◌, ◌%◌, List, [], ◌∷◌, cond, ◌&&◌, length, ltb, leb, eqb, Option, Some, None, Result, Ok, Err}
+use Rattle.std.specs.Borrow.{Bor}
+use Rattle.std.specs.Iterator.{YieldsFirst}
 use Rattle.bytes_be.specs.declared.Place.{Place}
 use Rattle.wire.specs.declared.Kind.{Kind}
 use Rattle.wire.specs.declared.Kind.TheVariants.{CutShort, BadVarint, WireType}
@@ -77,3 +79,22 @@ fields_of s from to = fields_within (to - from) s to from
 -- those that a loop over them has not been given yet
 abbrev pub fields_left : Fields → List Reading
 fields_left it = fields_of it.s.now it.at it.to
+
+-- a loop over the fields from a place on that has been given none yet
+abbrev pub begun_at : Bor (List ℕ) → ℕ → ℕ → Fields
+begun_at s from to = record { s = s; at = from; to = to }
+
+-- where the next field begins after an answer: behind the field that was given, and after a fault, which is the last, at the end
+abbrev pub place_after : Fields → Option Reading → ℕ
+place_after it None = it.at
+place_after it (Some (Ok field)) = field.next
+place_after it (Some (Err fault)) = it.to
+
+-- the same message, from there on
+abbrev pub moved_by : Fields → Option Reading → Fields
+moved_by it answer = record { s = it.s; at = place_after it answer; to = it.to }
+
+-- the first of those left is given, and the iterator is left over the same message at the place where the next field begins
+pub record NextAnswer (before : Fields) (answer : Option Reading) (after : Fields) : Type 0 where
+  pub first : YieldsFirst fields_left before answer after
+  pub left : after ≡ moved_by before answer

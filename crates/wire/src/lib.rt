@@ -4,7 +4,7 @@
 ghost use Rattle.std.specs.Prelude.{◌≡◌, cond, ◌≤◌, ◌+◌, ◌%◌, ltb, length, take};
 ghost use Rattle.bytes_be.specs.Part.{put_at};
 ghost use Rattle.wire.specs.Varint.{bounded, said_at, varint_at, varint_length, shortest_of};
-ghost use Rattle.wire.specs.Fields.{place_of, fault_number, on_varint, sized, numbered, payload_at, field_at, fields_of, fields_left};
+ghost use Rattle.wire.specs.Fields.{place_of, fault_number, on_varint, sized, numbered, payload_at, field_at, fields_of, fields_left, begun_at};
 
 use bytes_be::Place;
 use numbered::Numbered;
@@ -238,18 +238,19 @@ pub struct Fields<'a> {
 
 // The fields from place `from` on of the message that ends at `to`.
 pub fn fields_of(s: &[u8], from: usize, to: usize) -> Fields<'_>
-    ensures { fields_left result ≡ fields_of s.now from to }
+    ensures left { fields_left result ≡ fields_of s.now from to }
+    ensures begun { result ≡ begun_at s.entry from to }
 {
     Fields { s, at: from, to }
 }
 
 impl<'a> Iterator for Fields<'a> {
-    ghost use Rattle.std.specs.Iterator.{YieldsFirst, item_count};
-    ghost use Rattle.wire.specs.Fields.{fields_left};
+    ghost use Rattle.std.specs.Iterator.{item_count};
+    ghost use Rattle.wire.specs.Fields.{fields_left, NextAnswer};
 
     type Item = Result<Field, Fault>;
 
-    ghost next_gives = { YieldsFirst fields_left };
+    ghost next_gives = { NextAnswer };
 
     ghost remaining = { item_count fields_left };
 

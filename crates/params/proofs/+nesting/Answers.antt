@@ -11,52 +11,52 @@ use Rattle.params.proofs.+nesting.Goals as goal
 pub check_entry-loop-read-init : goal.check_entry-loop-read-init
 unfolding entry_check
 check_entry-loop-read-init t c =
-    rw (ap fields_left c.into_iter-read-iterator.ensures.into_iter_gives ∙ c.fields_of-read-items.ensures)
+    rw (ap fields_left c.into_iter-read-iterator.ensures.into_iter_gives ∙ c.fields_of-read-items.ensures.left)
 
 pub check_entry-returns-in_err-field : goal.check_entry-returns-in_err-field
-check_entry-returns-in_err-field t c = let h = walk_refused _ _ _ _ _ _ c.loop-read.invariant _ _ c.in-Some.ensures.steps _ c.in_err-field.was in search rules
+check_entry-returns-in_err-field t c = let h = walk_refused _ _ _ _ _ _ c.loop-read.invariant _ _ c.in-Some.ensures.steps.first _ c.in_err-field.was in search rules
 
 pub check_entry-returns-in_err-entry_field : goal.check_entry-returns-in_err-entry_field
-check_entry-returns-in_err-entry_field t c = let h = walk_stopped _ _ _ _ _ _ c.loop-read.invariant _ _ c.in-Some.ensures.steps _ c.in_ok-field.was _ c.entry_field.ensures _ c.in_err-entry_field.was in search rules
+check_entry-returns-in_err-entry_field t c = let h = walk_stopped _ _ _ _ _ _ c.loop-read.invariant _ _ c.in-Some.ensures.steps.first _ c.in_ok-field.was _ c.entry_field.ensures _ c.in_err-entry_field.was in search rules
 
 pub check_entry-loop-read-preserved : goal.check_entry-loop-read-preserved
-check_entry-loop-read-preserved t c = walk_on _ _ _ _ _ _ c.loop-read.invariant _ _ c.in-Some.ensures.steps _ c.in_ok-field.was _ c.entry_field.ensures c.in_ok-entry_field.was
+check_entry-loop-read-preserved t c = walk_on _ _ _ _ _ _ c.loop-read.invariant _ _ c.in-Some.ensures.steps.first _ c.in_ok-field.was _ c.entry_field.ensures c.in_ok-entry_field.was
 
 pub check_entry-returns : goal.check_entry-returns
-check_entry-returns t c = c.entry_done.ensures ∙ walk_done _ _ _ _ _ _ c.loop-read.invariant c.in-None.ensures.steps.0
+check_entry-returns t c = c.entry_done.ensures ∙ walk_done _ _ _ _ _ _ c.loop-read.invariant c.in-None.ensures.steps.first.0
 
 pub check_items-loop-read-init : goal.check_items-loop-read-init
 unfolding items_check
-check_items-loop-read-init t c = rw (ap fields_left c.into_iter-read-iterator.ensures.into_iter_gives ∙ c.fields_of-read-items.ensures)
+check_items-loop-read-init t c = rw (ap fields_left c.into_iter-read-iterator.ensures.into_iter_gives ∙ c.fields_of-read-items.ensures.left)
 
 pub check_items-returns-in_err-field : goal.check_items-returns-in_err-field
-check_items-returns-in_err-field t c = let h = walk_refused _ _ _ _ _ _ c.loop-read.invariant _ _ c.in-Some.ensures.steps _ c.in_err-field.was in search rules
+check_items-returns-in_err-field t c = let h = walk_refused _ _ _ _ _ _ c.loop-read.invariant _ _ c.in-Some.ensures.steps.first _ c.in_err-field.was in search rules
 
 pub check_items-returns-in_err-item_field : goal.check_items-returns-in_err-item_field
-check_items-returns-in_err-item_field t c = let h = walk_stopped _ _ _ _ _ _ c.loop-read.invariant _ _ c.in-Some.ensures.steps _ c.in_ok-field.was _ c.item_field.ensures _ c.in_err-item_field.was in search rules
+check_items-returns-in_err-item_field t c = let h = walk_stopped _ _ _ _ _ _ c.loop-read.invariant _ _ c.in-Some.ensures.steps.first _ c.in_ok-field.was _ c.item_field.ensures _ c.in_err-item_field.was in search rules
 
 pub check_items-loop-read-preserved : goal.check_items-loop-read-preserved
-check_items-loop-read-preserved t c = walk_on _ _ _ _ _ _ c.loop-read.invariant _ _ c.in-Some.ensures.steps _ c.in_ok-field.was _ c.item_field.ensures c.in_ok-item_field.was
+check_items-loop-read-preserved t c = walk_on _ _ _ _ _ _ c.loop-read.invariant _ _ c.in-Some.ensures.steps.first _ c.in_ok-field.was _ c.item_field.ensures c.in_ok-item_field.was
 
 pub check_items-returns : goal.check_items-returns
-check_items-returns t c = walk_done _ _ _ _ _ _ c.loop-read.invariant c.in-None.ensures.steps.0
+check_items-returns t c = walk_done _ _ _ _ _ _ c.loop-read.invariant c.in-None.ensures.steps.first.0
 
 pub check_value-loop-read-init : goal.check_value-loop-read-init
 unfolding value_check
 check_value-loop-read-init t c =
-    rw (ap fields_left c.into_iter-read-iterator.ensures.into_iter_gives ∙ c.fields_of-read-items.ensures)
+    rw (ap fields_left c.into_iter-read-iterator.ensures.into_iter_gives ∙ c.fields_of-read-items.ensures.left)
 
 pub check_value-returns-in_err-field : goal.check_value-returns-in_err-field
-check_value-returns-in_err-field t c = let h = walk_refused _ _ _ _ _ _ c.loop-read.invariant _ _ c.in-Some.ensures.steps _ c.in_err-field.was in search rules
+check_value-returns-in_err-field t c = let h = walk_refused _ _ _ _ _ _ c.loop-read.invariant _ _ c.in-Some.ensures.steps.first _ c.in_err-field.was in search rules
 
 pub check_value-returns-in_err-value_field : goal.check_value-returns-in_err-value_field
-check_value-returns-in_err-value_field t c = let h = walk_stopped _ _ _ _ _ _ c.loop-read.invariant _ _ c.in-Some.ensures.steps _ c.in_ok-field.was _ c.value_field.ensures _ c.in_err-value_field.was in search rules
+check_value-returns-in_err-value_field t c = let h = walk_stopped _ _ _ _ _ _ c.loop-read.invariant _ _ c.in-Some.ensures.steps.first _ c.in_ok-field.was _ c.value_field.ensures _ c.in_err-value_field.was in search rules
 
 pub check_value-loop-read-preserved : goal.check_value-loop-read-preserved
-check_value-loop-read-preserved t c = walk_on _ _ _ _ _ _ c.loop-read.invariant _ _ c.in-Some.ensures.steps _ c.in_ok-field.was _ c.value_field.ensures c.in_ok-value_field.was
+check_value-loop-read-preserved t c = walk_on _ _ _ _ _ _ c.loop-read.invariant _ _ c.in-Some.ensures.steps.first _ c.in_ok-field.was _ c.value_field.ensures c.in_ok-value_field.was
 
 pub check_value-returns : goal.check_value-returns
-check_value-returns t c = c.lacking.ensures ∙ walk_done _ _ _ _ _ _ c.loop-read.invariant c.in-None.ensures.steps.0
+check_value-returns t c = c.lacking.ensures ∙ walk_done _ _ _ _ _ _ c.loop-read.invariant c.in-None.ensures.steps.first.0
 
 pub entry_field-returns-then-field-eq1 : goal.entry_field-returns-then-field-eq1
 unfolding entry_field
