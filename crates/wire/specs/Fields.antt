@@ -94,7 +94,7 @@ place_after it (Some (Err fault)) = it.to
 abbrev pub moved_by : Fields → Option Reading → Fields
 moved_by it answer = record { s = it.s; at = place_after it answer; to = it.to }
 
--- the first of those left is given, and the iterator is left over the same message at the place where the next field begins
+-- the first of those left is given, or none where none is left, and the iterator is left over the same message where the next field begins
 pub record NextAnswer (before : Fields) (answer : Option Reading) (after : Fields) : Type 0 where
   pub first : YieldsFirst fields_left before answer after
   pub left : after ≡ moved_by before answer
