@@ -13,6 +13,7 @@ use Rattle.open.specs.Offer.{Offer}
 use Rattle.message.specs.declared.Message.{Message}
 use Rattle.open.specs.declared.Refusal.{Refusal as Refusal-of-open}
 use Rattle.open.specs.Open.{refusal_number as refusal_number-of-open}
+use Rattle.message.specs.declared.Reason.{Reason}
 use Rattle.message.specs.declared.Refusal.{Refusal}
 use Rattle.message.specs.Reading.{reading_of, refusal_number, said_in}
 use Rattle.message.proofs.Inside.{read_refused}
@@ -109,7 +110,7 @@ uncoded e number said low =
 
 -- and so has that of a message that is not read, and of one whose content is not heard
 
-reading_coded : (e : Endpoint) (s : List ℕ) (refusal : Refusal) → reading_of s ≡ Err refusal → close_code e (refusal_number refusal) (said_by s) ≡ 0 → ⊥
+reading_coded : (e : Endpoint) (s : List ℕ) (refusal : Refusal Reason) → reading_of s ≡ Err refusal → close_code e (refusal_number refusal) (said_by s) ≡ 0 → ⊥
 reading_coded e s refusal stops =
     let among = read_refused s refusal stops in
     coded e (refusal_number refusal) (said_by s) (omega (arith, among.0)) (omega (arith, among.1))
@@ -130,7 +131,7 @@ module _ (Holds : Received → Type 0) (e : Endpoint) (s : List ℕ) (pipe : Off
   by_content (Err refusal) refuse next first second = first refusal refl
   by_content (Ok content) refuse next first second = second content refl
 
-  by_reading : (reading : Result Message Refusal) (refuse : ℕ → ℕ → Received) (next : Message → Received) → ((refusal : Refusal) → reading ≡ Err refusal → Holds (refuse (refusal_number refusal) refusal.said))
+  by_reading : (reading : Result Message (Refusal Reason)) (refuse : ℕ → ℕ → Received) (next : Message → Received) → ((refusal : Refusal Reason) → reading ≡ Err refusal → Holds (refuse (refusal_number refusal) refusal.said))
       → ((m : Message) → reading ≡ Ok m → Holds (next m)) → Holds (if_read reading refuse next)
   by_reading (Err refusal) refuse next first second = first refusal refl
   by_reading (Ok m) refuse next first second = second m refl

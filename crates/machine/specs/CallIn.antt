@@ -7,6 +7,7 @@ use Rattle.control.specs.Frame.{ack_request}
 use Rattle.open.specs.Offer.{offer_of}
 use Rattle.open.specs.Open.{open_of}
 use Rattle.message.specs.declared.Message.{Message}
+use Rattle.message.specs.declared.Reason.{Reason}
 use Rattle.message.specs.declared.Refusal.{Refusal as Refusal-of-message}
 use Rattle.message.specs.Reading.{body_place, reading_of}
 use Rattle.endpoint.specs.declared.Endpoint.{Endpoint}
@@ -37,7 +38,7 @@ call_of Data s m =
 call_of Close s m = TheCall (CLOSE m.type_data)
 
 -- a confirmation is of no call
-abbrev pub call_read : List ℕ → Result Message Refusal-of-message → CallRead
+abbrev pub call_read : List ℕ → Result Message (Refusal-of-message Reason) → CallRead
 call_read s (Ok m) = cond (confirms m.message m.flags) NoCall (call_of m.message s m)
 call_read s (Err refusal) = NoCall
 

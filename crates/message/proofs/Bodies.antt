@@ -16,6 +16,7 @@ use Rattle.control.specs.Frame.{ack_reply}
 use Rattle.control.specs.declared.MessageType.{MessageType}
 use Rattle.control.specs.declared.MessageType.TheVariants.{Open, Ready, Noop, Data, Close}
 use Rattle.message.specs.declared.Message.{Message}
+use Rattle.message.specs.declared.Reason.{Reason}
 use Rattle.message.specs.declared.Reason.TheVariants.{BadFlags, BadFrames}
 use Rattle.message.specs.declared.Refusal.{Refusal}
 use Rattle.message.specs.Reading.{bad_flags, bad_frames, body_in, body_of, carries, read_as, reading_of, refused, tested}
@@ -76,7 +77,7 @@ module _ (s : List ℕ) (contents : Contents) (counted : contents_of s ≡ Ok co
   read_behind said message flags type-data body is =
       ap (cond (bad_flags message flags) (refused BadFlags said)) (go (bad_frames message flags (contents.count - 1)) refl)
     where
-      read_with : Option Place → Result Message Refusal
+      read_with : Option Place → Result Message (Refusal Reason)
       read_with body = Ok (record { message = message; flags = flags; type_data = type-data; frames = contents.count - 1; size = contents.size; body = body })
 
       go : (t : Bool) → bad_frames message flags (contents.count - 1) ≡ t →

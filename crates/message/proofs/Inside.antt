@@ -21,6 +21,7 @@ use Rattle.control.specs.declared.Refusal.{Refusal as Refusal-of-control}
 use Rattle.control.specs.Frame.{signature, signed_of}
 use Rattle.bytes_be.specs.declared.Place.{Place}
 use Rattle.message.specs.declared.Message.{Message}
+use Rattle.message.specs.declared.Reason.{Reason}
 use Rattle.message.specs.declared.Refusal.{Refusal}
 use Rattle.message.specs.Reading.{body_in, body_of, body_place, carries, reading_of, refusal_number}
 use Rattle.message.proofs.Stages.{OfMessage, WhileReading, by_stages, reason_numbered}
@@ -29,7 +30,7 @@ module _ (s : List ℕ) where
   abbrev pub BodyInside : Option Place → Type 0
   BodyInside body = (body_place body).at + (body_place body).length ≤ length s
 
-  abbrev pub Inside : Result Message Refusal → Type 0
+  abbrev pub Inside : Result Message (Refusal Reason) → Type 0
   Inside reading = OfMessage (λ (m : Message). BodyInside m.body) reading
 
   second_frame : BodyInside (body_in (frame_of s 1))
@@ -77,5 +78,5 @@ read_small s bytes m is =
     (λ contents signed message counted is_signed framed. signed_small (part_at s contents.control) (bytes_part s contents.control.at contents.control.length bytes) signed is_signed))
 
 -- the number of a message that is not read
-pub read_refused : (s : List ℕ) (refusal : Refusal) → reading_of s ≡ Err refusal → WhileReading (refusal_number refusal)
+pub read_refused : (s : List ℕ) (refusal : Refusal Reason) → reading_of s ≡ Err refusal → WhileReading (refusal_number refusal)
 read_refused s refusal is = reason_numbered refusal.why

@@ -13,7 +13,7 @@ use Rattle.message.specs.declared.Message.{Message}
 use Rattle.message.specs.declared.Reason.{Reason}
 use Rattle.message.specs.declared.Reason.TheVariants.{BadBundle, Control, BadFlags, BadFrames}
 use Rattle.message.specs.declared.Refusal.{Refusal}
-use Rattle.message.specs.Reading.{bad_flags, bad_frames, body_of, read_as, reading_of, reason_number, refused}
+use Rattle.message.specs.Reading.{bad_flags, bad_frames, body_of, read_as, reading_of, reason_number, refusal_number, refused}
 
 -- the numbers that refuse a message while it is read
 abbrev pub WhileReading : ℕ → Type 0
@@ -27,19 +27,19 @@ reason_numbered (Control UnknownType) = (omega arith, omega arith)
 reason_numbered BadFlags = (omega arith, omega arith)
 reason_numbered BadFrames = (omega arith, omega arith)
 
--- what holds of a message, of a reading
-abbrev pub OfMessage : (Message → Type 0) → Result Message Refusal → Type 0
+-- what holds of a message, of a reading; a refusal has one of those numbers
+abbrev pub OfMessage : (Message → Type 0) → Result Message (Refusal Reason) → Type 0
 OfMessage Holds (Ok m) = Holds m
-OfMessage Holds (Err refusal) = Unit
+OfMessage Holds (Err refusal) = WhileReading (refusal_number refusal)
 
 module _ (Holds : Message → Type 0) where
-  by_stage : {T E : Type 0} (x : Result T E) (why : Reason) (said : ℕ) → (next : T → Result Message Refusal) → ((answer : T) → x ≡ Ok answer → OfMessage Holds (next answer))
+  by_stage : {T E : Type 0} (x : Result T E) (why : Reason) (said : ℕ) → (next : T → Result Message (Refusal Reason)) → ((answer : T) → x ≡ Ok answer → OfMessage Holds (next answer))
       → OfMessage Holds (if_passed x (refused why said) next)
   by_stage (Ok answer) why said next h = h answer refl
-  by_stage (Err bad) why said next h = tt
+  by_stage (Err bad) why said next h = reason_numbered why
 
-  by_test : (fails : Bool) (why : Reason) (said : ℕ) → (next : Result Message Refusal) → (fails ≡ false → OfMessage Holds next) → OfMessage Holds (cond fails (refused why said) next)
-  by_test true why said next h = tt
+  by_test : (fails : Bool) (why : Reason) (said : ℕ) → (next : Result Message (Refusal Reason)) → (fails ≡ false → OfMessage Holds next) → OfMessage Holds (cond fails (refused why said) next)
+  by_test true why said next h = reason_numbered why
   by_test false why said next h = h refl
 
   -- every message that is read has the flags and the type-data of a frame that is signed, as many data frames as its type and flags allow, and

@@ -59,17 +59,17 @@ body_place None = record { at = 0; length = 0 }
 body_place (Some place) = place
 
 -- a refusal, with the type that the control byte says, or 0 where no control byte was read
-abbrev pub refused : Reason → ℕ → Result Message Refusal
+abbrev pub refused : {Why : Type 0} → Why → ℕ → Result Message (Refusal Why)
 refused why said = Err (record { why = why; said = said })
 
 -- 14, 15, and else the message
-abbrev pub tested : ℕ → Message → Result Message Refusal
+abbrev pub tested : ℕ → Message → Result Message (Refusal Reason)
 tested said whole =
     cond (bad_flags whole.message whole.flags) (refused BadFlags said)
     (cond (bad_frames whole.message whole.flags whole.frames) (refused BadFrames said)
     (Ok whole))
 
-unfoldable pub read_as : List ℕ → ℕ → MessageType → ℕ → ℕ → ℕ → ℕ → Result Message Refusal
+unfoldable pub read_as : List ℕ → ℕ → MessageType → ℕ → ℕ → ℕ → ℕ → Result Message (Refusal Reason)
 read_as s said message flags type-data frames size =
     tested said
     (record {
@@ -82,7 +82,7 @@ read_as s said message flags type-data frames size =
     })
 
 -- 10, 11, 12, 13, and then by the type
-unfoldable pub reading_of : List ℕ → Result Message Refusal
+unfoldable pub reading_of : List ℕ → Result Message (Refusal Reason)
 reading_of s =
     if_passed (contents_of s) (refused BadBundle 0) (λ contents.
     if_passed (signed_of (part_at s contents.control)) (refused (Control BadSignature) 0) (λ signed.
@@ -97,14 +97,22 @@ reason_number (Control why) = control_number why
 reason_number BadFlags = 14
 reason_number BadFrames = 15
 
-abbrev pub refusal_number : Refusal → ℕ
-refusal_number refusal = reason_number refusal.why
+-- the number of a refusal is that of its reason
+abbrev pub number_by : {Why : Type 0} → (Why → ℕ) → Refusal Why → ℕ
+number_by number refusal = number refusal.why
 
--- the number of a reading: 0, or 10 to 15
-abbrev pub reading_number : Result Message Refusal → ℕ
-reading_number = number_of refusal_number
+abbrev pub refusal_number : Refusal Reason → ℕ
+refusal_number refusal = number_by reason_number refusal
+
+-- the number of a reading: 0, or that of its refusal
+abbrev pub reading_by : {Why : Type 0} → (Why → ℕ) → Result Message (Refusal Why) → ℕ
+reading_by number = number_of (number_by number)
+
+-- of what is read: 0, or 10 to 15
+abbrev pub reading_number : Result Message (Refusal Reason) → ℕ
+reading_number = reading_by reason_number
 
 -- the type that the control byte says, or 0 where none was read
-abbrev pub said_in : Result Message Refusal → ℕ
+abbrev pub said_in : {Why : Type 0} → Result Message (Refusal Why) → ℕ
 said_in (Ok m) = type_of m.message
 said_in (Err refusal) = refusal.said

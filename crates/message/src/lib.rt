@@ -2,7 +2,7 @@
 #![tactic(auto)]
 
 ghost use Rattle.std.specs.Prelude.{◌≡◌};
-ghost use Rattle.message.specs.Reading.{strange_flags, bad_flags, bad_frames, carries as Reading·carries, body_place, refused as Reading·refused, tested as Reading·tested, reading_of, reason_number, refusal_number, said_in};
+ghost use Rattle.message.specs.Reading.{strange_flags, bad_flags, bad_frames, carries as Reading·carries, body_place, refused as Reading·refused, tested as Reading·tested, reading_of, reason_number, number_by, said_in};
 ghost use Rattle.message.specs.Held.{body_behind};
 
 use bundle::BadBundle;
@@ -45,15 +45,15 @@ impl Numbered for Reason {
     }
 }
 
-// A refusal: why, and the type that the control byte says, or 0 where no control byte was read.
+// A refusal: why, which may be a number alone, and the type that the control byte says, or 0 where no control byte was read.
 #[derive(Clone, Copy, Debug, PartialEq, Eq)]
-pub struct Refusal {
-    pub why: Reason,
+pub struct Refusal<Why = Reason> {
+    pub why: Why,
     pub said: u8,
 }
 
-impl Numbered for Refusal {
-    ghost number = { refusal_number };
+impl<Why: Numbered> Numbered for Refusal<Why> {
+    ghost number = { number_by Why.number };
 
     fn number(&self) -> u8 {
         self.why.number()
@@ -191,7 +191,7 @@ pub fn read(s: &[u8]) -> Result<Message, Refusal>
 }
 
 // The type that the control byte says, be the message read or refused; 0 where no control byte was read.
-pub fn said_in(reading: Result<Message, Refusal>) -> u8
+pub fn said_in<Why: Copy>(reading: Result<Message, Refusal<Why>>) -> u8
     ensures { result ≡ said_in reading }
 {
     match reading {

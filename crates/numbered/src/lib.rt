@@ -12,6 +12,15 @@ pub trait Numbered {
         ensures { result ≡ number self.now };
 }
 
+// A number, where it is all that an error says.
+impl Numbered for u8 {
+    ghost number = { λ number. number };
+
+    fn number(&self) -> u8 {
+        *self
+    }
+}
+
 // The number of an answer: 0, or that of its error.
 pub fn number_of<T, E: Numbered>(answer: &Result<T, E>) -> u8
     ensures { result ≡ number_of E.number answer.now }

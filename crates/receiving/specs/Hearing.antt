@@ -12,6 +12,7 @@ use Rattle.open.specs.declared.Opening.{Opening}
 use Rattle.open.specs.declared.Refusal.{Refusal as Refusal-of-open}
 use Rattle.open.specs.Open.{heard_by, refusal_number}
 use Rattle.message.specs.declared.Message.{Message}
+use Rattle.message.specs.declared.Reason.{Reason}
 use Rattle.message.specs.declared.Refusal.{Refusal as Refusal-of-message}
 use Rattle.message.specs.Reading.{body_place, reading_of, reading_number, said_in}
 use Rattle.endpoint.specs.declared.Endpoint.{Endpoint}
@@ -146,7 +147,7 @@ abbrev pub if_carried : Carried → (ℕ → Received) → (Content → Received
 if_carried (Ok content) refuse next = next content
 if_carried (Err refusal) refuse next = refuse (carried_number (Err refusal))
 
-abbrev pub if_read : Result Message Refusal-of-message → (ℕ → ℕ → Received) → (Message → Received) → Received
+abbrev pub if_read : Result Message (Refusal-of-message Reason) → (ℕ → ℕ → Received) → (Message → Received) → Received
 if_read (Ok m) refuse next = next m
 if_read (Err refusal) refuse next = refuse (reading_number (Err refusal)) (said_in (Err refusal))
 
