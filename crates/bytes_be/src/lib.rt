@@ -3,7 +3,7 @@
 
 ghost use Rattle.std.specs.Prelude.{ℕ, ◌%◌, ◌≡◌, reverse, cond, ◌+◌, ◌≤◌, ◌<◌, ◌^◌, length};
 ghost use Rattle.std.proofs.Common.{rules};
-ghost use Rattle.bytes_be.specs.Part.{part, part_at, put_at};
+ghost use Rattle.bytes_be.specs.Part.{part, IsPartOf, put_at};
 ghost use Rattle.bytes_be.specs.Part.{holds as Part·holds, same as Part·same};
 ghost use Rattle.bytes_be.specs.Number.{from_bytes, number_at, to_bytes};
 
@@ -19,10 +19,10 @@ pub struct Place {
 impl Place {
     // The part of a slice that stands there, or as much of it as the slice has.
     pub fn part_of<'a>(self, s: &'a [u8]) -> &'a [u8]
-        ensures { result.now ≡ part_at s.now self }
+        ensures { IsPartOf s.entry result self }
     {
         if s.len() < self.at {
-            return &[];
+            return &s[s.len()..];
         }
         let rest = &s[self.at..];
         if rest.len() < self.length {
