@@ -1,11 +1,16 @@
 -- "Bad input is refused by a listed number": what a receive answers, with each refusal by its number, and the number of each refusal that the code
 -- has by its name.
-use Rattle.std.specs.Prelude.{ℕ, ◌≡◌, cond, eqb, Option}
+use Rattle.std.specs.Prelude.{ℕ, ◌≡◌, cond, eqb, Option, Err}
 use Rattle.control.specs.declared.Control.{Control}
 use Rattle.control.specs.declared.Refusal.TheVariants.{BadSignature, OtherVersion, UnknownType}
+use Rattle.wire.specs.declared.Kind.TheVariants.{Other}
+use Rattle.open.specs.declared.Refusal.TheVariants.{Unreadable as Open-unreadable, OutOfRange as Open-out-of-range, UnknownSocket as Open-unknown-socket, OtherPipe as Open-other-pipe, OtherFormat as Open-other-format}
+use Rattle.open.specs.Open.{refusal_number as open_number}
 use Rattle.message.specs.Reading.{reason_number}
 use Rattle.message.specs.declared.Reason.TheVariants.{BadBundle, Control as BadControl, BadFlags, BadFrames}
 use Rattle.endpoint.specs.declared.Endpoint.{Endpoint}
+use Rattle.table.specs.declared.Refusal.TheVariants.{NotAllowed as Row-not-allowed, AboveOffer as Row-above-offer}
+use Rattle.table.specs.Table.{hear_number}
 use Rattle.receiving.specs.declared.Heard.{Heard as HeardMessage}
 use Rattle.receiving.specs.declared.Refusal.{Refusal}
 use Rattle.receiving.specs.declared.Refusal.TheVariants.{BadState, ShortOutput, Closed, Message, TooLarge, NotAllowed, Unreadable, OutOfRange, UnknownSocket, OtherPipe, OtherFormat, AboveOffer, Unmatched}
@@ -25,6 +30,10 @@ pub record Received : Type 0 where
   pub next : Endpoint
   pub reply : Option Control
 
+-- an OPEN frame that is unreadable, whatever its fault: every fault has one number
+abbrev pub unreadable_number : ℕ
+unreadable_number = open_number (Open-unreadable (record { kind = Other; at = 0 }))
+
 -- "Checks run in the order of the numbers 1, 2, 3, 10..24"
 abbrev pub refusal_number : Refusal → ℕ
 refusal_number BadState = 1
@@ -32,13 +41,13 @@ refusal_number ShortOutput = 2
 refusal_number Closed = 3
 refusal_number (Message why) = reason_number why
 refusal_number TooLarge = 16
-refusal_number NotAllowed = 17
-refusal_number Unreadable = 18
-refusal_number OutOfRange = 19
-refusal_number UnknownSocket = 20
-refusal_number OtherPipe = 21
-refusal_number OtherFormat = 22
-refusal_number AboveOffer = 23
+refusal_number NotAllowed = hear_number (Err Row-not-allowed)
+refusal_number Unreadable = unreadable_number
+refusal_number OutOfRange = open_number Open-out-of-range
+refusal_number UnknownSocket = open_number Open-unknown-socket
+refusal_number OtherPipe = open_number Open-other-pipe
+refusal_number OtherFormat = open_number Open-other-format
+refusal_number AboveOffer = hear_number (Err Row-above-offer)
 refusal_number Unmatched = 24
 
 abbrev pub answer_as : NamedAnswer → Answer

@@ -5,7 +5,7 @@ ghost use Rattle.std.specs.Prelude.{◌≡◌, ◌+◌, ◌≤◌, length};
 ghost use Rattle.open.specs.Offer.{offer_in};
 ghost use Rattle.open.specs.Open.{refusal_number as open_number};
 ghost use Rattle.message.specs.Reading.{body_place};
-ghost use Rattle.receiving.specs.Numbers.{refusal_number, received_as};
+ghost use Rattle.receiving.specs.Numbers.{unreadable_number, refusal_number, received_as};
 ghost use Rattle.receiving.specs.Refusing.{version_code, close_code, silent, refused, unchanged};
 ghost use Rattle.receiving.specs.Hearing.{confirmable, confirms as Hearing·confirms, asks as Hearing·asks, moves_as, hear_row, too_large, body_carried, open_at, carried_by, matches_oldest, unmatched, confirmed_by, limited_by, reply_to, accepted, hear_content, hear_message, hear_of};
 ghost use Rattle.receiving.specs.Receiving.{replied, ReceiveAnswer};
@@ -18,6 +18,7 @@ use message::{Message, Reason};
 use numbered::Numbered;
 use open::{Offer, Opening};
 use table::Step;
+use wire::{Fault, Kind};
 
 // What is heard beside type, flags and type-data.
 #[derive(Clone, Copy)]
@@ -81,15 +82,26 @@ impl Numbered for Refusal {
             Refusal::Message(why) => why.number(),
             Refusal::TooLarge => 16,
             Refusal::NotAllowed => 17,
-            Refusal::Unreadable => 18,
-            Refusal::OutOfRange => 19,
-            Refusal::UnknownSocket => 20,
-            Refusal::OtherPipe => 21,
-            Refusal::OtherFormat => 22,
+            Refusal::Unreadable => unreadable_number(),
+            Refusal::OutOfRange => open::Refusal::OutOfRange.number(),
+            Refusal::UnknownSocket => open::Refusal::UnknownSocket.number(),
+            Refusal::OtherPipe => open::Refusal::OtherPipe.number(),
+            Refusal::OtherFormat => open::Refusal::OtherFormat.number(),
             Refusal::AboveOffer => 23,
             Refusal::Unmatched => 24,
         }
     }
+}
+
+// The number of an OPEN frame that is unreadable: every fault has one number.
+fn unreadable_number() -> u8
+    ensures { result ≡ unreadable_number }
+{
+    let fault = Fault {
+        kind: Kind::Other,
+        at: 0,
+    };
+    open::Refusal::Unreadable(fault).number()
 }
 
 impl From<open::Refusal> for Refusal {

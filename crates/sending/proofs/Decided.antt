@@ -25,7 +25,7 @@ use Rattle.sending.specs.declared.Sent.{Sent as Accepted}
 use Rattle.sending.specs.Calls.{Outgoing, bundle_with, flags_for, number_if}
 use Rattle.sending.specs.Numbers.{refusal_number}
 use Rattle.sending.specs.Held.{plain}
-use Rattle.sending.specs.Sending.{Answered, Sent, asked_by, is_full, left_by, number_for, send_row, sent_as, sent_by, sent_if}
+use Rattle.sending.specs.Sending.{Answered, Sent, asked_by, is_full, left_by, number_for, numbered_as, send_row, sent_as, sent_by, sent_if}
 
 not_zero : {k : ℕ} → 0 < k → k ≡ 0 → ⊥
 not_zero some e = omega arith
@@ -120,16 +120,17 @@ refusal_numbered TooLarge = refl
 refusal_numbered BadOffer = refl
 refusal_numbered BadCode = refl
 
-module _ (e : Endpoint) (o : Outgoing) (room : ℕ) where
+module _ (e : Endpoint) (o : Outgoing) (room : ℕ) {row : Result Step Refusal} (rowed : row ≡ send_row e o) where
   -- what a test refuses is not sent
-  pub refused_sent : (why : Send-refusal) → refusal_number why ≡ number_for e o (send_row e o) room → sent_as e (Err why) ≡ sent_by e o room
+  pub refused_sent : {Why : Type 0} (number : Why → ℕ) (why : Why) → eqb (number why) 0 ≡ false → number why ≡ number_for e o row room
+      → numbered_as number e (Err why) ≡ sent_by e o room
   unfolding sent_by
-  refused_sent why tested = simp (sym tested, refusal_numbered why)
+  refused_sent number why some tested = simp (sym rowed, sym tested, some)
 
   -- and what none refuses is
-  pub passed_sent : (sent : Accepted) → 0 ≡ number_for e o (send_row e o) room → sent_as e (Ok sent) ≡ sent_if 0 e o (send_row e o) → sent_as e (Ok sent) ≡ sent_by e o room
+  pub passed_sent : (sent : Accepted) → 0 ≡ number_for e o row room → sent_as e (Ok sent) ≡ sent_if 0 e o row → sent_as e (Ok sent) ≡ sent_by e o room
   unfolding sent_by
-  passed_sent sent tested accepted = simp (sym tested) accepted
+  passed_sent sent tested accepted = simp (sym rowed, sym tested) accepted
 
 module _ (e : Endpoint) (o : Outgoing) (bytes before : List ℕ) where
   -- what is accepted has its bytes at the start of the output

@@ -49,10 +49,14 @@ pub record Sent : Type 0 where
 abbrev pub unsent : Endpoint → ℕ → Sent
 unsent e number = record { number = number; next = e; written = 0 }
 
--- what an answer says of this endpoint: a refusal leaves it
+-- what an answer says of this endpoint, by the numbers of what refuses: a refusal leaves it
+abbrev pub numbered_as : {Why : Type 0} → (Why → ℕ) → Endpoint → Result Accepted Why → Sent
+numbered_as number e (Ok sent) = record { number = 0; next = sent.next; written = sent.written }
+numbered_as number e (Err why) = unsent e (number why)
+
+-- what the answer of a send says
 abbrev pub sent_as : Endpoint → Result Accepted Send-refusal → Sent
-sent_as e (Ok sent) = record { number = 0; next = sent.next; written = sent.written }
-sent_as e (Err why) = unsent e (refusal_number why)
+sent_as = numbered_as refusal_number
 
 -- the number, the endpoint "After it", and how many bytes are written
 abbrev pub sent_if : ℕ → Endpoint → Outgoing → Result Step Refusal → Sent

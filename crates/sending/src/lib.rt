@@ -1,14 +1,15 @@
 // Sending: which of an endpoint's own messages is allowed, what it writes, and what the endpoint becomes.
 #![tactic(auto)]
 
-ghost use Rattle.std.specs.Prelude.{◌≡◌, [], Ok, ltb};
+ghost use Rattle.std.specs.Prelude.{◌≡◌, [], Ok, false, ltb, eqb, refl};
 ghost use Rattle.control.specs.Frame.{bytes_of};
 ghost use Rattle.numbered.specs.Numbered.{number_of};
 ghost use Rattle.open.specs.Offer.{offer_in};
 ghost use Rattle.sending.specs.Calls.{Given as Body-as-Given, body_in, datum_with, OPEN, READY, DATA, NOOP, CLOSE, miscoded, number_if, flags_for, bundle_with};
 ghost use Rattle.sending.specs.Held.{plain, frame_size};
 ghost use Rattle.sending.specs.Numbers.{refusal_number, number_in, outgoing_in};
-ghost use Rattle.sending.specs.Sending.{send_row, is_full, number_for, asked_by, sent_as, sent_if, sent_by, Answered, SendAnswer};
+ghost use Rattle.sending.specs.declared.Refusal.TheVariants.{BadState as State, NoRoom as Room, Closed as Shut, NotAllowed as Barred, AboveOffer as Above, Full as Awaited, TooLarge as Large, BadOffer as Offered, BadCode as Coded};
+ghost use Rattle.sending.specs.Sending.{send_row, is_full, number_for, asked_by, numbered_as, sent_as, sent_if, sent_by, Answered, SendAnswer};
 
 use control::MessageType;
 use endpoint::{Endpoint, Entry};
@@ -52,10 +53,28 @@ impl Numbered for Refusal {
             Refusal::AboveOffer => 31,
             Refusal::Full => 32,
             Refusal::TooLarge => 33,
-            Refusal::BadOffer => 34,
+            Refusal::BadOffer => BadOffer.number(),
             Refusal::BadCode => 35,
         }
     }
+}
+
+// An error that tells by its number why an own message is not sent: each refusal of this crate, and what a test of the caller's own refuses.
+pub trait Refuses: Copy + Numbered {
+    // The error for this refusal.
+    fn of(why: Refusal) -> Self
+        ensures { Self.number result ≡ refusal_number why };
+
+    // What is refused has a number.
+    ghost numbered: { (why : Self) → eqb (Self.number why) 0 ≡ false };
+}
+
+impl Refuses for Refusal {
+    fn of(why: Refusal) -> Refusal {
+        why
+    }
+
+    ghost numbered = { elim [ State ↦ refl | Room ↦ refl | Shut ↦ refl | Barred ↦ refl | Above ↦ refl | Awaited ↦ refl | Large ↦ refl | Offered ↦ refl | Coded ↦ refl ] };
 }
 
 // What a send of DATA is told beside the body.
@@ -68,13 +87,13 @@ pub struct Report {
 
 // What is to be tested of an own message.
 #[derive(Clone, Copy)]
-pub struct Outgoing {
+pub struct Outgoing<Why> {
     pub message: MessageType,
     pub type_data: u16,
     // Whether it asks for a confirmation.
     pub ask: bool,
-    // What refuses this type of message alone: TooLarge, BadOffer or BadCode.
-    pub own: Option<Refusal>,
+    // What refuses this type of message alone; of the sends TooLarge, BadOffer or BadCode.
+    pub own: Option<Why>,
     // How many bytes its bundle has.
     pub length: usize,
 }
@@ -88,8 +107,8 @@ pub struct Sent {
 }
 
 #[tactic(auto, unfolding(crate::specs::Sending::send_row))]
-fn send_row(e: Endpoint, o: Outgoing) -> Result<Step, table::Refusal>
-    ensures { result ≡ send_row e (outgoing_in o) }
+fn send_row<Why: Refuses>(e: Endpoint, o: Outgoing<Why>) -> Result<Step, table::Refusal>
+    ensures { result ≡ send_row e (outgoing_in Why.number o) }
 {
     let message = o.message;
     table::row_of(e.role, e.flow, e.phase, e.n, message, o.type_data)
@@ -97,48 +116,48 @@ fn send_row(e: Endpoint, o: Outgoing) -> Result<Step, table::Refusal>
 
 // The first test that refuses.
 #[tactic(auto, unfolding(crate::specs::Sending::number_for))]
-fn tested(
+fn tested<Why: Refuses>(
     e: Endpoint,
-    o: Outgoing,
+    o: Outgoing<Why>,
     row: Result<Step, table::Refusal>,
     room: usize,
-) -> Result<(), Refusal>
-    ensures { number_of refusal_number result ≡ number_for e (outgoing_in o) row room }
+) -> Result<(), Why>
+    ensures { number_of Why.number result ≡ number_for e (outgoing_in Why.number o) row room }
 {
     if !e.good() {
-        return Err(Refusal::BadState);
+        return Err(Why::of(Refusal::BadState));
     }
     if e.phase == 5 {
-        return Err(Refusal::Closed);
+        return Err(Why::of(Refusal::Closed));
     }
     match row {
-        Err(table::Refusal::NotAllowed) => return Err(Refusal::NotAllowed),
-        Err(table::Refusal::AboveOffer) => return Err(Refusal::AboveOffer),
+        Err(table::Refusal::NotAllowed) => return Err(Why::of(Refusal::NotAllowed)),
+        Err(table::Refusal::AboveOffer) => return Err(Why::of(Refusal::AboveOffer)),
         Ok(_) => {}
     }
     if is_full(e, o) {
-        return Err(Refusal::Full);
+        return Err(Why::of(Refusal::Full));
     }
     if let Some(why) = o.own {
         return Err(why);
     }
     if room < o.length {
-        return Err(Refusal::NoRoom);
+        return Err(Why::of(Refusal::NoRoom));
     }
     Ok(())
 }
 
 // An ask with sixteen confirmations awaited.
 #[tactic(auto, unfolding(crate::specs::Sending::is_full))]
-fn is_full(e: Endpoint, o: Outgoing) -> bool
-    ensures { result ≡ is_full e (outgoing_in o) }
+fn is_full<Why: Refuses>(e: Endpoint, o: Outgoing<Why>) -> bool
+    ensures { result ≡ is_full e (outgoing_in Why.number o) }
 {
     o.ask & (16 <= e.w)
 }
 
 #[tactic(auto, unfolding(crate::specs::Sending::asked_by))]
-fn asked_by(e: Endpoint, o: Outgoing) -> Endpoint
-    ensures { result ≡ asked_by e (outgoing_in o) }
+fn asked_by<Why: Refuses>(e: Endpoint, o: Outgoing<Why>) -> Endpoint
+    ensures { result ≡ asked_by e (outgoing_in Why.number o) }
 {
     let message = o.message;
     let entry = Entry {
@@ -152,8 +171,8 @@ fn asked_by(e: Endpoint, o: Outgoing) -> Endpoint
 }
 
 // What comes of a message that no test refuses.
-fn accepted(e: Endpoint, o: Outgoing, row: Result<Step, table::Refusal>) -> Sent
-    ensures { sent_as e (Ok result) ≡ sent_if 0 e (outgoing_in o) row }
+fn accepted<Why: Refuses>(e: Endpoint, o: Outgoing<Why>, row: Result<Step, table::Refusal>) -> Sent
+    ensures { sent_as e (Ok result) ≡ sent_if 0 e (outgoing_in Why.number o) row }
 {
     Sent {
         next: asked_by(table::moved(e, row), o),
@@ -163,8 +182,8 @@ fn accepted(e: Endpoint, o: Outgoing, row: Result<Step, table::Refusal>) -> Sent
 
 // What comes of an own message where the output has so much room, before anything is written. A good record stays good by what is tested of a
 // call; of any other message that is not said.
-pub fn decide(e: Endpoint, o: Outgoing, room: usize) -> Result<Sent, Refusal>
-    ensures { sent_as e result ≡ sent_by e (outgoing_in o) room }
+pub fn decide<Why: Refuses>(e: Endpoint, o: Outgoing<Why>, room: usize) -> Result<Sent, Why>
+    ensures { numbered_as Why.number e result ≡ sent_by e (outgoing_in Why.number o) room }
 {
     let row = send_row(e, o);
     tested(e, o, row, room)?;
