@@ -2,7 +2,10 @@
 #![tactic(auto)]
 
 ghost use Rattle.std.specs.Prelude.{◌≡◌, ℕ};
+ghost use Rattle.std.specs.Int.NonZero.{non_zero_u8_get};
 ghost use Rattle.numbered.specs.Numbered.{number_of};
+
+use std::num::NonZeroU8;
 
 // An error that has a number of 01.
 pub trait Numbered {
@@ -18,6 +21,15 @@ impl Numbered for u8 {
 
     fn number(&self) -> u8 {
         *self
+    }
+}
+
+// One that is not 0, as the number of what is refused.
+impl Numbered for NonZeroU8 {
+    ghost number = { non_zero_u8_get };
+
+    fn number(&self) -> u8 {
+        self.get()
     }
 }
 

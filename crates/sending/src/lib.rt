@@ -2,6 +2,7 @@
 #![tactic(auto)]
 
 ghost use Rattle.std.specs.Prelude.{◌≡◌, [], Ok, false, ltb, eqb, refl};
+ghost use Rattle.std.proofs.Common.{rules};
 ghost use Rattle.control.specs.Frame.{bytes_of};
 ghost use Rattle.numbered.specs.Numbered.{number_of};
 ghost use Rattle.open.specs.Offer.{offer_in};
@@ -16,6 +17,7 @@ use endpoint::{Endpoint, Entry};
 use numbered::Numbered;
 use open::Offer;
 use open_write::BadOffer;
+use std::num::NonZeroU8;
 use table::Step;
 
 // Why a message is not sent.
@@ -75,6 +77,15 @@ impl Refuses for Refusal {
     }
 
     ghost numbered = { elim [ State ↦ refl | Room ↦ refl | Shut ↦ refl | Barred ↦ refl | Above ↦ refl | Awaited ↦ refl | Large ↦ refl | Offered ↦ refl | Coded ↦ refl ] };
+}
+
+// A number alone, where a caller's own test has no error type.
+impl Refuses for NonZeroU8 {
+    fn of(why: Refusal) -> NonZeroU8 {
+        NonZeroU8::new(why.number()).unwrap_or(NonZeroU8::MAX)
+    }
+
+    ghost numbered = { λ why. Prim.search rules };
 }
 
 // What a send of DATA is told beside the body.
