@@ -109,7 +109,7 @@ module _ (e : Endpoint) (o : Outgoing) (room : ℕ) where
   accepted_sent zero_number = ap (λ (number : ℕ). sent_if number e o (send_row e o)) (sym (number-if e o (send_row e o) room) ∙ zero_number)
 
 -- no refusal is numbered 0
-refusal_numbered : (why : Send-refusal) → eqb (refusal_number why) 0 ≡ false
+pub refusal_numbered : (why : Send-refusal) → eqb (refusal_number why) 0 ≡ false
 refusal_numbered BadState = refl
 refusal_numbered NoRoom = refl
 refusal_numbered Closed = refl
