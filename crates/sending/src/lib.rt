@@ -98,7 +98,7 @@ pub struct Report {
 
 // What is to be tested of an own message.
 #[derive(Clone, Copy)]
-pub struct Outgoing<Why> {
+pub struct Outgoing<Why = Refusal> {
     pub message: MessageType,
     pub type_data: u16,
     // Whether it asks for a confirmation.
