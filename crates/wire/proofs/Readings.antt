@@ -1,5 +1,5 @@
 -- The cases of a field, that it lies within its message, and the fields of a message one after the other. Assumes nothing.
-use Rattle.std.specs.Prelude.{Result, Ok, Err}
+use Rattle.std.specs.Prelude.{Ok, Err}
 use Prim.Native.Nat.{ℕ, zero, suc, ◌+◌, ◌-◌, ◌/◌, ◌%◌, ◌≤◌, ◌<◌}
 use mathlib.Core.Path.{◌≡◌, refl, sym, ap, ◌∙◌, subst}
 use mathlib.Core.List.{List, [], ◌∷◌}
@@ -9,7 +9,7 @@ use lib.Dec.{ltb, leb, eqb}
 use native.Mathlib.Numerals.{sub-one}
 use native.Mathlib.Omega.{arith}
 use borrow.Author.Tests.{le-ltb, lt-ltb, ne_eqb, ltb-false, leb-true}
-use Rattle.bytes_be.proofs.Tests.{both_true, clash}
+use Rattle.bytes_be.proofs.Tests.{both_true}
 use Rattle.wire.specs.declared.Kind.{Kind}
 use Rattle.wire.specs.declared.Kind.TheVariants.{CutShort, WireType}
 use Rattle.wire.specs.declared.Varint.{Varint}
@@ -17,7 +17,7 @@ use Rattle.wire.specs.declared.Field.{Field}
 use Rattle.wire.specs.declared.Fault.{Fault}
 use Rattle.wire.specs.Varint.{Said, varint_of, varint_at}
 use Rattle.wire.specs.Fields.{Reading, fault, on_varint, sized, numbered, payload_at, tagged, field_at, and_behind, fields_within, fields_of}
-use Rattle.wire.proofs.Varints.{same_varint, varint_within}
+use Rattle.wire.proofs.Varints.{varint_within}
 
 -- what follows a varint of a field, by what came of it
 module _ (tag : ℕ) (then : ℕ → ℕ → Reading) {r w : Said} (is : r ≡ w) where

@@ -6,7 +6,6 @@ use Rattle.std.specs.Iterator.{YieldsFirst}
 use Rattle.bytes_be.specs.declared.Place.{Place}
 use Rattle.wire.specs.declared.Kind.{Kind}
 use Rattle.wire.specs.declared.Kind.TheVariants.{CutShort, BadVarint, WireType}
-use Rattle.wire.specs.declared.Varint.{Varint}
 use Rattle.wire.specs.declared.Field.{Field}
 use Rattle.wire.specs.declared.Fields.{Fields}
 use Rattle.wire.specs.declared.Fault.{Fault}

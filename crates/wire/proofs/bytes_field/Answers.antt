@@ -1,6 +1,5 @@
 -- `wire::bytes_field` meets its contract: the payload begins behind the varint, which ends within the message. Assumes nothing.
-use mathlib.Core.Path.{◌∙◌}
-use Rattle.wire.proofs.Readings.{on_read, on_fault, read_within}
+use Rattle.wire.proofs.Readings.{read_within}
 use Rattle.wire.proofs.bytes_field.Goals as goal
 
 pub sized_field-requires : goal.sized_field-requires

@@ -1,5 +1,4 @@
 -- `wire::payload_at` meets its contract, by the wire type. Assumes nothing.
-use mathlib.Core.Path.{◌∙◌}
 use Rattle.wire.proofs.Readings.{payload_varint, payload_eight, payload_bytes, payload_four, payload_other}
 use borrow.Author.Rules.{rules}
 use Rattle.wire.proofs.payload_at.Goals as goal
